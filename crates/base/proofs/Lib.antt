@@ -1,0 +1,5 @@
+pub mod Parts
+pub mod Bytes
+pub mod Numbers
+pub mod Faults
+pub mod Rules

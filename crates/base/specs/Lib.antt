@@ -1,0 +1,4 @@
+pub mod If
+pub mod Part
+pub mod Digits
+pub mod Answer

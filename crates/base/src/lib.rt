@@ -1,0 +1,48 @@
+// What every layer answers with, and the two questions that every layer asks of byte strings.
+// It knows no rule of a label, a block or an image.
+ghost use mathlib.Core.Path.{_≡_};
+ghost use Rattle.base.specs.Part.{part, same};
+
+// A fault of one item: the number given back, 0 for none, and the first byte position of the wrong field, or 0.
+pub struct Fault {
+    pub number: u32,
+    pub byte: u32,
+}
+
+// The answer on an image: the number given back, 0 for done, the item and the byte position in its label.
+pub struct Verdict {
+    pub number: u32,
+    pub item: u32,
+    pub byte: u32,
+}
+
+// The n bytes of s from place a on, as many of them as there are.
+pub fn part_of(s: &[u8], a: usize, n: usize) -> &[u8]
+    ensures { λ r. ⌜ now r ≡ part a n (now (s .entry)) ⌝ }
+{
+    if s.len() <= a {
+        return &s[0..0];
+    }
+    if s.len() - a <= n {
+        return &s[a..];
+    }
+    let e = a + n;
+    &s[a..e]
+}
+
+// Whether two byte strings are the same.
+pub fn equal(a: &[u8], b: &[u8]) -> bool
+    ensures { λ r. ⌜ r ≡ same (now (a .entry)) (now (b .entry)) ⌝ }
+{
+    if a.len() != b.len() {
+        return false;
+    }
+    let mut i = 0;
+    while i < a.len() {
+        if a[i] != b[i] {
+            return false;
+        }
+        i += 1;
+    }
+    true
+}
