@@ -2,3 +2,4 @@ pub mod If
 pub mod Part
 pub mod Digits
 pub mod Answer
+pub mod Format

@@ -3,6 +3,13 @@
 ghost use mathlib.Core.Path.{_≡_};
 ghost use Rattle.base.specs.Part.{part, same};
 
+// The record formats, as HDR2 has them.
+pub const FIXED: u8 = b'F';
+
+pub const VARIABLE: u8 = b'D';
+
+pub const SEGMENTED: u8 = b'S';
+
 // A fault of one item: the number given back, 0 for none, and the first byte position of the wrong field, or 0.
 pub struct Fault {
     pub number: u32,

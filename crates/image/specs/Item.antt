@@ -1,0 +1,93 @@
+-- The image of a set as items. Document 01, "The image of a set" (house): bytes `TGI`, a 16-bit version, high byte first, equal to 1;
+-- then items, each led by a 3-byte length, high byte first: 0 is a tape mark, 1 to 99,999 a block of that many bytes, 16,777,215 the end
+-- of the reel; any other length is wrong.
+--
+-- Read first: `shape`, what stands at the head of some bytes; `decode`, the items of the bytes behind the five-byte head, of which
+-- `decode-none` and `decode-more` (proofs/Items.antt) are the equations; `encode`, the bytes of items.
+-- A wrong length, or an item cut short, is the item `broken`, behind which nothing is read: `decode` is total.
+use mathlib.Core.Bool.{Bool, true, false, _&&_}
+use mathlib.Core.List.{List, [], _∷_, _++_}
+use Prim.Native.Nat.{ℕ, zero, suc, _+_, _*_, _/_, _%_}
+use lib.Dec.{leb, eqb}
+use lib.ListN.{length, take, drop, getD}
+use Rattle.base.specs.If.{ifB}
+use Rattle.base.specs.Part.{part}
+use Rattle.image.specs.declared.Shape.{Shape}
+use Rattle.image.specs.declared.Shape.the-variants.{Block, Mark, ReelEnd, Broken}
+
+pub data Item : Type 0 where
+  block : List ℕ → Item
+  mark : Item
+  reelEnd : Item
+  broken : Item
+
+-- the most bytes of a block, and the length word that ends a reel
+abbrev pub mostBytes : ℕ
+mostBytes = 99999
+
+abbrev pub reelEndWord : ℕ
+reelEndWord = 16777215
+
+-- ---- items from bytes
+
+-- the length word at the head: three bytes, the high byte first
+unfoldable pub word : List ℕ → ℕ
+word s = getD s 0 0 * 65536 + getD s 1 0 * 256 + getD s 2 0
+
+-- what a length word with n bytes behind it leads
+unfoldable pub ledBy : ℕ → ℕ → Shape
+ledBy w n = ifB (eqb w 0) Mark (ifB (eqb w reelEndWord) ReelEnd (ifB (leb w mostBytes && leb w n) (Block w) Broken))
+
+-- what stands at the head of some bytes; fewer than three are a cut item
+unfoldable pub shape : List ℕ → Shape
+shape s = ifB (leb 3 (length s)) (ledBy (word s) (length (drop 3 s))) Broken
+
+-- the item of that shape at the head of some bytes
+unfoldable pub itemOf : Shape → List ℕ → Item
+itemOf (Block n) s = block (part 3 n s)
+itemOf Mark s = mark
+itemOf ReelEnd s = reelEnd
+itemOf Broken s = broken
+
+-- what is left behind it: nothing behind a broken item
+unfoldable pub behind : Shape → List ℕ → List ℕ
+behind (Block n) s = drop (3 + n) s
+behind Mark s = drop 3 s
+behind ReelEnd s = drop 3 s
+behind Broken s = []
+
+-- `decode` counts down a number that is large enough, the length
+unfoldable pub decodeF : ℕ → List ℕ → List Item
+decodeF zero s = []
+decodeF (suc f) [] = []
+decodeF (suc f) (x ∷ xs) = itemOf (shape (x ∷ xs)) (x ∷ xs) ∷ decodeF f (behind (shape (x ∷ xs)) (x ∷ xs))
+
+unfoldable pub decode : List ℕ → List Item
+decode s = decodeF (length s) s
+
+-- ---- bytes from items
+
+-- a length as three bytes, the high byte first
+unfoldable pub three : ℕ → List ℕ
+three n = (n / 65536) ∷ (n / 256 % 256) ∷ (n % 256) ∷ []
+
+unfoldable pub bytesOf : Item → List ℕ
+bytesOf (block bs) = three (length bs) ++ bs
+bytesOf mark = three 0
+bytesOf reelEnd = three reelEndWord
+bytesOf broken = []
+
+unfoldable pub encode : List Item → List ℕ
+encode [] = []
+encode (x ∷ xs) = bytesOf x ++ encode xs
+
+-- an item that can stand in an image
+unfoldable pub isItem : Item → Bool
+isItem (block bs) = leb 1 (length bs) && leb (length bs) mostBytes
+isItem mark = true
+isItem reelEnd = true
+isItem broken = false
+
+unfoldable pub allItems : List Item → Bool
+allItems [] = true
+allItems (x ∷ xs) = ifB (isItem x) (allItems xs) false

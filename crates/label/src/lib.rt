@@ -1,0 +1,1 @@
+// One label of 80 bytes.
