@@ -97,13 +97,20 @@ pub struct Parts<'a> {
 }
 
 impl<'a> Parts<'a> {
-    /// None but a refused image lacks parts.
+    /// The parts of an image, or the image's own number.
     pub fn of(image: &'a [u8]) -> Result<Parts<'a>, Answer> {
         let answer = check(image);
-        if !answer.is_done() {
-            return Err(answer);
+        if answer.is_done() {
+            Ok(Parts::accepted(image))
+        } else {
+            Err(answer)
         }
-        Ok(Parts { tape: Tape::open(image)?, first: None, in_data: false })
+    }
+
+    /// The parts of an image that was checked before.
+    pub fn accepted(image: &'a [u8]) -> Parts<'a> {
+        let tape = Tape::open(image).expect("an accepted image");
+        Parts { tape, first: None, in_data: false }
     }
 
     /// A file begins at the second header of its section 0001.

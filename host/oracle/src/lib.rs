@@ -27,7 +27,7 @@ pub use tape::framing;
 pub use writer::{rewrite, write, Written};
 
 /// What an operation gives back: a number of document 01, and its place. Number 0 is "done".
-#[derive(Clone, Copy, Debug, PartialEq, Eq, Hash)]
+#[derive(Clone, Copy, Debug, PartialEq, Eq, PartialOrd, Ord, Hash)]
 pub struct Answer {
     pub number: u32,
     pub item: u32,

@@ -51,6 +51,26 @@ struct Set<'a> {
     open: Option<usize>,
 }
 
+/// Why reading stops: the container is torn, or the item read last is wrong.
+enum Stop {
+    Torn(Answer),
+    Wrong(Fault),
+}
+
+impl From<Answer> for Stop {
+    fn from(answer: Answer) -> Stop {
+        Stop::Torn(answer)
+    }
+}
+
+impl From<Fault> for Stop {
+    fn from(fault: Fault) -> Stop {
+        Stop::Wrong(fault)
+    }
+}
+
+const NOT_DUE: Fault = Fault::new(3, 0);
+
 /// The verdict on an image: 0, or the number and place of what is wrong first.
 pub fn check(image: &[u8]) -> Answer {
     let mut tape = match Tape::open(image) {
@@ -58,17 +78,13 @@ pub fn check(image: &[u8]) -> Answer {
         Err(answer) => return answer,
     };
     let mut set = Set::new();
-    loop {
-        let number = tape.item();
-        match tape.next_item() {
-            Ok(Some(item)) => {
-                if let Err(fault) = set.take(item) {
-                    return tape.torn_or(Answer::new(fault.number, number, fault.byte));
-                }
-            }
-            Ok(None) if set.place == Behind::Set => return Answer::DONE,
-            Ok(None) => return Answer::new(3, number, 0),
-            Err(answer) => return answer,
+    match set.read(&mut tape) {
+        Ok(()) if set.place == Behind::Set => Answer::DONE,
+        Ok(()) => Answer::new(3, tape.item(), 0),
+        Err(Stop::Torn(answer)) => answer,
+        Err(Stop::Wrong(fault)) => {
+            let answer = Answer::new(fault.number, tape.item() - 1, fault.byte);
+            tape.torn_or(answer)
         }
     }
 }
@@ -90,24 +106,28 @@ impl<'a> Set<'a> {
         }
     }
 
-    #[inline]
-    fn take(&mut self, item: Item<'a>) -> Result<(), Fault> {
-        match item {
-            Item::Block(block) if self.place == Behind::DataMark => self.data(block),
-            Item::Block(block) => self.block_for_label(block),
-            Item::TapeMark => self.advance(Seen::TapeMark),
-            Item::EndOfReel => self.advance(Seen::EndOfReel),
+    fn read(&mut self, tape: &mut Tape<'a>) -> Result<(), Stop> {
+        while let Some(item) = tape.next_item()? {
+            match item {
+                Item::Block(block) => self.label(block)?,
+                Item::TapeMark => self.advance(Seen::TapeMark)?,
+                Item::EndOfReel => self.advance(Seen::EndOfReel)?,
+            }
+            if self.place == Behind::DataMark {
+                self.data(tape)?;
+            }
         }
-    }
-
-    fn advance(&mut self, seen: Seen) -> Result<(), Fault> {
-        self.place = after(self.place, seen).ok_or(Fault::new(3, 0))?;
         Ok(())
     }
 
-    fn block_for_label(&mut self, block: &'a [u8]) -> Result<(), Fault> {
-        let label: &Label = block.try_into().map_err(|_| Fault::new(3, 0))?;
-        let kind = kind_of(label).ok_or(Fault::new(3, 0))?;
+    fn advance(&mut self, seen: Seen) -> Result<(), Fault> {
+        self.place = after(self.place, seen).ok_or(NOT_DUE)?;
+        Ok(())
+    }
+
+    fn label(&mut self, block: &'a [u8]) -> Result<(), Fault> {
+        let label: &Label = block.try_into().map_err(|_| NOT_DUE)?;
+        let kind = kind_of(label).ok_or(NOT_DUE)?;
         self.advance(Seen::Label(kind))?;
         if let Some(fault) = label_fault(label, kind) {
             return Err(fault);
@@ -117,7 +137,9 @@ impl<'a> Set<'a> {
             Kind::Header(1) => self.first_header(label),
             Kind::Header(2) => self.second_header(label),
             Kind::Trailer(end, 1) => self.first_trailer(end, label),
-            Kind::Trailer(_, 2) => cross_check(&SECOND_FIELDS, |field| field.same(label, self.header2)),
+            Kind::Trailer(_, 2) => {
+                cross_check(&SECOND_FIELDS, |field| field.same(label, self.header2))
+            }
             _ => Ok(()),
         }
     }
@@ -158,22 +180,21 @@ impl<'a> Set<'a> {
         }
         self.header2 = label;
         self.shape = Shape::of(label);
-        self.blocks = 0;
         Ok(())
     }
 
-    #[inline]
-    fn data(&mut self, block: &[u8]) -> Result<(), Fault> {
-        self.blocks += 1;
-        if self.shape.format != b'S' {
-            return if cut(&self.shape, block, |_| ()) { Ok(()) } else { Err(Fault::new(7, 0)) };
+    /// The data blocks and the mark behind them: a loop of its own, since most items are blocks.
+    fn data(&mut self, tape: &mut Tape<'a>) -> Result<(), Stop> {
+        let shape = self.shape;
+        self.blocks = 0;
+        loop {
+            match tape.next_item()? {
+                Some(Item::Block(block)) => self.open = turned(&shape, self.open, block)?,
+                Some(Item::TapeMark) => return Ok(self.advance(Seen::TapeMark)?),
+                _ => return Err(NOT_DUE.into()),
+            }
+            self.blocks += 1;
         }
-        let mut turns = Turns::begin(self.shape.record, self.open);
-        if !cut(&self.shape, block, |unit| turns.take(unit)) {
-            return Err(Fault::new(7, 0));
-        }
-        self.open = turns.open;
-        if turns.in_turn { Ok(()) } else { Err(Fault::new(8, 0)) }
     }
 
     fn first_trailer(&mut self, end: End, label: &'a Label) -> Result<(), Fault> {
@@ -186,6 +207,21 @@ impl<'a> Set<'a> {
             return Err(Fault::new(8, 0));
         }
         Ok(())
+    }
+}
+
+/// What is open behind a data block; 7 goes before 8 wherever they stand in the block.
+#[inline]
+fn turned(shape: &Shape, open: Option<usize>, block: &[u8]) -> Result<Option<usize>, Fault> {
+    let mut turns = Turns::begin(shape.record, open);
+    let is_cut = match shape.format {
+        b'S' => cut(shape, block, |unit| turns.take(unit)),
+        _ => cut(shape, block, |_| ()),
+    };
+    match (is_cut, turns.in_turn) {
+        (false, _) => Err(Fault::new(7, 0)),
+        (true, false) => Err(Fault::new(8, 0)),
+        (true, true) => Ok(turns.open),
     }
 }
 

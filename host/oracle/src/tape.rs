@@ -35,13 +35,7 @@ impl<'a> Tape<'a> {
         if !image.starts_with(HEAD) {
             return Err(Answer::without_place(1));
         }
-        Ok(Tape {
-            image,
-            at: HEAD.len(),
-            item: 0,
-            reels: 0,
-            ended: false,
-        })
+        Ok(Tape { image, at: HEAD.len(), item: 0, reels: 0, ended: false })
     }
 
     /// The number of the next item.

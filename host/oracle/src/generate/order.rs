@@ -1,0 +1,194 @@
+//! Makes order sheets, legal ones and illegal ones of every kind, and large images from them.
+
+use super::file::{bytes, facts, fixed_record, shape};
+use super::Rng;
+use crate::block::Shape;
+use crate::sheet::Order;
+
+/// So many reel names, all legal and different.
+pub fn names(rng: &mut Rng, count: usize) -> Vec<u8> {
+    let first = rng.below(90_000);
+    let name = |i| format!("{}{:05}", (b'A' + (first % 26) as u8) as char, first + i);
+    (0..count).map(name).collect::<String>().into_bytes()
+}
+
+/// A legal order sheet; its reel names may still be too few.
+pub fn legal_order(rng: &mut Rng) -> Order {
+    let mut order = Order { set: vec![b' '; 6], ..Order::default() };
+    let letters = rng.below(7);
+    rng.fill(&mut order.set[..letters], Rng::a_character);
+    let files = match rng.below(60) {
+        0 => 64,
+        1..=4 => rng.between(4, 20),
+        _ => rng.between(1, 3),
+    };
+    for _ in 0..files {
+        let shape = shape(rng);
+        order.begin_file(&facts(rng, &shape));
+        for _ in 0..rng.below(if files > 3 { 3 } else { 12 }) {
+            order.push_record(&record(rng, &shape));
+        }
+    }
+    order.quota = match rng.below(4) {
+        0 => 1,
+        1 => rng.between(1, 4) as u64,
+        2 => rng.between(1, 999_999) as u64,
+        _ => 999_999,
+    };
+    let reels = if rng.one_in(2) { 16 } else { rng.between(1, 16) };
+    order.names = names(rng, reels);
+    order
+}
+
+fn record(rng: &mut Rng, shape: &Shape) -> Vec<u8> {
+    let most = match shape.format {
+        b'F' => return fixed_record(rng, shape.record),
+        b'D' => (shape.record - 4).min(9_995),
+        _ => shape.record,
+    };
+    let len = match rng.below(400) {
+        0 => most,
+        1..=50 => most.min(120),
+        51..=99 => 0,
+        _ => rng.below(most.min(40) + 1),
+    };
+    bytes(rng, len)
+}
+
+/// A legal order sheet with one thing changed; a few stay legal.
+pub fn illegal_order(rng: &mut Rng) -> Order {
+    let mut order = legal_order(rng);
+    match rng.below(4) {
+        0 => change_field(rng, &mut order),
+        1 => change_names(rng, &mut order),
+        2 => change_sums(rng, &mut order),
+        _ => change_records(rng, &mut order),
+    }
+    order
+}
+
+fn change_field(rng: &mut Rng, order: &mut Order) {
+    let at = rng.below(order.files.len());
+    match rng.below(8) {
+        0..=2 => order.files[at] = rng.byte(),
+        3 => order.files[at] = rng.digit(),
+        4 => order.files[at / 46 * 46 + rng.between(35, 45)] = rng.pick(b"FDS0123456789 "),
+        5 => order.set[rng.below(6)] = rng.byte(),
+        6 => drop(order.set.pop()),
+        _ => order.set.push(b' '),
+    }
+}
+
+fn change_names(rng: &mut Rng, order: &mut Order) {
+    let at = rng.below(order.names.len());
+    match rng.below(8) {
+        0 => order.names[at] = rng.byte(),
+        1 => order.names.clear(),
+        2 => drop(order.names.pop()),
+        3 => order.names.extend_from_within(..6),
+        4 => order.names = names(rng, 17),
+        5 => order.quota = 0,
+        6 => order.quota = rng.pick(&[1_000_000, u64::MAX]),
+        _ => order.names.truncate(6),
+    }
+}
+
+fn change_sums(rng: &mut Rng, order: &mut Order) {
+    match rng.below(10) {
+        0 => drop(order.counts.pop()),
+        1 => order.counts.push(rng.below(2) as u64),
+        2 => order.counts[0] += 1,
+        3 => order.counts[0] = u64::MAX,
+        4 => drop(order.lengths.pop()),
+        5 => order.lengths.push(rng.pick(&[0, 1, u64::MAX])),
+        6 => order.data.push(rng.byte()),
+        7 => drop(order.data.pop()),
+        8 => drop(order.files.pop()),
+        _ => {
+            let more = rng.pick(&[0, 64, 65]);
+            let file: Vec<u8> = order.files[..46].to_vec();
+            order.files = file.repeat(more);
+            order.counts.resize(more, 0);
+        }
+    }
+}
+
+/// Records of a wrong length, or of padding bytes alone.
+fn change_records(rng: &mut Rng, order: &mut Order) {
+    if order.lengths.is_empty() {
+        return change_sums(rng, order);
+    }
+    let at = rng.below(order.lengths.len());
+    let before: u64 = order.lengths[..at].iter().sum();
+    let own = before as usize..(before + order.lengths[at]) as usize;
+    if rng.one_in(2) {
+        order.data[own].fill(b'^');
+        return;
+    }
+    let grow = rng.pick(&[1, 1, 4, 40, 10_000]);
+    order.lengths[at] += grow;
+    let extra = vec![b'X'; grow as usize];
+    order.data.splice(own.end..own.end, extra);
+}
+
+/// The kinds of large images that benchmarks read.
+#[derive(Clone, Copy, Debug, PartialEq, Eq)]
+pub enum Large {
+    /// D records of 80 bytes in blocks of 32,760.
+    Variable,
+    /// F records of 80 bytes in blocks of 800.
+    Fixed,
+    /// S records of 5,000 bytes in blocks of 4,096.
+    Segmented,
+    /// D records of 6 bytes, each in a block of 10.
+    Tiny,
+}
+
+impl Large {
+    pub const ALL: [Large; 4] = [Large::Variable, Large::Fixed, Large::Segmented, Large::Tiny];
+
+    fn shape(self) -> (Shape, usize) {
+        let shape = |format, block, record| Shape { format, block, record, offset: 0 };
+        match self {
+            Large::Variable => (shape(b'D', 32_760, 84), 80),
+            Large::Fixed => (shape(b'F', 800, 80), 80),
+            Large::Segmented => (shape(b'S', 4_096, 5_000), 5_000),
+            Large::Tiny => (shape(b'D', 10, 10), 6),
+        }
+    }
+
+    /// Bytes of the image for each record, about.
+    fn cost(self) -> usize {
+        match self {
+            Large::Variable => 84,
+            Large::Fixed => 81,
+            Large::Segmented => 5_011,
+            Large::Tiny => 13,
+        }
+    }
+}
+
+/// The sheet of a set whose image has about so many bytes.
+pub fn large_order(kind: Large, size: usize) -> Order {
+    let rng = &mut Rng::new(1);
+    let (shape, len) = kind.shape();
+    let mut order = Order { set: b"LARGE ".to_vec(), quota: 999_999, ..Order::default() };
+    order.begin_file(&facts(rng, &shape));
+    let mut record = vec![0; len];
+    for _ in 0..size / kind.cost() {
+        rng.fill(&mut record, Rng::a_character);
+        order.push_record(&record);
+    }
+    order.names = names(rng, 16);
+    order
+}
+
+/// An accepted image of about so many bytes.
+pub fn large(kind: Large, size: usize) -> Vec<u8> {
+    let order = large_order(kind, size);
+    let mut image = vec![0; size + size / 8 + 20_000];
+    let written = order.sheet().write(&mut image);
+    assert!(written.answer.is_done(), "a large sheet is legal and fits");
+    image.truncate(written.len);
+    image
+}

@@ -1,0 +1,152 @@
+//! Laws that hold for every set and sheet the generator makes, from fixed seeds.
+
+use oracle::generate::{
+    damaged, illegal_order, image_of, large, legal_order, names, whole, whole_pieces, Large, Piece,
+    Rng,
+};
+use oracle::*;
+use std::collections::BTreeMap;
+
+#[test]
+fn whole_sets_are_accepted_up_to_every_limit() {
+    let rng = &mut Rng::new(11);
+    let (mut full, mut many_reels, mut joined_over_reels) = (0, 0, 0);
+    for _ in 0..20_000 {
+        let pieces = whole_pieces(rng);
+        let image = image_of(&pieces);
+        assert_eq!(check(&image), Answer::DONE);
+        let ends = pieces.iter().filter(|piece| **piece == Piece::EndOfReel).count();
+        let segments = |piece: &Piece| matches!(piece, Piece::Block(b) if b.starts_with(b"20"));
+        full += u32::from(meaning(&image).unwrap().files.len() == 64);
+        many_reels += u32::from(ends == 16);
+        joined_over_reels += u32::from(ends > 1 && pieces.iter().any(segments));
+    }
+    let seen = (full, many_reels, joined_over_reels);
+    assert!(full > 50 && many_reels > 200 && joined_over_reels > 500, "{seen:?}");
+}
+
+#[test]
+fn damaged_sets_give_every_number_at_many_places() {
+    let rng = &mut Rng::new(12);
+    let mut numbers = [0; 10];
+    let mut places: BTreeMap<(u32, u32), u32> = BTreeMap::new();
+    for _ in 0..50_000 {
+        let answer = check(&damaged(rng));
+        numbers[answer.number as usize] += 1;
+        *places.entry((answer.number, answer.byte)).or_default() += 1;
+    }
+    for (number, &count) in numbers.iter().enumerate() {
+        assert!(count > 100, "number {number} came {count} times: {numbers:?}");
+    }
+    let bytes = |number| places.keys().filter(move |key| key.0 == number).map(|key| key.1);
+    let fields =
+        [4, 5, 6, 11, 12, 22, 25, 28, 32, 36, 38, 40, 42, 48, 51, 52, 53, 54, 55, 61, 74, 80];
+    assert!(bytes(4).eq(fields), "every field of every label: {places:?}");
+    assert!(bytes(5).eq([11, 54]), "{places:?}");
+    let compared = [5, 6, 11, 22, 28, 32, 36, 40, 42, 48, 51, 55];
+    assert!(bytes(6).eq(compared), "every field that is compared: {places:?}");
+}
+
+#[test]
+fn the_container_is_judged_first() {
+    let rng = &mut Rng::new(13);
+    for _ in 0..20_000 {
+        let image = damaged(rng);
+        let (framed, checked) = (framing(&image), check(&image));
+        if framed.is_done() {
+            assert!(!matches!(checked.number, 1 | 2));
+        } else {
+            assert_eq!(framed, checked);
+        }
+    }
+}
+
+#[test]
+fn what_is_written_is_accepted_and_means_its_sheet() {
+    let rng = &mut Rng::new(14);
+    let mut out = vec![0; 2_000_000];
+    let mut numbers = [0; 15];
+    for _ in 0..10_000 {
+        let order = legal_order(rng);
+        let written = order.sheet().write(&mut out);
+        numbers[written.answer.number as usize] += 1;
+        if written.answer.is_done() {
+            let image = &out[..written.len];
+            assert_eq!(check(image), Answer::DONE);
+            let read = Order::of_image(image, order.quota, &order.names);
+            assert_eq!(read, Ok(order));
+        } else {
+            assert_eq!(written.answer, Answer::new(12, 0, 0), "{order:?}");
+        }
+    }
+    assert!(numbers[0] > 5_000 && numbers[12] > 500, "{numbers:?}");
+}
+
+#[test]
+fn illegal_sheets_are_refused_or_legal_after_all() {
+    let rng = &mut Rng::new(15);
+    let mut out = vec![0; 2_000_000];
+    let mut numbers = [0; 15];
+    for _ in 0..10_000 {
+        let written = illegal_order(rng).sheet().write(&mut out);
+        numbers[written.answer.number as usize] += 1;
+        if written.answer.is_done() {
+            assert_eq!(check(&out[..written.len]), Answer::DONE);
+        }
+    }
+    assert!(numbers[9] > 100 && numbers[11] > 4_000, "{numbers:?}");
+}
+
+#[test]
+fn rewriting_keeps_the_meaning_and_is_idempotent() {
+    let rng = &mut Rng::new(16);
+    let (mut once, mut twice) = (vec![0; 2_000_000], vec![0; 2_000_000]);
+    for _ in 0..10_000 {
+        let image = whole(rng);
+        let quota = rng.between(1, 20) as u64;
+        let names = names(rng, 16);
+        let first = rewrite(&image, quota, &names, &mut once);
+        if first.answer.number == 12 {
+            continue;
+        }
+        assert_eq!(first.answer, Answer::DONE);
+        let normal = &once[..first.len];
+        assert_eq!(meaning(normal), meaning(&image));
+        assert_eq!(rewrite(normal, quota, &names, &mut twice), first);
+        assert!(normal == &twice[..first.len]);
+        let by_sheet = Order::with_meaning(&meaning(&image).unwrap(), quota, &names);
+        assert_eq!(by_sheet.sheet().write(&mut twice), first);
+        assert!(normal == &twice[..first.len]);
+    }
+}
+
+#[test]
+fn records_by_number_are_those_of_the_meaning() {
+    let rng = &mut Rng::new(17);
+    let mut join = vec![0; 100_000];
+    for _ in 0..1_000 {
+        let image = whole(rng);
+        for (f, file) in (1..).zip(meaning(&image).unwrap().files) {
+            for (r, expected) in (1..).zip(&file.records) {
+                match record(&image, f, r, &mut join) {
+                    Found::InImage { start, len } => {
+                        assert_eq!(&image[start..start + len], expected)
+                    }
+                    Found::Joined { len } => assert_eq!(&join[..len], expected),
+                    Found::Refused(answer) => panic!("{answer:?}"),
+                }
+            }
+            let behind = record(&image, f, file.records.len() as u64 + 1, &mut join);
+            assert_eq!(behind, Found::Refused(Answer::new(13, 0, 0)));
+        }
+    }
+}
+
+#[test]
+fn large_images_are_accepted() {
+    for kind in Large::ALL {
+        let image = large(kind, 1_000_000);
+        assert!(image.len() > 950_000 && image.len() < 1_100_000, "{kind:?}: {}", image.len());
+        assert_eq!(check(&image), Answer::DONE);
+    }
+}
