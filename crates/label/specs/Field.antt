@@ -49,6 +49,23 @@ format = 8
 abbrev pub recordLength : ℕ
 recordLength = 9
 
+-- ---- the volume identifier of VOL1, and what the cross-checks read of HDR1, EOV1 and EOF1
+
+unfoldable pub volumeOf : List ℕ → List ℕ
+volumeOf l = part 4 6 l
+
+unfoldable pub setOf : List ℕ → List ℕ
+setOf l = part 21 6 l
+
+unfoldable pub sectionOf : List ℕ → Number
+sectionOf l = numberIn (part 27 4 l)
+
+unfoldable pub sequenceOf : List ℕ → Number
+sequenceOf l = numberIn (part 31 4 l)
+
+unfoldable pub countOf : List ℕ → Number
+countOf l = numberIn (part 54 6 l)
+
 -- ---- the record format and the three lengths of HDR2, EOV2 and EOF2
 
 unfoldable pub formatOf : List ℕ → ℕ

@@ -1,0 +1,1 @@
+// Rewriting to normal form.

@@ -1,0 +1,72 @@
+-- The order sheet as flat slices that a caller fills: the set identifier; 46 bytes a file; a count of records for each file; a length for each
+-- record; the records' bytes one behind the other; the quota; 6 bytes a reel name.
+use mathlib.Core.Bool.{Bool, true, false, _||_}
+use mathlib.Core.List.{List, [], _∷_}
+use Prim.Native.Nat.{ℕ, zero, suc, _+_, _*_, _-_, _/_, _%_}
+use lib.Dec.{eqb, leb, ltb}
+use lib.ListN.{length, take, drop}
+use Rattle.base.specs.If.{ifB}
+use Rattle.image.specs.Framing.{mostReels}
+use Rattle.volume.specs.Fault.{mostFiles}
+use Rattle.volume.specs.Meaning.{File, Meaning}
+use Rattle.sheet.specs.Legal.{Sheet, legalSheet}
+
+pub record Flat : Type 0 where
+  pub set : List ℕ
+  pub files : List ℕ
+  pub counts : List ℕ
+  pub lengths : List ℕ
+  pub bytes : List ℕ
+  pub quota : ℕ
+  pub names : List ℕ
+
+unfoldable pub sum : List ℕ → ℕ
+sum [] = 0
+sum (n ∷ ns) = n + sum ns
+
+-- a list cut into parts of w elements, a shorter one last: `inParts` counts down the length
+unfoldable pub inPartsF : ℕ → ℕ → List ℕ → List (List ℕ)
+inPartsF zero w s = []
+inPartsF (suc k) w [] = []
+inPartsF (suc k) w (x ∷ xs) = take w (x ∷ xs) ∷ inPartsF k w (drop w (x ∷ xs))
+
+unfoldable pub inParts : ℕ → List ℕ → List (List ℕ)
+inParts w s = inPartsF (length s) w s
+
+-- bytes cut by a list of lengths
+unfoldable pub cutBy : List ℕ → List ℕ → List (List ℕ)
+cutBy [] s = []
+cutBy (n ∷ ns) s = take n s ∷ cutBy ns (drop n s)
+
+-- files from their entries, counts, lengths and bytes
+unfoldable pub filesFrom : List (List ℕ) → List ℕ → List ℕ → List ℕ → List File
+filesFrom [] cs ls bs = []
+filesFrom (e ∷ es) [] ls bs = []
+filesFrom (e ∷ es) (c ∷ cs) ls bs =
+    record { fields = e; records = cutBy (take c ls) bs } ∷ filesFrom es cs (drop c ls) (drop (sum (take c ls)) bs)
+
+-- counts and lengths add up
+unfoldable pub addsUp : Flat → Bool
+addsUp x =
+    ifB (eqb (length (x .files)) (46 * length (x .counts)))
+    (ifB (eqb (sum (x .counts)) (length (x .lengths)))
+    (ifB (eqb (sum (x .lengths)) (length (x .bytes)))
+    (eqb (length (x .names) % 6) 0)
+    false)
+    false)
+    false
+
+unfoldable pub sheetOf : Flat → Sheet
+sheetOf x =
+    record {
+      meaning = record { set = x .set; files = filesFrom (inParts 46 (x .files)) (x .counts) (x .lengths) (x .bytes) };
+      quota = x .quota;
+      names = inParts 6 (x .names);
+    }
+
+-- 9: a 65th file or a 17th name; 11: not legal; else 0
+unfoldable pub sheetNumber : Flat → ℕ
+sheetNumber x =
+    ifB (ltb mostFiles (length (x .files) / 46)) 9
+    (ifB (ltb mostReels (length (x .names) / 6)) 9
+    (ifB (addsUp x) (ifB (legalSheet (sheetOf x)) 0 11) 11))

@@ -1,0 +1,1 @@
+// The order sheet: its form and its legality.

@@ -1,0 +1,6 @@
+pub mod State
+pub mod Fault
+pub mod Step
+pub mod Run
+pub mod Meaning
+pub mod Accepted

@@ -1,0 +1,1 @@
+// A whole set: the verdict on an image.

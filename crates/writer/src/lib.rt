@@ -1,0 +1,1 @@
+// Writing an order sheet as labelled reels.
