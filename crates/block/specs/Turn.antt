@@ -34,11 +34,16 @@ turnsFrom r o head (x ∷ xs) =
     (turnsFrom r (openAfter o (x .indicator) (length (x .bytes))) false xs)
     (outcome 8 0)
 
--- number 7 where the block could not be cut
-unfoldable pub turned : ℕ → ℕ → Option (List Segment) → Outcome
-turned r o none = outcome 7 0
-turned r o (some xs) = turnsFrom r o true xs
+-- number 7 where what is left of the block cannot be cut
+unfoldable pub turned : ℕ → ℕ → Bool → Option (List Segment) → Outcome
+turned r o head none = outcome 7 0
+turned r o head (some xs) = turnsFrom r o head xs
+
+-- behind a unit out of turn: number 8, or 7 where what is left cannot be cut
+unfoldable pub outOfTurn : Option (List Segment) → Outcome
+outOfTurn none = outcome 7 0
+outOfTurn (some xs) = outcome 8 0
 
 -- the answer on a block, in a file of format f, block length b, record length r and offset length o, with q open
 unfoldable pub blockOutcome : ℕ → ℕ → ℕ → ℕ → ℕ → List ℕ → Outcome
-blockOutcome f b r o q s = turned r q (units f b r o s)
+blockOutcome f b r o q s = turned r q true (units f b r o s)

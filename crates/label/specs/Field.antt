@@ -88,13 +88,20 @@ leastRecord f = ifB (eqb f D) 5 1
 unfoldable pub suits : ℕ → ℕ → ℕ → ℕ → Bool
 suits f b r o = ifB (eqb f S) (leb (o + 6) b) (leb (r + o) b)
 
--- R by itself, and against B and O only where all three fields are good
+-- R against B and O: only where both are numbers
+unfoldable pub suitsBoth : ℕ → Number → ℕ → Number → Bool
+suitsBoth f Wrong r o = true
+suitsBoth f (Value b) r Wrong = true
+suitsBoth f (Value b) r (Value o) = suits f b r o
+
+-- R by itself, and against B and O
+unfoldable pub isLength : ℕ → Number → ℕ → Number → Bool
+isLength f b r o = ifB (leb (leastRecord f) r) (suitsBoth f b r o) false
+
+-- R, if it is a number
 unfoldable pub isRecordLength : ℕ → Number → Number → Number → Bool
 isRecordLength f b Wrong o = false
-isRecordLength f Wrong (Value r) Wrong = leb (leastRecord f) r
-isRecordLength f Wrong (Value r) (Value o) = leb (leastRecord f) r
-isRecordLength f (Value b) (Value r) Wrong = leb (leastRecord f) r
-isRecordLength f (Value b) (Value r) (Value o) = ifB (leb (leastRecord f) r) (suits f b r o) false
+isRecordLength f b (Value r) o = isLength f b r o
 
 -- a number of 1 or more
 unfoldable pub isPositive : Number → Bool
@@ -103,6 +110,10 @@ isPositive Wrong = false
 
 unfoldable pub isFormat : List ℕ → Bool
 isFormat f = same f (F ∷ []) || (same f (D ∷ []) || same f (S ∷ []))
+
+-- the record length of a label against its format, its block length and its offset length
+unfoldable pub hasRecordLength : List ℕ → Bool
+hasRecordLength l = isRecordLength (formatOf l) (blockLengthOf l) (recordLengthOf l) (offsetOf l)
 
 -- whether field f of label l suits the rule of number r
 unfoldable pub good : ℕ → List ℕ → List ℕ → Bool
@@ -115,5 +126,5 @@ good r l f =
     (ifB (eqb r date) (isDate f)
     (ifB (eqb r standard) (same f (52 ∷ []))
     (ifB (eqb r format) (isFormat f)
-    (ifB (eqb r recordLength) (isRecordLength (formatOf l) (blockLengthOf l) (recordLengthOf l) (offsetOf l))
+    (ifB (eqb r recordLength) (hasRecordLength l)
     true))))))))

@@ -14,18 +14,27 @@ use Rattle.order.specs.declared.Kind.{Kind}
 use Rattle.label.specs.Field.{good}
 use Rattle.label.specs.Table.{fieldsOf, equal}
 
+-- the BP of the first field, from place `at` on, that is not as its row of the table asks, or 0; `ok` sees the rule, the place and the width
+unfoldable pub firstBad : (ℕ → ℕ → ℕ → Bool) → ℕ → List ℕ → ℕ
+firstBad ok at [] = 0
+firstBad ok at (w ∷ []) = 0
+firstBad ok at (w ∷ r ∷ rows) = ifB (ok r at w) (firstBad ok (at + w) rows) (at + 1)
+
+-- whether the field of label l suits its rule
+unfoldable pub goodAt : List ℕ → ℕ → ℕ → ℕ → Bool
+goodAt l r at w = good r l (part at w l)
+
+-- whether the field of two labels is the same where the table says that it is to be
+unfoldable pub agreeAt : List ℕ → List ℕ → ℕ → ℕ → ℕ → Bool
+agreeAt a b r at w = ifB (eqb r equal) (same (part at w a) (part at w b)) true
+
 -- the BP of the first field, from place `at` on, whose rule it does not suit, or 0
-unfoldable pub wrongFrom : List ℕ → ℕ → List ℕ → ℕ
-wrongFrom l at [] = 0
-wrongFrom l at (w ∷ []) = 0
-wrongFrom l at (w ∷ r ∷ rows) = ifB (good r l (part at w l)) (wrongFrom l (at + w) rows) (at + 1)
+abbrev pub wrongFrom : List ℕ → ℕ → List ℕ → ℕ
+wrongFrom l at rows = firstBad (goodAt l) at rows
 
 -- the BP of the first field, from place `at` on, that is to be equal in both labels and is not, or 0
-unfoldable pub unequalFrom : List ℕ → List ℕ → ℕ → List ℕ → ℕ
-unequalFrom a b at [] = 0
-unequalFrom a b at (w ∷ []) = 0
-unequalFrom a b at (w ∷ r ∷ rows) =
-    ifB (eqb r equal) (ifB (same (part at w a) (part at w b)) (unequalFrom a b (at + w) rows) (at + 1)) (unequalFrom a b (at + w) rows)
+abbrev pub unequalFrom : List ℕ → List ℕ → ℕ → List ℕ → ℕ
+unequalFrom a b at rows = firstBad (agreeAt a b) at rows
 
 -- the BP of the accessibility of a kind of label, or 0 where it has none
 unfoldable pub accessOf : Kind → ℕ
@@ -40,6 +49,10 @@ accessOf k =
 unfoldable pub accessAt : ℕ → List ℕ → Fault
 accessAt a l = ifB (eqb a 0) (fault 0 0) (ifB (same (part (a - 1) 1 l) (32 ∷ [])) (fault 0 0) (fault 5 a))
 
+-- number 4 at the first wrong field, where there is one, before any other fault
+unfoldable pub fieldFault : ℕ → Fault → Fault
+fieldFault w f = ifB (eqb w 0) f (fault 4 w)
+
 -- the fault of a label of this kind by itself: 4 at the first wrong field, else 5
 unfoldable pub labelFault : Kind → List ℕ → Fault
-labelFault k l = ifB (eqb (wrongFrom l 0 (fieldsOf k)) 0) (accessAt (accessOf k) l) (fault 4 (wrongFrom l 0 (fieldsOf k)))
+labelFault k l = fieldFault (wrongFrom l 0 (fieldsOf k)) (accessAt (accessOf k) l)

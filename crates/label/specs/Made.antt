@@ -23,38 +23,38 @@ laid (w ∷ r ∷ rows) (f ∷ fs) = fitted w f ++ laid rows fs
 unfoldable pub madeVolume : List ℕ → List ℕ
 madeVolume id = laid vol1 (VOL1 ∷ id ∷ [] ∷ [] ∷ [] ∷ [] ∷ [] ∷ (52 ∷ []) ∷ [])
 
--- ---- the entry of a file: 46 bytes, as an order sheet has them
+-- ---- the entry of a file on an order sheet: 46 bytes, eight fields as the labels have them
 
-unfoldable pub identifierIn : List ℕ → List ℕ
-identifierIn e = part 0 17 e
+abbrev pub identifierIn : List ℕ → List ℕ
+identifierIn file = part 0 17 file
 
-unfoldable pub generationIn : List ℕ → List ℕ
-generationIn e = part 17 4 e
+abbrev pub generationIn : List ℕ → List ℕ
+generationIn file = part 17 4 file
 
-unfoldable pub versionIn : List ℕ → List ℕ
-versionIn e = part 21 2 e
+abbrev pub versionIn : List ℕ → List ℕ
+versionIn file = part 21 2 file
 
-unfoldable pub createdIn : List ℕ → List ℕ
-createdIn e = part 23 6 e
+abbrev pub createdIn : List ℕ → List ℕ
+createdIn file = part 23 6 file
 
-unfoldable pub expiresIn : List ℕ → List ℕ
-expiresIn e = part 29 6 e
+abbrev pub expiresIn : List ℕ → List ℕ
+expiresIn file = part 29 6 file
 
-unfoldable pub formatIn : List ℕ → List ℕ
-formatIn e = part 35 1 e
+abbrev pub formatIn : List ℕ → List ℕ
+formatIn file = part 35 1 file
 
-unfoldable pub blockLengthIn : List ℕ → List ℕ
-blockLengthIn e = part 36 5 e
+abbrev pub blockLengthIn : List ℕ → List ℕ
+blockLengthIn file = part 36 5 file
 
-unfoldable pub recordLengthIn : List ℕ → List ℕ
-recordLengthIn e = part 41 5 e
+abbrev pub recordLengthIn : List ℕ → List ℕ
+recordLengthIn file = part 41 5 file
 
--- HDR1, EOV1 or EOF1 of a file with entry e: section, sequence and block count
+-- HDR1, EOV1 or EOF1: the set identifier, the file's entry, section, sequence and block count
 unfoldable pub madeFirst : List ℕ → List ℕ → List ℕ → ℕ → ℕ → ℕ → List ℕ
-madeFirst name set e section sequence count =
+madeFirst name set file section sequence count =
     laid hdr1
-    (name ∷ identifierIn e ∷ set ∷ digits 4 section ∷ digits 4 sequence ∷ generationIn e ∷ versionIn e ∷ createdIn e ∷ expiresIn e ∷ [] ∷ digits 6 count ∷ [])
+    (name ∷ identifierIn file ∷ set ∷ digits 4 section ∷ digits 4 sequence ∷ generationIn file ∷ versionIn file ∷ createdIn file ∷ expiresIn file ∷ [] ∷ digits 6 count ∷ [])
 
--- HDR2, EOV2 or EOF2 of a file with entry e: offset length 00
+-- HDR2, EOV2 or EOF2: the file's entry, offset length 00
 unfoldable pub madeSecond : List ℕ → List ℕ → List ℕ
-madeSecond name e = laid second (name ∷ formatIn e ∷ blockLengthIn e ∷ recordLengthIn e ∷ [] ∷ digits 2 0 ∷ [])
+madeSecond name file = laid second (name ∷ formatIn file ∷ blockLengthIn file ∷ recordLengthIn file ∷ [] ∷ digits 2 0 ∷ [])

@@ -68,9 +68,9 @@ required n =
     (ifB (same n EOF2) (eof 2)
     other))))))
 
--- an optional label of identifier i and label number n
-unfoldable pub numbered : List ℕ → ℕ → Kind
-numbered i n =
+-- the label number n of the family with identifier i
+unfoldable pub family : List ℕ → ℕ → Kind
+family i n =
     ifB (same i VOL) (vol n)
     (ifB (same i UVL) (uvl n)
     (ifB (same i HDR) (hdr n)
@@ -78,15 +78,20 @@ numbered i n =
     (ifB (same i EOF) (eof n)
     other))))
 
--- user labels by BP 1-3; the other optional labels by BP 1-4, whose last is a digit 1 to 9
-unfoldable pub optional : List ℕ → Kind
-optional l =
-    ifB (same (part 0 3 l) UHL) uhl
-    (ifB (same (part 0 3 l) UTL) utl
-    (ifB (leb 49 (getD l 3 0)) (ifB (leb (getD l 3 0) 57) (numbered (part 0 3 l) (getD l 3 0 - 48)) other) other))
+-- a label of identifier i whose number is the character d: a digit 1 to 9
+unfoldable pub numbered : List ℕ → ℕ → Kind
+numbered i d = ifB (leb 49 d) (ifB (leb d 57) (family i (d - 48)) other) other
+
+-- the labels that a set may have, by BP 1-3 and BP 4; user labels by BP 1-3 alone
+unfoldable pub optional : List ℕ → ℕ → Kind
+optional i d = ifB (same i UHL) uhl (ifB (same i UTL) utl (numbered i d))
+
+-- the first of two kinds that is one
+unfoldable pub orElse : Kind → Kind → Kind
+orElse a b = ifB (isKind a other) b a
 
 unfoldable pub named : List ℕ → Kind
-named l = ifB (isKind (required (part 0 4 l)) other) (optional l) (required (part 0 4 l))
+named l = orElse (required (part 0 4 l)) (optional (part 0 3 l) (getD l 3 0))
 
 -- what a block is to the order of a reel, where a label is due
 unfoldable pub kindOf : List ℕ → Kind

@@ -1,1 +1,23 @@
-// One label of 80 bytes.
+// One label of 80 bytes: its kind, its fields and their rules, what two labels have in common, and the making of labels.
+// It knows nothing of the order of labels, nor of the blocks between them.
+mod compared; // compared.rt: two labels
+mod field; // field.rt: the fields of a label and their rules
+mod judged; // judged.rt: one label by itself
+mod name; // name.rt: the kind of a label
+mod table; // table.rt: the fields of each label
+
+pub use compared::unequal_section_first;
+pub use compared::unequal_section_second;
+pub use compared::unequal_trailer_first;
+pub use compared::unequal_trailer_second;
+pub use field::block_length;
+pub use field::count_of;
+pub use field::format_of;
+pub use field::offset_length;
+pub use field::record_length;
+pub use field::section_of;
+pub use field::sequence_of;
+pub use field::set_of;
+pub use field::volume_of;
+pub use judged::label_fault;
+pub use name::kind;

@@ -1,0 +1,5 @@
+pub mod Padding
+pub mod Units
+pub mod Cuts
+pub mod Places
+pub mod Turns

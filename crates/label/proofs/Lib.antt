@@ -1,0 +1,5 @@
+pub mod Rules
+pub mod Walk
+pub mod Filled
+pub mod Put
+pub mod Laid

@@ -1,0 +1,16 @@
+-- The laws that a return wants behind a row of tests. Few, so that a search through many tests stays short. Assumes nothing.
+use mathlib.Core.Path.{_≡_, ap}
+use mathlib.Core.Bool.{Bool, true, false, _||_}
+use borrow.Author.Tests.{eq-eqb, ne-eqb}
+use Rattle.base.specs.If.{if-true, if-false, so-true, so-false, or-left, or-right}
+
+-- each test is a call
+pub ruleset calls = (if-true, if-false, so-true, so-false)
+
+-- each test compares numbers
+pub ruleset matches = (if-true, if-false, eq-eqb, ne-eqb)
+
+pub or-rest : (a b : Bool) → a ≡ false → a || b ≡ b
+or-rest a b p = ap (λ (s : Bool). s || b) p
+
+pub ruleset either = (or-left, or-right, or-rest, so-true, so-false)

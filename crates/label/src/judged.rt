@@ -1,0 +1,136 @@
+// The judgement of one label by itself: its first wrong field, and its accessibility. It knows no other label.
+ghost use mathlib.Core.Path.{_≡_};
+ghost use mathlib.Core.List.{[], _∷_};
+ghost use Prim.Native.Nat.{_≤_};
+ghost use lib.ListN.{length};
+ghost use Rattle.base.specs.Part.{part, same};
+ghost use Rattle.label.specs.Judged.{wrongFrom, accessOf, accessAt, fieldFault, labelFault};
+ghost use Rattle.label.specs.Table.{fieldsOf};
+
+use super::field::good_at;
+use super::table::wide;
+use super::table::HDR1_FIELDS;
+use super::table::SECOND_FIELDS;
+use super::table::TRAILER1_FIELDS;
+use super::table::USER_FIELDS;
+use super::table::VOL1_FIELDS;
+use base::equal;
+use base::part_of;
+use base::Fault;
+use order::is;
+use order::Kind;
+use order::EOF;
+use order::EOV;
+use order::HDR;
+use order::UHL;
+use order::UTL;
+use order::VOL;
+
+// The first BP of the first field that does not suit its rule, or 0.
+fn wrong_field(l: &[u8], table: &[u8]) -> u32
+    requires { ⌜ length (now table) ≤ 64 ⌝ }
+    ensures { λ r. ⌜ r ≡ wrongFrom (now (l .entry)) 0 (now (table .entry)) ⌝ }
+{
+    let mut at: usize = 0;
+    let mut i = 0;
+    while i + 1 < table.len() {
+        let w = wide(table[i]);
+        if good_at(l, table[i + 1], at, w) {
+            at += w;
+            i += 2;
+        } else {
+            return at as u32 + 1;
+        }
+    }
+    0
+}
+
+// The same by the table of the label's kind; the labels that have none are free.
+fn wrong_of(k: Kind, l: &[u8]) -> u32
+    ensures { λ r. ⌜ r ≡ wrongFrom (now (l .entry)) 0 (fieldsOf k) ⌝ }
+{
+    if is(k, VOL, 1) {
+        return wrong_field(l, &VOL1_FIELDS);
+    }
+    if is(k, HDR, 1) {
+        return wrong_field(l, &HDR1_FIELDS);
+    }
+    if is(k, EOV, 1) {
+        return wrong_field(l, &TRAILER1_FIELDS);
+    }
+    if is(k, EOF, 1) {
+        return wrong_field(l, &TRAILER1_FIELDS);
+    }
+    if is(k, HDR, 2) {
+        return wrong_field(l, &SECOND_FIELDS);
+    }
+    if is(k, EOV, 2) {
+        return wrong_field(l, &SECOND_FIELDS);
+    }
+    if is(k, EOF, 2) {
+        return wrong_field(l, &SECOND_FIELDS);
+    }
+    if is(k, UHL, 0) {
+        return wrong_field(l, &USER_FIELDS);
+    }
+    if is(k, UTL, 0) {
+        return wrong_field(l, &USER_FIELDS);
+    }
+    0
+}
+
+// The BP of the accessibility of a kind of label, or 0 where it has none.
+fn access_of(k: Kind) -> u32
+    ensures { λ r. ⌜ r ≡ accessOf k ⌝ }
+{
+    if is(k, VOL, 1) {
+        return 11;
+    }
+    if is(k, HDR, 1) {
+        return 54;
+    }
+    if is(k, EOV, 1) {
+        return 54;
+    }
+    if is(k, EOF, 1) {
+        return 54;
+    }
+    0
+}
+
+// Whether the byte at a place is SPACE.
+fn space_at(l: &[u8], at: usize) -> bool
+    ensures { λ r. ⌜ r ≡ same (part at 1 (now (l .entry))) (32 ∷ []) ⌝ }
+{
+    equal(part_of(l, at, 1), b" ")
+}
+
+// The fault of an accessibility at BP a that is not SPACE.
+fn access_at(a: u32, l: &[u8]) -> Fault
+    ensures { λ r. ⌜ r ≡ accessAt a (now (l .entry)) ⌝ }
+{
+    if a == 0 {
+        return Fault { number: 0, byte: 0 };
+    }
+    if space_at(l, (a - 1) as usize) {
+        return Fault { number: 0, byte: 0 };
+    }
+    Fault { number: 5, byte: a }
+}
+
+// Number 4 at the first wrong field, where there is one, before any other fault.
+fn field_fault(w: u32, f: Fault) -> Fault
+    ensures { λ r. ⌜ r ≡ fieldFault w f ⌝ }
+{
+    if w == 0 {
+        return f;
+    }
+    Fault { number: 4, byte: w }
+}
+
+// The fault of a label of this kind by itself: 4 at the first wrong field, else 5, else 0.
+pub fn label_fault(k: Kind, l: &[u8]) -> Fault
+    ensures { λ r. ⌜ r ≡ labelFault k (now (l .entry)) ⌝ }
+{
+    field_fault(wrong_of(k, l), access_at(access_of(k), l))
+}
