@@ -36,10 +36,6 @@ valueOf Wrong = 0
 
 -- ---- the lowest BP of several tests
 
--- the BP of a field that fails its test, or 0
-unfoldable pub unless : Bool → ℕ → ℕ
-unless t bp = ifB t 0 bp
-
 -- the lower of two BPs, where 0 is none
 unfoldable pub lower : ℕ → ℕ → ℕ
 lower a b = ifB (eqb a 0) b (ifB (eqb b 0) a (ifB (leb a b) a b))
@@ -56,70 +52,71 @@ isAmong v [] = false
 isAmong v (u ∷ us) = ifB (same v u) true (isAmong v us)
 
 -- A 17th reel is 2 by the framing, before any item is read; the same number here bounds the names that reading has to keep.
-unfoldable pub volumeFault : State → List ℕ → Fault
-volumeFault s l = ifB (leb mostReels (length (s .names))) (fault 2 0) (crossed (ifB (isAmong (volumeOf l) (s .names)) 5 0))
+unfoldable pub volumeFault : List (List ℕ) → List ℕ → Fault
+volumeFault names l = ifB (leb mostReels (length names)) (fault 2 0) (crossed (ifB (isAmong (volumeOf l) names) 5 0))
 
--- the first HDR1 of a file: one set identifier throughout, section 0001, sequence 0001 or one higher than that of the file before
-unfoldable pub newFilePlace : State → List ℕ → ℕ
-newFilePlace s l =
-    ifB (ifB (eqb (s .files) 0) true (same (setOf l) (setOf (s .first))))
-    (ifB (says 1 (sectionOf l)) (unless (says (s .files + 1) (sequenceOf l)) 32) 28)
-    22
+-- the first HDR1 of a file, behind `files` others of which `first` was the last HDR1: one set identifier throughout, section 0001, sequence 0001 or
+-- one higher than that of the file before
+unfoldable pub newFilePlace : ℕ → List ℕ → List ℕ → ℕ
+newFilePlace files first l =
+    ifB (ifB (eqb files 0) true (same (setOf l) (setOf first))) (ifB (says 1 (sectionOf l)) (ifB (says (files + 1) (sequenceOf l)) 0 32) 28) 22
 
 -- HDR1 of a later section: section one higher, and BP 5-27 and 32-54 as in the section before (house)
-unfoldable pub laterPlace : State → List ℕ → ℕ
-laterPlace s l =
-    lower (unequalFrom (s .first) l 0 sectionFirst) (unless (says (valueOf (sectionOf (s .first)) + 1) (sectionOf l)) 28)
+unfoldable pub laterPlace : List ℕ → List ℕ → ℕ
+laterPlace first l = lower (unequalFrom first l 0 sectionFirst) (ifB (says (valueOf (sectionOf first) + 1) (sectionOf l)) 0 28)
 
 -- at most 64 files (house): the 65th is 9 at its HDR1
-unfoldable pub mostFiles : ℕ
+abbrev pub mostFiles : ℕ
 mostFiles = 64
 
-unfoldable pub firstHeaderFault : State → List ℕ → Fault
-firstHeaderFault s l =
-    ifB (s .goesOn) (crossed (laterPlace s l))
-    (orElse (crossed (newFilePlace s l)) (ifB (eqb (s .files) mostFiles) (fault 9 0) (fault 0 0)))
+unfoldable pub fileFault : ℕ → Fault
+fileFault files = ifB (leb mostFiles files) (fault 9 0) (fault 0 0)
+
+unfoldable pub firstHeaderFault : Bool → ℕ → List ℕ → List ℕ → Fault
+firstHeaderFault goesOn files first l = ifB goesOn (crossed (laterPlace first l)) (orElse (crossed (newFilePlace files first l)) (fileFault files))
 
 -- HDR2 of a later section: BP 5-15 and 51-52 as in the section before (house)
-unfoldable pub secondHeaderFault : State → List ℕ → Fault
-secondHeaderFault s l = ifB (s .goesOn) (crossed (unequalFrom (s .second) l 0 sectionSecond)) (fault 0 0)
+unfoldable pub secondHeaderFault : Bool → List ℕ → List ℕ → Fault
+secondHeaderFault goesOn second l = ifB goesOn (crossed (unequalFrom second l 0 sectionSecond)) (fault 0 0)
 
 -- the first trailer label equals its header's; its count is the number of blocks of this section
-unfoldable pub firstTrailerFault : State → List ℕ → Fault
-firstTrailerFault s l = crossed (lower (unequalFrom (s .first) l 0 trailerFirst) (unless (says (s .count) (countOf l)) 55))
+unfoldable pub firstTrailerFault : List ℕ → ℕ → List ℕ → Fault
+firstTrailerFault first count l = crossed (lower (unequalFrom first l 0 trailerFirst) (ifB (says count (countOf l)) 0 55))
 
--- EOF1, where no record may be open
-unfoldable pub fileEndFault : State → List ℕ → Fault
-fileEndFault s l = orElse (firstTrailerFault s l) (ifB (eqb (s .pending) 0) (fault 0 0) (fault 8 0))
+-- no record may be open at EOF1
+unfoldable pub openFault : ℕ → Fault
+openFault pending = ifB (eqb pending 0) (fault 0 0) (fault 8 0)
+
+unfoldable pub fileEndFault : List ℕ → ℕ → ℕ → List ℕ → Fault
+fileEndFault first count pending l = orElse (firstTrailerFault first count l) (openFault pending)
 
 -- the second trailer label equals its header's
-unfoldable pub secondTrailerFault : State → List ℕ → Fault
-secondTrailerFault s l = crossed (unequalFrom (s .second) l 0 trailerSecond)
+unfoldable pub secondTrailerFault : List ℕ → List ℕ → Fault
+secondTrailerFault second l = crossed (unequalFrom second l 0 trailerSecond)
 
 -- ---- data blocks
 
 -- the answer on a data block, by the lengths that this section's HDR2 gives
-unfoldable pub outcomeIn : State → List ℕ → Outcome
-outcomeIn s l =
-    blockOutcome (formatOf (s .second)) (valueOf (blockLengthOf (s .second))) (valueOf (recordLengthOf (s .second))) (valueOf (offsetOf (s .second)))
-    (s .pending) l
+unfoldable pub outcomeIn : List ℕ → ℕ → List ℕ → Outcome
+outcomeIn second pending l =
+    blockOutcome (formatOf second) (valueOf (blockLengthOf second)) (valueOf (recordLengthOf second)) (valueOf (offsetOf second)) pending l
 
-unfoldable pub blockFault : State → List ℕ → Fault
-blockFault s l = fault (outcomeIn s l .number) 0
+unfoldable pub blockFault : List ℕ → ℕ → List ℕ → Fault
+blockFault second pending l = fault (outcomeIn second pending l .number) 0
 
 -- ---- any item
 
 -- the fault of an item of kind k and contents l against what was read before it
 unfoldable pub contextFault : State → Kind → List ℕ → Fault
 contextFault s k l =
-    ifB (isKind k dataBlock) (blockFault s l)
-    (ifB (isKind k (vol 1)) (volumeFault s l)
-    (ifB (isKind k (hdr 1)) (firstHeaderFault s l)
-    (ifB (isKind k (hdr 2)) (secondHeaderFault s l)
-    (ifB (isKind k (eov 1)) (firstTrailerFault s l)
-    (ifB (isKind k (eof 1)) (fileEndFault s l)
-    (ifB (isKind k (eov 2)) (secondTrailerFault s l)
-    (ifB (isKind k (eof 2)) (secondTrailerFault s l)
+    ifB (isKind k dataBlock) (blockFault (s .second) (s .pending) l)
+    (ifB (isKind k (vol 1)) (volumeFault (s .names) l)
+    (ifB (isKind k (hdr 1)) (firstHeaderFault (s .goesOn) (s .files) (s .first) l)
+    (ifB (isKind k (hdr 2)) (secondHeaderFault (s .goesOn) (s .second) l)
+    (ifB (isKind k (eov 1)) (firstTrailerFault (s .first) (s .count) l)
+    (ifB (isKind k (eof 1)) (fileEndFault (s .first) (s .count) (s .pending) l)
+    (ifB (isKind k (eov 2)) (secondTrailerFault (s .second) l)
+    (ifB (isKind k (eof 2)) (secondTrailerFault (s .second) l)
     (fault 0 0))))))))
 
 -- its first fault: 4 and 5 of its label by itself, then the others

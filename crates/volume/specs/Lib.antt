@@ -4,3 +4,4 @@ pub mod Step
 pub mod Run
 pub mod Meaning
 pub mod Accepted
+pub mod Place

@@ -66,7 +66,7 @@ unfoldable pub countAfter : State → Kind → ℕ
 countAfter s k = ifB (isKind k dataBlock) (s .count + 1) (ifB (isKind k (hdr 1)) 0 (s .count))
 
 unfoldable pub pendingAfter : State → Kind → List ℕ → ℕ
-pendingAfter s k l = ifB (isKind k dataBlock) (outcomeIn s l .pending) (s .pending)
+pendingAfter s k l = ifB (isKind k dataBlock) (outcomeIn (s .second) (s .pending) l .pending) (s .pending)
 
 unfoldable pub stateAfter : State → Phase → Kind → List ℕ → State
 stateAfter s p k l =

@@ -1,1 +1,17 @@
-// A whole set: the verdict on an image.
+// A whole set: the order of its items, the fields and cross-checks of its labels, its blocks; the verdict on an image.
+// It knows no byte of a label and no unit of a block by itself: those are the layers' below.
+use order::Phase;
+
+// What is known behind an item: numbers, and places in the image. A place past the end stands for no label.
+pub struct Reading {
+    pub phase: Phase,
+    // The places of the volume labels, the first `reels` of them.
+    pub names: [usize; 16],
+    pub reels: usize,
+    pub files: u32,
+    pub ongoing: bool,
+    pub first: usize,
+    pub second: usize,
+    pub count: usize,
+    pub pending: usize,
+}

@@ -1,0 +1,30 @@
+-- How the places that the code keeps stand for contents: a label is the 80 bytes at its place, and no label yet is a place past the end.
+use mathlib.Core.List.{List, [], _∷_}
+use Prim.Native.Nat.{ℕ}
+use lib.ListN.{take}
+use Rattle.base.specs.Part.{part}
+use Rattle.label.specs.Field.{volumeOf}
+use Rattle.volume.specs.State.{State}
+use Rattle.volume.specs.declared.Reading.{Reading}
+
+-- the label at a place of image s
+unfoldable pub labelAt : List ℕ → ℕ → List ℕ
+labelAt s a = part a 80 s
+
+-- the volume identifiers of the volume labels at some places
+unfoldable pub namesAt : List ℕ → List ℕ → List (List ℕ)
+namesAt s [] = []
+namesAt s (a ∷ places) = volumeOf (labelAt s a) ∷ namesAt s places
+
+unfoldable pub contents : List ℕ → Reading → State
+contents s r =
+    record {
+      phase = r .phase;
+      names = namesAt s (take (r .reels) (r .names));
+      files = r .files;
+      goesOn = r .ongoing;
+      first = labelAt s (r .first);
+      second = labelAt s (r .second);
+      count = r .count;
+      pending = r .pending
+    }
