@@ -9,7 +9,7 @@ use mathlib.Core.Bool.{Bool, true, false, _&&_}
 use mathlib.Core.List.{List, [], _∷_, _++_}
 use Prim.Native.Nat.{ℕ, zero, suc, _+_, _*_, _/_, _%_}
 use lib.Dec.{leb, eqb}
-use lib.ListN.{length, take, drop, getD}
+use lib.ListN.{length, drop, getD}
 use Rattle.base.specs.If.{ifB}
 use Rattle.base.specs.Part.{part}
 use Rattle.image.specs.declared.Shape.{Shape}
@@ -36,7 +36,7 @@ word s = getD s 0 0 * 65536 + getD s 1 0 * 256 + getD s 2 0
 
 -- what a length word with n bytes behind it leads
 unfoldable pub ledBy : ℕ → ℕ → Shape
-ledBy w n = ifB (eqb w 0) Mark (ifB (eqb w reelEndWord) ReelEnd (ifB (leb w mostBytes && leb w n) (Block w) Broken))
+ledBy w n = ifB (eqb w 0) Mark (ifB (eqb w reelEndWord) ReelEnd (ifB (leb w mostBytes) (ifB (leb w n) (Block w) Broken) Broken))
 
 -- what stands at the head of some bytes; fewer than three are a cut item
 unfoldable pub shape : List ℕ → Shape

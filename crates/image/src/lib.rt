@@ -1,4 +1,23 @@
 // The container of a set: items from bytes. It knows lengths, and nothing of what a block holds.
+use base::Verdict;
+ghost use mathlib.Core.Path.{_≡_};
+ghost use mathlib.Core.Bool.{false};
+ghost use Prim.Native.Nat.{_≤_, _<_};
+ghost use lib.ListN.{length, take, drop};
+ghost use Rattle.base.specs.Part.{same};
+ghost use Rattle.base.specs.Answer.{verdict};
+ghost use Rattle.image.specs.Item.{ledBy, shape};
+ghost use Rattle.image.specs.Framing.{mostImage, head, framedFrom, items, framing};
+
+// The most bytes of a block, and the length word that ends a reel.
+const MOST_BYTES: usize = 99999;
+
+const REEL_END_WORD: usize = 16777215;
+
+// An image is at most so many bytes and has at most so many reels.
+const MOST_IMAGE: usize = 16777215;
+
+const MOST_REELS: usize = 16;
 
 // What stands at a place of the image: a block and its length, a tape mark, the end of a reel, or a wrong length or an item cut short.
 pub enum Shape {
@@ -6,4 +25,119 @@ pub enum Shape {
     Mark,
     ReelEnd,
     Broken,
+}
+
+// A byte as a number.
+fn wide(b: u8) -> usize
+    ensures { λ r. ⌜ (r ≡ b) × (r < 256) ⌝ }
+{
+    b as usize
+}
+
+// What a length word leads that has n bytes behind it.
+fn led_by(word: usize, n: usize) -> Shape
+    ensures { λ r. ⌜ r ≡ ledBy word n ⌝ }
+{
+    if word == 0 {
+        return Shape::Mark;
+    }
+    if word == REEL_END_WORD {
+        return Shape::ReelEnd;
+    }
+    if word <= MOST_BYTES {
+        if word <= n {
+            return Shape::Block(word);
+        }
+    }
+    Shape::Broken
+}
+
+// What stands at a place; where fewer than three bytes are left, as past the end, a cut item.
+pub fn shape_at(s: &[u8], at: usize) -> Shape
+    ensures { λ r. ⌜ r ≡ shape (drop at (now (s .entry))) ⌝ }
+{
+    if s.len() <= at {
+        return Shape::Broken;
+    }
+    let left = s.len() - at;
+    if left < 3 {
+        return Shape::Broken;
+    }
+    let n = left - 3;
+    let low = wide(s[at + 1]) * 256 + wide(s[at + 2]);
+    // Most lengths have a high byte 0: a test, which a walk need not wait for, takes the place of a sum.
+    if s[at] == 0 {
+        return led_by(low, n);
+    }
+    led_by(wide(s[at]) * 65536 + low, n)
+}
+
+// Whether an image begins with its mark and version 1.
+fn has_head(s: &[u8]) -> bool
+    ensures { λ r. ⌜ r ≡ same (take 5 (now (s .entry))) head ⌝ }
+{
+    base::equal(base::part_of(s, 0, 5), b"TGI\0\x01")
+}
+
+// The answer of this number at an item; the container has no byte to name.
+fn answer(number: u32, item: u32) -> Verdict
+    ensures { λ r. ⌜ r ≡ verdict number item 0 ⌝ }
+{
+    Verdict {
+        number,
+        item,
+        byte: 0,
+    }
+}
+
+// Number 2 with its item, or 0, over the items of an image that is not too long.
+fn framed(s: &[u8]) -> Verdict
+    requires { ⌜ length (now s) ≤ mostImage ⌝ }
+    ensures { λ r. ⌜ r ≡ framedFrom 0 0 false (items (now (s .entry))) ⌝ }
+{
+    let mut at: usize = 5;
+    let mut item: u32 = 0;
+    let mut reels: usize = 0;
+    let mut closed = false;
+    while at < s.len() {
+        if reels == MOST_REELS {
+            return answer(2, item);
+        }
+        match shape_at(s, at) {
+            Shape::Block(n) => {
+                at = at + 3 + n;
+                item += 1;
+                closed = false;
+            }
+            Shape::Mark => {
+                at += 3;
+                item += 1;
+                closed = false;
+            }
+            Shape::ReelEnd => {
+                at += 3;
+                item += 1;
+                reels += 1;
+                closed = true;
+            }
+            Shape::Broken => return answer(2, item),
+        }
+    }
+    if closed {
+        return answer(0, 0);
+    }
+    answer(2, item)
+}
+
+// The framing of an image: 9, 1 or 2 with its item, or 0.
+pub fn framing(s: &[u8]) -> Verdict
+    ensures { λ r. ⌜ r ≡ framing (now (s .entry)) ⌝ }
+{
+    if MOST_IMAGE < s.len() {
+        return answer(9, 0);
+    }
+    if has_head(s) {
+        return framed(s);
+    }
+    answer(1, 0)
 }

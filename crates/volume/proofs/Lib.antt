@@ -1,2 +1,3 @@
 pub mod Runs
 pub mod Accepted
+pub mod Bodies

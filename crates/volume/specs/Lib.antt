@@ -5,3 +5,4 @@ pub mod Run
 pub mod Meaning
 pub mod Accepted
 pub mod Place
+pub mod Body

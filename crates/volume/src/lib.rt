@@ -1,5 +1,7 @@
 // A whole set: the order of its items, the fields and cross-checks of its labels, its blocks; the verdict on an image.
 // It knows no byte of a label and no unit of a block by itself: those are the layers' below.
+mod blocks; // blocks.rt: data blocks passed in a row
+
 use order::Phase;
 
 // What is known behind an item: numbers, and places in the image. A place past the end stands for no label.

@@ -1,0 +1,169 @@
+-- Laws of the framing, as the loop over the items of an image wants them: what is left from a place answers as the whole. Assumes nothing.
+use mathlib.Core.Path.{_≡_, refl, sym, ap, _∙_, subst}
+use mathlib.Core.Bool.{Bool, true, false}
+use mathlib.Core.List.{List, _∷_}
+use Prim.Native.Nat.{ℕ, _+_, _≤_, _<_}
+use native.Mathlib.Omega.{arith}
+use borrow.Author.Needs.{needs}
+use borrow.Author.Tests.{eq-eqb, ne-eqb, le-leb, ltb-false}
+use lib.Dec.{eqb, ltb}
+use lib.ListN.{length, take, drop}
+use Rattle.base.specs.If.{ifB, if-true, if-false, if-case, and-true}
+use Rattle.base.specs.Part.{part, same}
+use Rattle.base.specs.Answer.{verdict}
+use Rattle.base.specs.declared.Verdict.{Verdict}
+use Rattle.base.proofs.Parts.{length-part}
+use Rattle.base.proofs.Bytes.{same-true}
+use Rattle.image.specs.declared.Shape.{Shape}
+use Rattle.image.specs.declared.Shape.the-variants.{Block, Mark, ReelEnd, Broken}
+use Rattle.image.specs.Item.{Item, block, mark, reelEnd, broken, mostBytes, shape, itemOf, decode, isItem, allItems}
+use Rattle.image.specs.Framing.{mostImage, mostReels, head, framedFrom, items, framing}
+use Rattle.image.proofs.Items.{BlockAt, block-at, block-fits, decode-none, decode-more, by-items, decode-past, decode-at, decode-block, decode-mark, decode-reel-end, decode-broken}
+
+-- the first five bytes, as the code takes them
+pub head-first : (s p : List ℕ) (b : Bool) → p ≡ part 0 5 s → b ≡ same p head → b ≡ same (take 5 s) head
+unfolding part
+head-first s p b e h = h ∙ ap (λ (l : List ℕ). same l head) e
+
+-- behind sixteen reels no item may stand
+framed-full : (n r : ℕ) (closed : Bool) (x : Item) (xs : List Item) → r ≡ mostReels → framedFrom n r closed (x ∷ xs) ≡ verdict 2 n 0
+unfolding framedFrom
+framed-full n r closed (block bs) xs e = if-true _ _ _ (eq-eqb r mostReels e)
+framed-full n r closed mark xs e = if-true _ _ _ (eq-eqb r mostReels e)
+framed-full n r closed reelEnd xs e = if-true _ _ _ (eq-eqb r mostReels e)
+framed-full n r closed broken xs e = refl
+
+-- one item further, while reels are left
+framed-block : (n r : ℕ) (closed : Bool) (bs : List ℕ) (xs : List Item) → (r ≡ mostReels → ⊥)
+    → framedFrom n r closed (block bs ∷ xs) ≡ framedFrom (n + 1) r false xs
+unfolding framedFrom
+framed-block n r closed bs xs h = if-false _ _ _ (ne-eqb r mostReels h)
+
+framed-mark : (n r : ℕ) (closed : Bool) (xs : List Item) → (r ≡ mostReels → ⊥) → framedFrom n r closed (mark ∷ xs) ≡ framedFrom (n + 1) r false xs
+unfolding framedFrom
+framed-mark n r closed xs h = if-false _ _ _ (ne-eqb r mostReels h)
+
+framed-reel-end : (n r : ℕ) (closed : Bool) (xs : List Item) → (r ≡ mostReels → ⊥)
+    → framedFrom n r closed (reelEnd ∷ xs) ≡ framedFrom (n + 1) (r + 1) true xs
+unfolding framedFrom
+framed-reel-end n r closed xs h = if-false _ _ _ (ne-eqb r mostReels h)
+
+-- ---- the loop: at a place, with n items and r reels passed
+
+pub record Walked (s : List ℕ) (at n r : ℕ) (closed : Bool) : Type 0 where
+  pub counted : n ≤ at
+  pub reels : r ≤ mostReels
+  pub left : framedFrom n r closed (decode (drop at s)) ≡ framedFrom 0 0 false (items s)
+
+pub walked-none : (s : List ℕ) → Walked s 5 0 0 false
+unfolding items
+walked-none s = record { counted = omega arith; reels = omega arith; left = refl }
+
+pub walked-block : (s : List ℕ) (at n r m : ℕ) (closed : Bool) (p : Shape) → Walked s at n r closed → at < length s → (r ≡ mostReels → ⊥)
+    → p ≡ shape (drop at s) → p ≡ Block m → Walked s (at + 3 + m) (n + 1) r false
+walked-block s at n r m closed p w h f e q =
+    record {
+      counted = omega arith;
+      reels = w .reels;
+      left = sym (ap (framedFrom n r closed) (decode-block s at m p h e q) ∙ framed-block n r closed _ _ f) ∙ w .left;
+    }
+
+pub walked-mark : (s : List ℕ) (at n r : ℕ) (closed : Bool) (p : Shape) → Walked s at n r closed → at < length s → (r ≡ mostReels → ⊥)
+    → p ≡ shape (drop at s) → p ≡ Mark → Walked s (at + 3) (n + 1) r false
+walked-mark s at n r closed p w h f e q =
+    record {
+      counted = omega arith;
+      reels = w .reels;
+      left = sym (ap (framedFrom n r closed) (decode-mark s at p h e q) ∙ framed-mark n r closed _ f) ∙ w .left;
+    }
+
+pub walked-reel-end : (s : List ℕ) (at n r : ℕ) (closed : Bool) (p : Shape) → Walked s at n r closed → at < length s → (r ≡ mostReels → ⊥)
+    → p ≡ shape (drop at s) → p ≡ ReelEnd → Walked s (at + 3) (n + 1) (r + 1) true
+walked-reel-end s at n r closed p w h f e q =
+    record {
+      counted = omega arith;
+      reels = omega arith;
+      left = sym (ap (framedFrom n r closed) (decode-reel-end s at p h e q) ∙ framed-reel-end n r closed _ f) ∙ w .left;
+    }
+
+pub walked-full : (s : List ℕ) (at n r : ℕ) (closed : Bool) (v : Verdict) → v ≡ verdict 2 n 0 → Walked s at n r closed → at < length s → r ≡ mostReels
+    → v ≡ framedFrom 0 0 false (items s)
+walked-full s at n r closed v a w h e = a ∙ sym (ap (framedFrom n r closed) (decode-at s at h) ∙ framed-full n r closed _ _ e) ∙ w .left
+
+pub walked-broken : (s : List ℕ) (at n r : ℕ) (closed : Bool) (p : Shape) (v : Verdict) → v ≡ verdict 2 n 0 → Walked s at n r closed → at < length s
+    → p ≡ shape (drop at s) → p ≡ Broken → v ≡ framedFrom 0 0 false (items s)
+unfolding framedFrom
+walked-broken s at n r closed p v a w h e q = a ∙ sym (ap (framedFrom n r closed) (decode-broken s at p h e q)) ∙ w .left
+
+-- behind the last item: right only behind the end of a reel
+pub walked-closed : (s : List ℕ) (at n r : ℕ) (closed : Bool) (v : Verdict) → v ≡ verdict 0 0 0 → Walked s at n r closed → length s ≤ at → closed ≡ true
+    → v ≡ framedFrom 0 0 false (items s)
+unfolding framedFrom
+walked-closed s at n r closed v a w h e = a ∙ sym (ap (framedFrom n r closed) (decode-past s at h) ∙ if-true _ _ _ e) ∙ w .left
+
+pub walked-open : (s : List ℕ) (at n r : ℕ) (closed : Bool) (v : Verdict) → v ≡ verdict 2 n 0 → Walked s at n r closed → length s ≤ at → closed ≡ false
+    → v ≡ framedFrom 0 0 false (items s)
+unfolding framedFrom
+walked-open s at n r closed v a w h e = a ∙ sym (ap (framedFrom n r closed) (decode-past s at h) ∙ if-false _ _ _ e) ∙ w .left
+
+pub ruleset walks = (walked-none, walked-block, walked-mark, walked-reel-end, walked-full, walked-broken, walked-closed, walked-open, block-fits, needs)
+
+-- ---- what number 0 says: no item is broken
+
+-- an item as `decode` makes it: a block has a legal length
+Sound : Item → Type 0
+Sound (block bs) = isItem (block bs) ≡ true
+Sound mark = Unit {0}
+Sound reelEnd = Unit {0}
+Sound broken = Unit {0}
+
+sound-item : (p : Shape) (s : List ℕ) → shape s ≡ p → Sound (itemOf p s)
+unfolding Sound itemOf isItem
+sound-item (Block n) s e =
+    let a : BlockAt s n = block-at s n e in
+    let long : length (part 3 n s) ≡ n = length-part 3 n s (a .whole) in
+    and-true _ _ (le-leb 1 (length (part 3 n s)) (omega arith)) (le-leb (length (part 3 n s)) mostBytes (omega arith))
+sound-item Mark s e = tt
+sound-item ReelEnd s e = tt
+sound-item Broken s e = tt
+
+-- where number 0 comes of some items, from whatever count on, all of them can stand in an image
+abbrev Right : List Item → Type 0
+Right xs = (n r : ℕ) (closed : Bool) → framedFrom n r closed xs .number ≡ 0 → allItems xs ≡ true
+
+right-next : (x : Item) (xs : List Item) (n r m k : ℕ) (closed : Bool) → isItem x ≡ true → Right xs
+    → ifB (eqb r mostReels) (verdict 2 n 0) (framedFrom m k closed xs) .number ≡ 0 → allItems (x ∷ xs) ≡ true
+unfolding allItems verdict
+right-next x xs n r m k closed good again =
+    if-case (λ (v : Verdict). v .number ≡ 0 → allItems (x ∷ xs) ≡ true) (eqb r mostReels) _ _ (λ _ q. absurd (omega arith))
+    (λ _ q. if-true _ _ _ good ∙ again m k closed q)
+
+right-more : (x : Item) (xs : List Item) → Sound x → Right xs → Right (x ∷ xs)
+unfolding Sound isItem framedFrom verdict
+right-more (block bs) xs good again n r closed = right-next (block bs) xs n r (n + 1) r false good again
+right-more mark xs good again n r closed = right-next mark xs n r (n + 1) r false refl again
+right-more reelEnd xs good again n r closed = right-next reelEnd xs n r (n + 1) (r + 1) true refl again
+right-more broken xs good again n r closed = λ q. absurd (omega arith)
+
+pub framed-items : (s : List ℕ) (n r : ℕ) (closed : Bool) → framedFrom n r closed (decode s) .number ≡ 0 → allItems (decode s) ≡ true
+unfolding allItems
+framed-items =
+    by-items (λ (s : List ℕ). Right (decode s)) (λ n r closed q. ap allItems decode-none)
+    (λ s h again. subst Right (sym (decode-more s h)) (right-more _ _ (sound-item (shape s) s refl) again))
+
+-- an image with number 0 is short enough, has the head, and its items are right
+pub record Framed (s : List ℕ) : Type 0 where
+  pub small : length s ≤ mostImage
+  pub headed : take 5 s ≡ head
+  pub right : framedFrom 0 0 false (items s) .number ≡ 0
+
+pub framing-zero : (s : List ℕ) → framing s .number ≡ 0 → Framed s
+unfolding framing verdict
+framing-zero s =
+    if-case (λ (v : Verdict). v .number ≡ 0 → Framed s) (ltb mostImage (length s)) _ _ (λ _ q. absurd (omega arith))
+    (λ l. if-case (λ (v : Verdict). v .number ≡ 0 → Framed s) (same (take 5 s) head) _ _
+    (λ e q. record { small = ltb-false mostImage (length s) l; headed = same-true (take 5 s) head e; right = q }) (λ _ q. absurd (omega arith)))
+
+pub framing-items : (s : List ℕ) → framing s .number ≡ 0 → allItems (items s) ≡ true
+unfolding items
+framing-items s h = framed-items (drop 5 s) 0 0 false (framing-zero s h .right)

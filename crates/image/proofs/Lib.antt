@@ -1,0 +1,3 @@
+pub mod Items
+pub mod Frames
+pub mod RoundTrip

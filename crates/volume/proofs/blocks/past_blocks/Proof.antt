@@ -1,0 +1,80 @@
+use Prim.Native.Nat.{_-_}
+use lib.ListN.{length}
+use Rattle.volume.specs.Body.{between, Skipped}
+use Rattle.volume.proofs.Bodies.{skips}
+use Rattle.volume.proofs.blocks.past_blocks.Statement.{statement}
+use Rattle.volume.proofs.blocks.past_blocks.Tie as tie
+
+abbrev Inv-loop : tie.InvT-loop
+Inv-loop image h at₀ item₀ count₀ pending₀ at item count pending =
+    Skipped image h (between at₀ item₀ count₀ pending₀) (between at item count pending)
+
+abbrev μ-loop : tie.MeasureT-loop
+μ-loop image h at₀ item₀ count₀ pending₀ at item count pending = length image - at
+
+loop-holds : tie.Need-loop-holds Inv-loop μ-loop
+loop-holds c = search skips
+
+shape-at-requires : tie.Need-shape-at-requires Inv-loop μ-loop
+shape-at-requires c κs = search skips
+
+enum-known-shape : tie.Need-enum-known-shape Inv-loop μ-loop
+enum-known-shape c = search skips
+
+add-start : tie.Need-add-start Inv-loop μ-loop
+add-start c = search skips
+
+add-end : tie.Need-add-end Inv-loop μ-loop
+add-end c = search skips
+
+sub-block-outcome : tie.Need-sub-block-outcome Inv-loop μ-loop
+sub-block-outcome c = search skips
+
+part-block-outcome-start : tie.Need-part-block-outcome-start Inv-loop μ-loop
+part-block-outcome-start c = search skips
+
+part-block-outcome-end : tie.Need-part-block-outcome-end Inv-loop μ-loop
+part-block-outcome-end c = search skips
+
+block-outcome-requires : tie.Need-block-outcome-requires Inv-loop μ-loop
+block-outcome-requires c κs = search skips
+
+returns : tie.Need-returns Inv-loop μ-loop
+returns c = search skips
+
+add-item : tie.Need-add-item Inv-loop μ-loop
+add-item c = search skips
+
+add-count : tie.Need-add-count Inv-loop μ-loop
+add-count c = search skips
+
+loop-less : tie.Need-loop-less Inv-loop μ-loop
+loop-less c = search skips
+
+loop-again : tie.Need-loop-again Inv-loop μ-loop
+loop-again c = search skips
+
+returns-2 : tie.Need-returns-2 Inv-loop μ-loop
+returns-2 c = search skips
+
+pub past-blocks-spec : {M : Type 1} → statement M
+past-blocks-spec =
+    tie.close
+    (tie.spec
+    Inv-loop
+    μ-loop
+    loop-holds
+    shape-at-requires
+    enum-known-shape
+    add-start
+    add-end
+    sub-block-outcome
+    part-block-outcome-start
+    part-block-outcome-end
+    block-outcome-requires
+    returns
+    add-item
+    add-count
+    loop-less
+    loop-again
+    returns-2)
