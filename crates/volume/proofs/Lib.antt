@@ -1,3 +1,4 @@
 pub mod Runs
 pub mod Accepted
 pub mod Bodies
+pub mod Afters

@@ -42,12 +42,12 @@ between at item count pending = record { at = at; item = item; count = count; pe
 unfoldable pub answerBetween : List ℕ → State → Between → Verdict
 answerBetween s t b = answerOf (b .item) (runs (body t (b .count) (b .pending)) (decode (drop (b .at) s)))
 
--- a place of an image that is not too long, and the items and blocks before it, each of which took a byte or more
+-- a place of an image that is not too long; each item before it took a byte or more, and each block is an item
 pub record Inside (s : List ℕ) (at item count : ℕ) : Type 0 where
   pub short : length s ≤ mostImage
   pub within : at ≤ length s
   pub items : item ≤ at
-  pub blocks : count ≤ at
+  pub blocks : count ≤ item
 
 -- whatever else the state holds, reading on from the second place gives the answer that reading on from the first one gives
 pub record Skipped (s : List ℕ) (h : Lengths) (a b : Between) : Type 0 where

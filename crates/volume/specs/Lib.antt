@@ -6,3 +6,4 @@ pub mod Meaning
 pub mod Accepted
 pub mod Place
 pub mod Body
+pub mod Walk

@@ -1,6 +1,8 @@
 // A whole set: the order of its items, the fields and cross-checks of its labels, its blocks; the verdict on an image.
 // It knows no byte of a label and no unit of a block by itself: those are the layers' below.
+mod after; // after.rt: the reading behind an item
 mod blocks; // blocks.rt: data blocks passed in a row
+mod walk; // walk.rt: the items of an image, one after the other
 
 use order::Phase;
 

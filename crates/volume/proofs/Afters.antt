@@ -1,0 +1,124 @@
+-- Laws of the state behind an item, by the places that the code keeps. Assumes nothing.
+use mathlib.Core.Path.{_≡_, refl, sym, ap, _∙_, subst}
+use mathlib.Core.Bool.{Bool, true, false}
+use mathlib.Core.List.{List, [], _∷_, _++_}
+use Prim.Native.Nat.{ℕ, zero, suc, _+_, _≤_, _<_, min}
+use native.Mathlib.Omega.{arith}
+use native.Mathlib.Numerals.{add-one}
+use borrow.Author.Needs.{needs}
+use borrow.Author.Tests.{eqb-false, leb-false}
+use lib.Dec.{eqb, leb}
+use lib.ListN.{length, take, set, length-take}
+use lib.Seq.{set-out, take-suc-set}
+use Rattle.base.specs.If.{ifB, if-true, if-false, if-case, ap-if, so-true, so-false}
+use Rattle.base.specs.Part.{part}
+use Rattle.base.specs.Answer.{fault, orElse}
+use Rattle.base.specs.declared.Fault.{Fault}
+use Rattle.image.specs.Framing.{mostReels}
+use Rattle.order.specs.Kind.{vol, hdr, eov, eof, dataBlock, isKind}
+use Rattle.order.proofs.Laws.{kind-is}
+use Rattle.order.specs.declared.Kind.{Kind}
+use Rattle.order.specs.declared.Phase.{Phase}
+use Rattle.label.specs.Field.{volumeOf}
+use Rattle.label.specs.Judged.{labelFault}
+use Rattle.volume.specs.declared.Reading.{Reading}
+use Rattle.volume.specs.State.{State}
+use Rattle.volume.specs.Fault.{outcomeIn, volumeFault, contextFault, itemFault}
+use Rattle.volume.specs.Step.{stateAfter, namesAfter, filesAfter, goesOnAfter, firstAfter, secondAfter, countAfter, pendingAfter}
+use Rattle.volume.specs.Place.{labelAt, namesAt, contents}
+use Rattle.volume.specs.Walk.{Sized}
+
+-- a place past the sixteenth is not kept
+pub names-full : (t m : Bool) (names : List ℕ) (reels start : ℕ) → m ≡ t → m ≡ true → length names ≡ 16 → 16 ≤ reels
+    → names ≡ ifB t (set names reels start) names
+names-full t m names reels start e h l f =
+    sym (set-out names reels start (omega arith)) ∙ sym (if-true t (set names reels start) names (so-true m t e h))
+
+pub ruleset afters = (names-full, if-true, if-false, so-true, so-false, needs)
+
+-- ---- field by field
+
+names-append : (s places : List ℕ) (a : ℕ) → namesAt s (places ++ (a ∷ [])) ≡ namesAt s places ++ (volumeOf (labelAt s a) ∷ [])
+unfolding namesAt
+names-append s [] a = refl
+names-append s (x ∷ places) a = ap (λ (l : List (List ℕ)). volumeOf (labelAt s x) ∷ l) (names-append s places a)
+
+label-sized : (s : List ℕ) (start len : ℕ) → len ≡ 80 → labelAt s start ≡ part start len s
+unfolding labelAt
+label-sized s start len e = ap (λ (n : ℕ). part start n s) (sym e)
+
+-- a label kept by its place
+label-after : (s : List ℕ) (t : Bool) (start len kept : ℕ) → (t ≡ true → len ≡ 80) → labelAt s (ifB t start kept) ≡ ifB t (part start len s) (labelAt s kept)
+label-after s t start len kept z =
+    if-case (λ (x : ℕ). labelAt s x ≡ ifB t (part start len s) (labelAt s kept)) t start kept
+    (λ h. label-sized s start len (z h) ∙ sym (if-true t (part start len s) (labelAt s kept) h))
+    (λ h. sym (if-false t (part start len s) (labelAt s kept) h))
+
+-- the volume identifiers, with one more where there is room
+names-kept : (s names : List ℕ) (reels start len : ℕ) (t : Bool) → (t ≡ true → len ≡ 80) → (t ≡ true → reels < length names)
+    → namesAt s (take (ifB t (reels + 1) reels) (ifB t (set names reels start) names))
+      ≡ ifB t (namesAt s (take reels names) ++ (volumeOf (part start len s) ∷ [])) (namesAt s (take reels names))
+unfolding ifB
+names-kept s names reels start len true z r =
+    ap (λ (n : ℕ). namesAt s (take n (set names reels start))) (add-one reels)
+    ∙ ap (namesAt s) (take-suc-set names reels start (r refl))
+    ∙ names-append s (take reels names) start
+    ∙ ap (λ (l : List ℕ). namesAt s (take reels names) ++ (volumeOf l ∷ [])) (label-sized s start len (z refl))
+names-kept s names reels start len false z r = refl
+
+-- ---- the whole state
+
+-- what the code makes of each field stands for the state behind the item
+pub contents-after : (s : List ℕ) (st : Reading) (p : Phase) (k : Kind) (start len : ℕ) (names : List ℕ) (reels files first second count pending : ℕ) (ongoing : Bool)
+    → Sized k len → (isKind k (vol 1) ≡ true → st .reels < length (st .names))
+    → names ≡ ifB (isKind k (vol 1)) (set (st .names) (st .reels) start) (st .names)
+    → reels ≡ ifB (isKind k (vol 1)) (st .reels + 1) (st .reels)
+    → files ≡ ifB (isKind k (hdr 2)) (ifB (st .ongoing) (st .files) (st .files + 1)) (st .files)
+    → ongoing ≡ ifB (isKind k (eov 1)) true (ifB (isKind k (eof 1)) false (st .ongoing))
+    → first ≡ ifB (isKind k (hdr 1)) start (st .first)
+    → second ≡ ifB (isKind k (hdr 2)) start (st .second)
+    → count ≡ ifB (isKind k dataBlock) (st .count + 1) (ifB (isKind k (hdr 1)) 0 (st .count))
+    → pending ≡ ifB (isKind k dataBlock) (outcomeIn (labelAt s (st .second)) (st .pending) (part start len s) .pending) (st .pending)
+    → contents s (record { phase = p; names = names; reels = reels; files = files; ongoing = ongoing; first = first; second = second; count = count; pending = pending })
+      ≡ stateAfter (contents s st) p k (part start len s)
+unfolding contents stateAfter namesAfter filesAfter goesOnAfter firstAfter secondAfter countAfter pendingAfter
+contents-after s st p k start len names reels files first second count pending ongoing z room en er ef eo e1 e2 ec ep =
+    let a : namesAt s (take reels names) ≡ ifB (isKind k (vol 1)) (namesAt s (take (st .reels) (st .names)) ++ (volumeOf (part start len s) ∷ [])) (namesAt s (take (st .reels) (st .names)))
+            = ap (λ (n : ℕ). namesAt s (take n names)) er ∙ ap (λ (l : List ℕ). namesAt s (take (ifB (isKind k (vol 1)) (st .reels + 1) (st .reels)) l)) en
+            ∙ names-kept s (st .names) (st .reels) start len (isKind k (vol 1)) (z .volume) room in
+    let b : labelAt s first ≡ ifB (isKind k (hdr 1)) (part start len s) (labelAt s (st .first))
+            = ap (labelAt s) e1 ∙ label-after s (isKind k (hdr 1)) start len (st .first) (z .first) in
+    let d : labelAt s second ≡ ifB (isKind k (hdr 2)) (part start len s) (labelAt s (st .second))
+            = ap (labelAt s) e2 ∙ label-after s (isKind k (hdr 2)) start len (st .second) (z .second) in
+    λ i. record { phase = p; names = a i; files = ef i; goesOn = eo i; first = b i; second = d i; count = ec i; pending = ep i }
+
+-- ---- room for a name
+
+length-names : (s places : List ℕ) → length (namesAt s places) ≡ length places
+unfolding namesAt
+length-names s [] = refl
+length-names s (a ∷ places) = ap suc (length-names s places)
+
+-- of two faults neither is one, where the first that is one is none
+pub second-sound : (f g : Fault) → orElse f g .number ≡ 0 → g .number ≡ 0
+unfolding orElse
+second-sound f g =
+    if-case (λ (x : Fault). x .number ≡ 0 → g .number ≡ 0) (eqb (f .number) 0) g f (λ _ h. h)
+    (λ e h. absurd (eqb-false (f .number) 0 e h))
+
+-- a volume label behind sixteen others is refused
+names-room : (names : List (List ℕ)) (l : List ℕ) → volumeFault names l .number ≡ 0 → length names < 16
+unfolding volumeFault fault
+names-room names l =
+    if-case (λ (x : Fault). x .number ≡ 0 → length names < 16) (leb mostReels (length names)) _ _
+    (λ _ h. absurd (eqb-false 2 0 refl h)) (λ e _. leb-false mostReels (length names) e)
+
+-- so one without fault is at most the sixteenth
+pub room-for-name : (s : List ℕ) (st : Reading) (k : Kind) (l : List ℕ) (f : Fault) → f ≡ itemFault (contents s st) k l → f .number ≡ 0
+    → length (st .names) ≡ 16 → isKind k (vol 1) ≡ true → st .reels < length (st .names)
+unfolding itemFault contextFault isKind ifB contents
+room-for-name s st k l f e z n v =
+    let sound : itemFault (contents s st) k l .number ≡ 0 = ap (λ (x : Fault). x .number) (sym e) ∙ z in
+    let here : itemFault (contents s st) (vol 1) l .number ≡ 0 = subst (λ (j : Kind). itemFault (contents s st) j l .number ≡ 0) (kind-is k (vol 1) v) sound in
+    let few : length (namesAt s (take (st .reels) (st .names))) < 16 = names-room _ l (second-sound (labelFault (vol 1) l) (volumeFault _ l) here) in
+    omega (arith, length-names s (take (st .reels) (st .names)), length-take (st .reels) (st .names))

@@ -1,0 +1,86 @@
+// The reading behind an item, field by field. It knows kinds, and places for labels.
+ghost use mathlib.Core.Path.{_≡_};
+ghost use mathlib.Core.Bool.{true, false};
+ghost use Prim.Native.Nat.{_+_, _<_};
+ghost use lib.ListN.{set};
+ghost use Rattle.base.specs.If.{ifB};
+ghost use Rattle.order.specs.Kind.{vol, hdr, eov, eof, dataBlock, isKind};
+
+use order::{is, Kind, DATA_BLOCK, EOF, EOV, HDR, VOL};
+
+// The places of the volume labels, with one more behind VOL1.
+pub(crate) fn names_after(names: [usize; 16], reels: usize, k: Kind, start: usize) -> [usize; 16]
+    ensures { λ r. ⌜ r ≡ ifB (isKind k (vol 1)) (set names reels start) names ⌝ }
+{
+    if is(k, VOL, 1) {
+        if reels < 16 {
+            let mut kept = names;
+            kept[reels] = start;
+            return kept;
+        }
+        return names;
+    }
+    names
+}
+
+// The volume labels read.
+pub(crate) fn reels_after(reels: usize, k: Kind) -> usize
+    requires { ⌜ reels < 4294967295 ⌝ }
+    ensures { λ r. ⌜ r ≡ ifB (isKind k (vol 1)) (reels + 1) reels ⌝ }
+{
+    if is(k, VOL, 1) {
+        return reels + 1;
+    }
+    reels
+}
+
+// The files begun: a new one is counted at HDR2.
+pub(crate) fn files_after(files: u32, ongoing: bool, k: Kind) -> u32
+    requires { ⌜ files < 4294967295 ⌝ }
+    ensures { λ r. ⌜ r ≡ ifB (isKind k (hdr 2)) (ifB ongoing files (files + 1)) files ⌝ }
+{
+    if is(k, HDR, 2) {
+        if ongoing {
+            return files;
+        }
+        return files + 1;
+    }
+    files
+}
+
+// Whether the next HDR1 goes on with a file.
+pub(crate) fn ongoing_after(ongoing: bool, k: Kind) -> bool
+    ensures { λ r. ⌜ r ≡ ifB (isKind k (eov 1)) true (ifB (isKind k (eof 1)) false ongoing) ⌝ }
+{
+    if is(k, EOV, 1) {
+        return true;
+    }
+    if is(k, EOF, 1) {
+        return false;
+    }
+    ongoing
+}
+
+// The place of the last HDR of that number.
+pub(crate) fn header_after(kept: usize, k: Kind, number: u32, start: usize) -> usize
+    ensures { λ r. ⌜ r ≡ ifB (isKind k (hdr number)) start kept ⌝ }
+{
+    if is(k, HDR, number) {
+        return start;
+    }
+    kept
+}
+
+// The blocks of the section: from 0 behind HDR1.
+pub(crate) fn count_after(count: usize, k: Kind) -> usize
+    requires { ⌜ count < 4294967295 ⌝ }
+    ensures { λ r. ⌜ r ≡ ifB (isKind k dataBlock) (count + 1) (ifB (isKind k (hdr 1)) 0 count) ⌝ }
+{
+    if is(k, DATA_BLOCK, 0) {
+        return count + 1;
+    }
+    if is(k, HDR, 1) {
+        return 0;
+    }
+    count
+}
