@@ -1,16 +1,14 @@
 -- The equations of `cut`, without the number that it counts down. Assumes nothing.
-use mathlib.Core.Path.{_≡_, refl, sym, ap, _∙_}
-use mathlib.Core.Bool.{Bool, true, false}
-use mathlib.Core.List.{List, [], _∷_}
+use mathlib.Core.Path.{_≡_, refl, ap, _∙_}
+use mathlib.Core.List.{List, []}
 use mathlib.Core.Option.{Option, none, some}
-use Prim.Native.Nat.{ℕ, zero, suc, _+_, _-_, _≤_, _<_}
+use Prim.Native.Nat.{ℕ, zero, suc, _+_, _<_}
 use native.Mathlib.Omega.{arith}
 use lib.ListN.{length, drop, length-drop}
-use lib.Seq.{drop-drop}
 use Rattle.base.specs.If.{ifB}
 use Rattle.base.specs.Part.{part, allAre}
 use Rattle.block.specs.Unit.{unitOf, pad}
-use Rattle.block.specs.Cut.{Segment, segmentOf, onto, cutOne, cutF, cut, someUnits}
+use Rattle.block.specs.Cut.{Segment, segmentOf, onto, cutOne, cutF, cut}
 use Rattle.block.specs.declared.Unit.{Unit}
 use Rattle.block.specs.declared.Unit.the-variants.{Of, None}
 use Rattle.block.proofs.Units.{unit-stands}

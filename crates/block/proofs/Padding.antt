@@ -6,11 +6,11 @@ use Prim.Native.Nat.{ℕ, zero, suc, _+_, _-_, _≤_, _<_}
 use native.Mathlib.Omega.{arith}
 use native.Mathlib.Numerals.{add-one}
 use borrow.Author.Needs.{needs}
-use borrow.Author.Tests.{not-true, not-false}
+use borrow.Author.Tests.{not-true, not-false, ne-eqb}
 use lib.Dec.{eqb}
 use lib.ListN.{length, take, drop, getD, take-append-drop}
-use lib.Seq.{drop-cons, drop-drop, take-all, length-take-le}
-use Rattle.base.specs.If.{ifB, if-true, if-false, so-false}
+use lib.Seq.{drop-cons, drop-drop}
+use Rattle.base.specs.If.{ifB}
 use Rattle.base.specs.Part.{part, allAre}
 use Rattle.base.proofs.Bytes.{all-end, all-other}
 use Rattle.base.proofs.Parts.{part-to-end}
@@ -39,6 +39,14 @@ all-split b n s i =
     ap (allAre b) (sym (take-append-drop n (drop i s)))
     ∙ all-append b (take n (drop i s)) (drop n (drop i s))
     ∙ ap (λ (t : List ℕ). allAre b (take n (drop i s)) && allAre b t) (drop-drop n i s)
+
+-- the byte at a place is another one
+pub all-other-head : (b n : ℕ) (s : List ℕ) (i : ℕ) → 0 < n → i < length s → (getD s i 0 ≡ b → ⊥) → allAre b (take n (drop i s)) ≡ false
+all-other-head b zero s i h l e = absurd (omega arith)
+all-other-head b (suc n) s i h l e =
+    ap (λ (t : List ℕ). allAre b (take (suc n) t)) (drop-cons s i 0 l)
+    ∙ all-cons b (getD s i 0) (take n (drop (suc i) s))
+    ∙ ap (λ (u : Bool). u && allAre b (take n (drop (suc i) s))) (ne-eqb (getD s i 0) b e)
 
 -- a loop is at place i of s, and `all` says whether all before i is b
 pub record Looked (b : ℕ) (s : List ℕ) (all : Bool) (i : ℕ) : Type 0 where
@@ -83,3 +91,14 @@ pub first-other : (b : ℕ) (s : List ℕ) → (length s ≡ 0 → ⊥) → (get
 first-other b s h e = sym (all-other b s 0 (omega arith) e)
 
 pub ruleset looking = (looked-none, looked-more, looked-all, chunk-more, chunk-other, chunk-last, first-none, first-other, needs)
+
+-- what is left from a place on
+
+pub padding-none : (b : ℕ) (s : List ℕ) (at : ℕ) → length s ≤ at → true ≡ allAre b (drop at s)
+padding-none b s at h = sym (all-end b s at h)
+
+pub padding-rest : (b : ℕ) (s : List ℕ) (at : ℕ) (p : Bool) → p ≡ allAre b (take (length s - at) (drop at s)) → p ≡ allAre b (drop at s)
+unfolding part
+padding-rest b s at p e = e ∙ ap (allAre b) (part-to-end at s)
+
+pub ruleset paddings = (padding-none, padding-rest, needs)

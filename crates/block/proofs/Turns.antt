@@ -1,40 +1,30 @@
--- Laws of turns, and of the two loops over the units of a block. Assumes nothing.
+-- Laws of turns, of the loop over segments, and of the answer on a block. Assumes nothing.
 use mathlib.Core.Path.{_≡_, refl, sym, ap, _∙_}
 use mathlib.Core.Bool.{Bool, true, false, not, false≢true}
-use mathlib.Core.List.{List, [], _∷_}
+use mathlib.Core.List.{List, []}
 use mathlib.Core.Option.{Option, none, some}
-use Prim.Native.Nat.{ℕ, zero, suc, _+_, _-_, _≤_, _<_, _^_}
+use Prim.Native.Nat.{ℕ, _+_, _-_, _≤_, _<_}
 use native.Mathlib.Omega.{arith}
 use borrow.Author.Needs.{needs}
-use borrow.Author.Tests.{le-leb, lt-leb, leb-true, leb-false, eq-eqb, ne-eqb, eqb-true, eqb-false, not-true, not-false}
+use borrow.Author.Tests.{le-leb, lt-leb, leb-true, leb-false, eq-eqb, ne-eqb, eqb-true, not-true, not-false}
 use mir.Val.{Fits}
 use mir.Syntax.{w64}
 use lib.Dec.{leb, eqb}
-use lib.ListN.{length, take, drop, length-drop}
+use lib.ListN.{length, drop, length-drop}
 use lib.Seq.{drop-drop}
 use Rattle.base.specs.If.{ifB, if-true, if-false, if-case, if-same}
 use Rattle.base.specs.Part.{part, allAre}
-use Rattle.base.proofs.Parts.{length-part, part-to-end}
-use Rattle.base.proofs.Bytes.{all-end}
-use Rattle.block.specs.Unit.{unitOf}
-use Rattle.block.specs.Cut.{Segment, segmentOf, onto, cut, someUnits, units}
-use Rattle.block.specs.Turn.{outcome, isTurn, openAfter, turnsFrom, turned, outOfTurn, blockOutcome}
+use Rattle.base.proofs.Parts.{length-part}
+use Rattle.block.specs.Unit.{segment, unitOf}
+use Rattle.block.specs.Cut.{Segment, segmentOf, onto, cut, someUnits, isCut}
+use Rattle.block.specs.Turn.{outcome, isTurn, openAfter, turnsFrom, turned}
 use Rattle.block.specs.declared.Unit.{Unit}
 use Rattle.block.specs.declared.Unit.the-variants.{Of, None}
 use Rattle.block.specs.declared.Outcome.{Outcome}
-use Rattle.block.proofs.Units.{Stands, unit-stands}
+use Rattle.block.proofs.Units.{unit-stands}
 use Rattle.block.proofs.Cuts.{cut-unit, cut-end}
-
--- ---- what is left from a place on is padding
-
-pub padding-none : (b : ℕ) (s : List ℕ) (at : ℕ) → length s ≤ at → true ≡ allAre b (drop at s)
-padding-none b s at h = sym (all-end b s at h)
-
-pub padding-rest : (b : ℕ) (s : List ℕ) (at : ℕ) (p : Bool) → p ≡ allAre b (take (length s - at) (drop at s)) → p ≡ allAre b (drop at s)
-unfolding part
-padding-rest b s at p e = e ∙ ap (allAre b) (part-to-end at s)
-
-pub ruleset paddings = (padding-none, padding-rest, needs)
+use Rattle.block.proofs.Lengths.{unit-segment}
+use Rattle.block.proofs.Loops.{dueAt, due-onto, due-later, due-first, cut-onto, some-padding, cutting-first}
 
 -- ---- one turn
 
@@ -87,176 +77,166 @@ turn-fits r o head i n =
     (λ d q. absurd (false≢true q)) (λ d q. let k = leb-true (o - 1 + n) r q in omega arith))
     (λ b q. absurd (false≢true q)))
 
--- ---- the unit at a place, and what follows it
+-- what is open goes by R, which has 32 bits
+pub turn-room : (r o : ℕ) (head : Bool) (i n : ℕ) (p : Bool) → r < 4294967296 → p ≡ isTurn r o head i n → not p ≡ false → o + n ≤ 4294967296
+turn-room r o head i n p h e y = let k = turn-fits r o head i n (sym e ∙ not-false p y) in omega arith
 
--- a unit stands at place `at` of s
-record Here (f r : ℕ) (s : List ℕ) (at i w n : ℕ) : Type 0 where
+-- ---- one unit more in front
+
+-- behind a unit out of turn: number 8, or 7 where what is left cannot be cut
+abbrev outOfTurn : Bool → Outcome
+outOfTurn p = ifB p (outcome 8 0) (outcome 7 0)
+
+turned-onto : (r o : ℕ) (head : Bool) (x : Segment) (c : Option (List Segment))
+    → turned r o head (onto x c)
+    ≡ ifB (isTurn r o head (x .indicator) (length (x .bytes))) (turned r (openAfter o (x .indicator) (length (x .bytes))) false c) (outOfTurn (isCut c))
+unfolding turned onto isCut turnsFrom
+turned-onto r o head x none =
+    sym (ap (λ (y : Outcome). ifB (isTurn r o head (x .indicator) (length (x .bytes))) (outcome 7 0) y) (if-false _ _ _ refl) ∙ if-same _ _)
+turned-onto r o head x (some xs) =
+    ap (λ (y : Outcome). ifB (isTurn r o head (x .indicator) (length (x .bytes))) (turnsFrom r (openAfter o (x .indicator) (length (x .bytes))) false xs) y)
+    (sym (if-true _ _ _ refl))
+
+-- ---- the loop over segments
+
+-- the segment at a place
+record Here (r : ℕ) (s : List ℕ) (at i w n : ℕ) : Type 0 where
   some : 1 ≤ w + n
   within : at + w + n ≤ length s
   bytes : length (part w n (drop at s)) ≡ n
-  cuts : cut f r (drop at s) ≡ onto (segmentOf i (part w n (drop at s))) (cut f r (drop (at + w + n) s))
+  cuts : cut 83 r (drop at s) ≡ onto (segmentOf i (part w n (drop at s))) (cut 83 r (drop (at + w + n) s))
 
-here : (f r : ℕ) (s : List ℕ) (at i w n : ℕ) (u : Unit) → u ≡ unitOf f r (drop at s) → u ≡ Of i w n → Here f r s at i w n
-here f r s at i w n u e q =
-    let k : unitOf f r (drop at s) ≡ Of i w n = sym e ∙ q in
-    let c = unit-stands f r (drop at s) i w n k in
+here : (r : ℕ) (s : List ℕ) (at i w n : ℕ) (u : Unit) → u ≡ segment (drop at s) → u ≡ Of i w n → Here r s at i w n
+here r s at i w n u e q =
+    let k : unitOf 83 r (drop at s) ≡ Of i w n = unit-segment 83 r (drop at s) refl ∙ sym e ∙ q in
+    let c = unit-stands 83 r (drop at s) i w n k in
     let l = length-drop at s in
     let sum : at + (w + n) ≡ at + w + n = omega arith in
     record {
       some = c .some;
       within = omega arith;
       bytes = length-part w n (drop at s) (c .within);
-      cuts = cut-unit f r (drop at s) i w n k
-      ∙ ap (λ (t : List ℕ). onto (segmentOf i (part w n (drop at s))) (cut f r t)) (drop-drop (w + n) at s ∙ ap (λ (j : ℕ). drop j s) sum)
+      cuts = cut-unit 83 r (drop at s) i w n k
+          ∙ ap (λ (t : List ℕ). onto (segmentOf i (part w n (drop at s))) (cut 83 r t)) (drop-drop (w + n) at s ∙ ap (λ (j : ℕ). drop j s) sum);
     }
 
--- no unit stands there: what is left is padding, or cannot be cut
-over : (f r : ℕ) (s : List ℕ) (at : ℕ) (u : Unit) (p : Bool) → u ≡ unitOf f r (drop at s) → u ≡ None → p ≡ allAre 94 (drop at s)
-    → cut f r (drop at s) ≡ ifB p (some []) none
-over f r s at u p e q a = cut-end f r (drop at s) (sym e ∙ q) ∙ ap (λ (b : Bool). ifB b (some []) none) (sym a)
+pub place-fits : (s : List ℕ) (at i w n : ℕ) (u : Unit) → length s < 18446744073709551616 → u ≡ segment (drop at s) → u ≡ Of i w n → Fits w64 (at + w + n)
+place-fits s at i w n u l e q = let h = here 0 s at i w n u e q in omega arith
 
--- ---- the loop behind a unit out of turn
+pub word-fits : (s : List ℕ) (at i w n : ℕ) (u : Unit) → length s < 18446744073709551616 → u ≡ segment (drop at s) → u ≡ Of i w n → Fits w64 (at + w)
+word-fits s at i w n u l e q = let h = here 0 s at i w n u e q in omega arith
 
-out-onto : (x : Segment) (c : Option (List Segment)) → outOfTurn (onto x c) ≡ outOfTurn c
-unfolding outOfTurn onto
-out-onto x none = refl
-out-onto x (some xs) = refl
+pub unit-less : (s : List ℕ) (at i w n : ℕ) (u : Unit) → u ≡ segment (drop at s) → u ≡ Of i w n → length s - (at + w + n) < length s - at
+unit-less s at i w n u e q = let h = here 0 s at i w n u e q in omega arith
 
--- the loop is at place `at`
-pub record Cutting (f r : ℕ) (s : List ℕ) (from at : ℕ) : Type 0 where
+-- a loop that began at `from` with q open is at `at` with o open
+pub record Turning (r : ℕ) (s : List ℕ) (q from o at : ℕ) : Type 0 where
   pub room : length s < 18446744073709551616
-  pub left : outOfTurn (cut f r (drop at s)) ≡ outOfTurn (cut f r (drop from s))
+  pub past : from ≤ at
+  pub cuts : isCut (dueAt (eqb at from) (cut 83 r (drop at s))) ≡ isCut (someUnits (cut 83 r (drop from s)))
+  pub left : turned r o (eqb at from) (dueAt (eqb at from) (cut 83 r (drop at s))) ≡ turned r q true (someUnits (cut 83 r (drop from s)))
 
-pub cutting-more : (f r : ℕ) (s : List ℕ) (from at i w n : ℕ) (u : Unit) → Cutting f r s from at → u ≡ unitOf f r (drop at s) → u ≡ Of i w n
-    → Cutting f r s from (at + w + n)
-cutting-more f r s from at i w n u c e q =
-    let h = here f r s at i w n u e q in
-    record { room = c .room; left = sym (ap outOfTurn (h .cuts) ∙ out-onto (segmentOf i (part w n (drop at s))) (cut f r (drop (at + w + n) s))) ∙ c .left }
+pub turning-first : (r : ℕ) (s : List ℕ) (q from : ℕ)
+    → turned r q (eqb from from) (dueAt (eqb from from) (cut 83 r (drop from s))) ≡ turned r q true (someUnits (cut 83 r (drop from s)))
+turning-first r s q from =
+    ap (λ (h : Bool). turned r q h (dueAt (eqb from from) (cut 83 r (drop from s)))) (eq-eqb from from refl)
+    ∙ ap (turned r q true) (due-first from from (cut 83 r (drop from s)) refl)
 
--- less is left behind a unit, and the place behind it is one of the slice
-pub unit-less : (f r : ℕ) (s : List ℕ) (at i w n : ℕ) (u : Unit) → u ≡ unitOf f r (drop at s) → u ≡ Of i w n → length s - (at + w + n) < length s - at
-unit-less f r s at i w n u e q = let h = here f r s at i w n u e q in omega arith
+-- the segment is tested, and what follows it goes on or decides between 7 and 8
+turned-here : (r : ℕ) (s : List ℕ) (o : ℕ) (head : Bool) (at i w n : ℕ) → Here r s at i w n
+    → turned r o head (dueAt head (cut 83 r (drop at s)))
+    ≡ ifB (isTurn r o head i n) (turned r (openAfter o i n) false (cut 83 r (drop (at + w + n) s))) (outOfTurn (isCut (cut 83 r (drop (at + w + n) s))))
+turned-here r s o head at i w n h =
+    ap (λ (c : Option (List Segment)). turned r o head (dueAt head c)) (h .cuts)
+    ∙ ap (turned r o head) (due-onto head (segmentOf i (part w n (drop at s))) (cut 83 r (drop (at + w + n) s)))
+    ∙ turned-onto r o head (segmentOf i (part w n (drop at s))) (cut 83 r (drop (at + w + n) s))
+    ∙ ap (λ (k : ℕ). ifB (isTurn r o head i k) (turned r (openAfter o i k) false (cut 83 r (drop (at + w + n) s))) (outOfTurn (isCut (cut 83 r (drop (at + w + n) s))))) (h .bytes)
 
-pub place-fits : (f r : ℕ) (s : List ℕ) (at i w n : ℕ) (u : Unit) → length s < 18446744073709551616 → u ≡ unitOf f r (drop at s) → u ≡ Of i w n
-    → Fits w64 (at + w + n)
-place-fits f r s at i w n u l e q = let h = here f r s at i w n u e q in omega arith
+cut-here : (r : ℕ) (s : List ℕ) (head : Bool) (at i w n : ℕ) → Here r s at i w n
+    → isCut (dueAt head (cut 83 r (drop at s))) ≡ isCut (cut 83 r (drop (at + w + n) s))
+cut-here r s head at i w n h =
+    ap (λ (c : Option (List Segment)). isCut (dueAt head c)) (h .cuts)
+    ∙ ap isCut (due-onto head (segmentOf i (part w n (drop at s))) (cut 83 r (drop (at + w + n) s)))
+    ∙ cut-onto (segmentOf i (part w n (drop at s))) (cut 83 r (drop (at + w + n) s))
 
-pub word-fits : (f r : ℕ) (s : List ℕ) (at i w n : ℕ) (u : Unit) → length s < 18446744073709551616 → u ≡ unitOf f r (drop at s) → u ≡ Of i w n
-    → Fits w64 (at + w)
-word-fits f r s at i w n u l e q = let h = here f r s at i w n u e q in omega arith
-
-pub cutting-over : (f r : ℕ) (s : List ℕ) (from at : ℕ) (u : Unit) (p : Bool) → Cutting f r s from at → u ≡ unitOf f r (drop at s) → u ≡ None
-    → p ≡ allAre 94 (drop at s) → p ≡ true → outcome 8 0 ≡ outOfTurn (cut f r (drop from s))
-unfolding outOfTurn
-cutting-over f r s from at u p c e q a t = sym (ap outOfTurn (over f r s at u p e q a ∙ if-true _ _ _ t)) ∙ c .left
-
-pub cutting-stuck : (f r : ℕ) (s : List ℕ) (from at : ℕ) (u : Unit) (p : Bool) → Cutting f r s from at → u ≡ unitOf f r (drop at s) → u ≡ None
-    → p ≡ allAre 94 (drop at s) → p ≡ false → outcome 7 0 ≡ outOfTurn (cut f r (drop from s))
-unfolding outOfTurn
-cutting-stuck f r s from at u p c e q a t = sym (ap outOfTurn (over f r s at u p e q a ∙ if-false _ _ _ t)) ∙ c .left
-
-pub ruleset cuttings = (cutting-more, place-fits, word-fits, unit-less, cutting-over, cutting-stuck, needs)
-
--- ---- the loop over the units behind the first
-
-turned-onto : (r o : ℕ) (head : Bool) (x : Segment) (c : Option (List Segment))
-    → turned r o head (onto x c) ≡ ifB (isTurn r o head (x .indicator) (length (x .bytes))) (turned r (openAfter o (x .indicator) (length (x .bytes))) false c) (outOfTurn c)
-unfolding turned onto outOfTurn turnsFrom
-turned-onto r o head x none = sym (if-same _ _)
-turned-onto r o head x (some xs) = refl
-
--- the unit at a place is tested, and what follows it goes on or decides between 7 and 8
-turned-at : (f r : ℕ) (s : List ℕ) (o : ℕ) (head : Bool) (at i w n : ℕ) → Here f r s at i w n
-    → turned r o head (cut f r (drop at s))
-    ≡ ifB (isTurn r o head i n) (turned r (openAfter o i n) false (cut f r (drop (at + w + n) s))) (outOfTurn (cut f r (drop (at + w + n) s)))
-turned-at f r s o head at i w n h =
-    ap (turned r o head) (h .cuts)
-    ∙ turned-onto r o head (segmentOf i (part w n (drop at s))) (cut f r (drop (at + w + n) s))
-    ∙ ap (λ (k : ℕ). ifB (isTurn r o head i k) (turned r (openAfter o i k) false (cut f r (drop (at + w + n) s))) (outOfTurn (cut f r (drop (at + w + n) s)))) (h .bytes)
-
--- the loop is at place `at`, with o open, having begun at `from` with q open
-pub record Turning (f r : ℕ) (s : List ℕ) (q from o at : ℕ) : Type 0 where
-  pub room : length s < 18446744073709551616
-  pub left : turned r o false (cut f r (drop at s)) ≡ turned r q false (cut f r (drop from s))
-
-pub turning-more : (f r : ℕ) (s : List ℕ) (q from o at i w n : ℕ) (u : Unit) (p : Bool) (o′ : ℕ) → Turning f r s q from o at
-    → u ≡ unitOf f r (drop at s) → u ≡ Of i w n → p ≡ isTurn r o false i n → not p ≡ false → o′ ≡ openAfter o i n → Turning f r s q from o′ (at + w + n)
-turning-more f r s q from o at i w n u p o′ c e k t y m =
+pub turning-more : (r : ℕ) (s : List ℕ) (q from o at i w n : ℕ) (u : Unit) (p : Bool) (o′ : ℕ) → Turning r s q from o at
+    → u ≡ segment (drop at s) → u ≡ Of i w n → p ≡ isTurn r o (eqb at from) i n → not p ≡ false → o′ ≡ openAfter o i n → Turning r s q from o′ (at + w + n)
+turning-more r s q from o at i w n u p o′ c e k t y m =
+    let h = here r s at i w n u e k in
+    let a = c .past in
+    let b = h .some in
+    let far : at + w + n ≡ from → ⊥ = λ x. omega arith in
     record {
       room = c .room;
-      left = ap (λ (j : ℕ). turned r j false (cut f r (drop (at + w + n) s))) m
-      ∙ sym (turned-at f r s o false at i w n (here f r s at i w n u e k) ∙ if-true _ _ _ (sym t ∙ not-false p y))
-      ∙ c .left
+      past = omega arith;
+      cuts = ap isCut (due-later (at + w + n) from (cut 83 r (drop (at + w + n) s)) far) ∙ sym (cut-here r s (eqb at from) at i w n h) ∙ c .cuts;
+      left = ap (λ (x : Bool). turned r o′ x (dueAt (eqb (at + w + n) from) (cut 83 r (drop (at + w + n) s)))) (ne-eqb (at + w + n) from far)
+          ∙ ap (turned r o′ false) (due-later (at + w + n) from (cut 83 r (drop (at + w + n) s)) far)
+          ∙ ap (λ (j : ℕ). turned r j false (cut 83 r (drop (at + w + n) s))) m
+          ∙ sym (turned-here r s o (eqb at from) at i w n h ∙ if-true _ _ _ (sym t ∙ not-false p y))
+          ∙ c .left;
     }
 
-pub turning-wrong : (f r : ℕ) (s : List ℕ) (q from o at i w n : ℕ) (u : Unit) (p : Bool) (x : Outcome) → Turning f r s q from o at
-    → u ≡ unitOf f r (drop at s) → u ≡ Of i w n → p ≡ isTurn r o false i n → not p ≡ true → x ≡ outOfTurn (cut f r (drop (at + w + n) s))
-    → x ≡ turned r q false (cut f r (drop from s))
-turning-wrong f r s q from o at i w n u p x c e k t y m =
-    m ∙ sym (turned-at f r s o false at i w n (here f r s at i w n u e k) ∙ if-false _ _ _ (sym t ∙ not-true p y)) ∙ c .left
+turning-wrong : (r : ℕ) (s : List ℕ) (q from o at i w n : ℕ) (u : Unit) (p z : Bool) → Turning r s q from o at
+    → u ≡ segment (drop at s) → u ≡ Of i w n → p ≡ isTurn r o (eqb at from) i n → not p ≡ true → z ≡ isCut (someUnits (cut 83 r (drop from s)))
+    → outOfTurn z ≡ turned r q true (someUnits (cut 83 r (drop from s)))
+turning-wrong r s q from o at i w n u p z c e k t y m =
+    let h = here r s at i w n u e k in
+    ap outOfTurn (m ∙ sym (c .cuts) ∙ cut-here r s (eqb at from) at i w n h)
+    ∙ sym (turned-here r s o (eqb at from) at i w n h ∙ if-false _ _ _ (sym t ∙ not-true p y))
+    ∙ c .left
 
--- what is open goes by R, which has 32 bits
-pub turn-room : (r o : ℕ) (head : Bool) (i n : ℕ) (p : Bool) → r < 4294967296 → p ≡ isTurn r o head i n → not p ≡ false → o + n ≤ 4294967296
-turn-room r o head i n p h e y = let k = turn-fits r o head i n (sym e ∙ not-false p y) in omega arith
+pub turning-8 : (r : ℕ) (s : List ℕ) (q from o at i w n : ℕ) (u : Unit) (p z : Bool) → Turning r s q from o at
+    → u ≡ segment (drop at s) → u ≡ Of i w n → p ≡ isTurn r o (eqb at from) i n → not p ≡ true → z ≡ isCut (someUnits (cut 83 r (drop from s))) → z ≡ true
+    → outcome 8 0 ≡ turned r q true (someUnits (cut 83 r (drop from s)))
+turning-8 r s q from o at i w n u p z c e k t y m h = sym (if-true _ _ _ h) ∙ turning-wrong r s q from o at i w n u p z c e k t y m
 
-pub turning-over : (f r : ℕ) (s : List ℕ) (q from o at : ℕ) (u : Unit) (p : Bool) → Turning f r s q from o at → u ≡ unitOf f r (drop at s) → u ≡ None
-    → p ≡ allAre 94 (drop at s) → p ≡ true → outcome 0 o ≡ turned r q false (cut f r (drop from s))
-unfolding turned turnsFrom
-turning-over f r s q from o at u p c e k a t = sym (ap (turned r o false) (over f r s at u p e k a ∙ if-true _ _ _ t)) ∙ c .left
+pub turning-7 : (r : ℕ) (s : List ℕ) (q from o at i w n : ℕ) (u : Unit) (p z : Bool) → Turning r s q from o at
+    → u ≡ segment (drop at s) → u ≡ Of i w n → p ≡ isTurn r o (eqb at from) i n → not p ≡ true → z ≡ isCut (someUnits (cut 83 r (drop from s))) → z ≡ false
+    → outcome 7 0 ≡ turned r q true (someUnits (cut 83 r (drop from s)))
+turning-7 r s q from o at i w n u p z c e k t y m h = sym (if-false _ _ _ h) ∙ turning-wrong r s q from o at i w n u p z c e k t y m
 
-pub turning-stuck : (f r : ℕ) (s : List ℕ) (q from o at : ℕ) (u : Unit) (p : Bool) → Turning f r s q from o at → u ≡ unitOf f r (drop at s) → u ≡ None
-    → p ≡ allAre 94 (drop at s) → p ≡ false → outcome 7 0 ≡ turned r q false (cut f r (drop from s))
+-- no segment stands there
+over : (r : ℕ) (s : List ℕ) (at : ℕ) (u : Unit) → u ≡ segment (drop at s) → u ≡ None → cut 83 r (drop at s) ≡ ifB (allAre 94 (drop at s)) (some []) none
+over r s at u e k = cut-end 83 r (drop at s) (unit-segment 83 r (drop at s) refl ∙ sym e ∙ k)
+
+turned-none : (r o : ℕ) (head : Bool) → turned r o head none ≡ outcome 7 0
 unfolding turned
-turning-stuck f r s q from o at u p c e k a t = sym (ap (turned r o false) (over f r s at u p e k a ∙ if-false _ _ _ t)) ∙ c .left
+turned-none r o head = refl
 
-pub ruleset turnings = (turning-more, turning-wrong, turn-room, place-fits, word-fits, unit-less, turning-over, turning-stuck, needs)
+turned-done : (r o : ℕ) (head : Bool) → turned r o head (some []) ≡ outcome 0 o
+unfolding turned turnsFrom
+turned-done r o head = refl
 
--- ---- the whole block
+pub turning-none : (r : ℕ) (s : List ℕ) (q from o at : ℕ) (u : Unit) → Turning r s q from o at → u ≡ segment (drop at s) → u ≡ None → at ≡ from
+    → outcome 7 0 ≡ turned r q true (someUnits (cut 83 r (drop from s)))
+turning-none r s q from o at u c e k h =
+    sym (ap (turned r o (eqb at from))
+    (due-first at from (cut 83 r (drop at s)) h ∙ ap someUnits (over r s at u e k) ∙ some-padding (allAre 94 (drop at s)))
+    ∙ turned-none r o (eqb at from))
+    ∙ c .left
 
-some-onto : (x : Segment) (c : Option (List Segment)) → someUnits (onto x c) ≡ onto x c
-unfolding someUnits onto
-some-onto x none = refl
-some-onto x (some xs) = refl
+-- what is left is padding, or is not
+turning-left : (r : ℕ) (s : List ℕ) (q from o at : ℕ) (u : Unit) (p : Bool) → Turning r s q from o at → u ≡ segment (drop at s) → u ≡ None → (at ≡ from → ⊥)
+    → p ≡ allAre 94 (drop at s) → turned r o (eqb at from) (ifB p (some []) none) ≡ turned r q true (someUnits (cut 83 r (drop from s)))
+turning-left r s q from o at u p c e k h a =
+    ap (λ (b : Bool). turned r o (eqb at from) (ifB b (some []) none)) a
+    ∙ sym (ap (turned r o (eqb at from)) (due-later at from (cut 83 r (drop at s)) h ∙ over r s at u e k))
+    ∙ c .left
 
--- a block of at most b bytes, with a unit behind the offset: it is long enough, and there is one unit or more
-block-at : (f b r o q : ℕ) (s : List ℕ) (i w n : ℕ) → length s ≤ b → Here f r s o i w n → blockOutcome f b r o q s ≡ turned r q true (cut f r (drop o s))
-unfolding blockOutcome units
-block-at f b r o q s i w n h c =
-    ap (turned r q true)
-    (if-true _ _ _ (le-leb (length s) b h)
-    ∙ if-true _ _ _ (le-leb o (length s) (omega arith))
-    ∙ ap someUnits (c .cuts) ∙ some-onto (segmentOf i (part w n (drop o s))) (cut f r (drop (o + w + n) s)) ∙ sym (c .cuts))
+pub turning-over : (r : ℕ) (s : List ℕ) (q from o at : ℕ) (u : Unit) (p : Bool) → Turning r s q from o at → u ≡ segment (drop at s) → u ≡ None → (at ≡ from → ⊥)
+    → p ≡ allAre 94 (drop at s) → p ≡ true → outcome 0 o ≡ turned r q true (someUnits (cut 83 r (drop from s)))
+turning-over r s q from o at u p c e k h a t =
+    sym (ap (turned r o (eqb at from)) (if-true _ _ _ t) ∙ turned-done r o (eqb at from)) ∙ turning-left r s q from o at u p c e k h a
 
-pub block-long : (f b r o q : ℕ) (s : List ℕ) → b < length s → outcome 7 0 ≡ blockOutcome f b r o q s
-unfolding blockOutcome units turned
-block-long f b r o q s h = sym (ap (turned r q true) (if-false _ _ _ (lt-leb (length s) b h)))
+pub turning-stuck : (r : ℕ) (s : List ℕ) (q from o at : ℕ) (u : Unit) (p : Bool) → Turning r s q from o at → u ≡ segment (drop at s) → u ≡ None → (at ≡ from → ⊥)
+    → p ≡ allAre 94 (drop at s) → p ≡ false → outcome 7 0 ≡ turned r q true (someUnits (cut 83 r (drop from s)))
+turning-stuck r s q from o at u p c e k h a t =
+    sym (ap (turned r o (eqb at from)) (if-false _ _ _ t) ∙ turned-none r o (eqb at from)) ∙ turning-left r s q from o at u p c e k h a
 
-pub block-empty : (f b r o q : ℕ) (s : List ℕ) (u : Unit) → u ≡ unitOf f r (drop o s) → u ≡ None → outcome 7 0 ≡ blockOutcome f b r o q s
-unfolding blockOutcome units turned someUnits
-block-empty f b r o q s u e k =
-    sym (ap (turned r q true)
-    (if-case (λ (c : Option (List Segment)). c ≡ none) (leb (length s) b) _ none
-    (λ _. if-case (λ (c : Option (List Segment)). c ≡ none) (leb o (length s)) _ none
-    (λ _. ap someUnits (cut-end f r (drop o s) (sym e ∙ k))
-    ∙ if-case (λ (c : Option (List Segment)). someUnits c ≡ none) (allAre 94 (drop o s)) (some []) none (λ _. refl) (λ _. refl))
-    (λ _. refl))
-    (λ _. refl)))
+-- an answer that a call gave
+pub so-outcome : (x y z : Outcome) → x ≡ y → y ≡ z → x ≡ z
+so-outcome x y z e h = e ∙ h
 
--- such a block's length is a number of the machine
-pub block-room : (b : ℕ) (s : List ℕ) → length s ≤ b → b < 18446744073709551616 → length s < 18446744073709551616
-block-room b s h k = omega arith
-
-pub block-wrong : (f b r o q : ℕ) (s : List ℕ) (i w n : ℕ) (u : Unit) (p : Bool) (x : Outcome) → length s ≤ b → u ≡ unitOf f r (drop o s) → u ≡ Of i w n
-    → p ≡ isTurn r q true i n → not p ≡ true → x ≡ outOfTurn (cut f r (drop (o + w + n) s)) → x ≡ blockOutcome f b r o q s
-block-wrong f b r o q s i w n u p x h e k t y m =
-    let c = here f r s o i w n u e k in
-    m ∙ sym (block-at f b r o q s i w n h c ∙ turned-at f r s q true o i w n c ∙ if-false _ _ _ (sym t ∙ not-true p y))
-
-pub block-on : (f b r o q : ℕ) (s : List ℕ) (i w n : ℕ) (u : Unit) (p : Bool) (o′ : ℕ) (x : Outcome) → length s ≤ b → u ≡ unitOf f r (drop o s) → u ≡ Of i w n
-    → p ≡ isTurn r q true i n → not p ≡ false → o′ ≡ openAfter q i n → x ≡ turned r o′ false (cut f r (drop (o + w + n) s)) → x ≡ blockOutcome f b r o q s
-block-on f b r o q s i w n u p o′ x h e k t y m g =
-    let c = here f r s o i w n u e k in
-    g ∙ ap (λ (j : ℕ). turned r j false (cut f r (drop (o + w + n) s))) m
-    ∙ sym (block-at f b r o q s i w n h c ∙ turned-at f r s q true o i w n c ∙ if-true _ _ _ (sym t ∙ not-false p y))
-
-pub ruleset blocks = (block-long, block-empty, block-wrong, block-on, block-room, turn-room, place-fits, word-fits, needs)
+pub ruleset turnings =
+    (turning-first, cutting-first, turning-more, turning-8, turning-7, turning-none, turning-over, turning-stuck, turn-room, place-fits, word-fits, unit-less, so-outcome, needs)

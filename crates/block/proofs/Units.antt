@@ -1,16 +1,12 @@
--- Laws of the unit at the head of some bytes: what holds of every unit, and what the code's answers are. Assumes nothing.
-use mathlib.Core.Path.{_≡_, refl, sym, ap, _∙_, subst}
-use mathlib.Core.Bool.{Bool, true, false, not, _&&_}
-use mathlib.Core.List.{List, [], _∷_}
-use Prim.Native.Nat.{ℕ, zero, suc, _+_, _*_, _-_, _≤_, _<_}
+-- Laws of the unit at the head of some bytes: what holds of every unit, in `unit-stands`. Assumes nothing.
+use mathlib.Core.Path.{_≡_, refl, subst}
+use mathlib.Core.List.{List}
+use Prim.Native.Nat.{ℕ, _+_, _-_, _≤_, _<_}
 use native.Mathlib.Omega.{arith}
-use native.Mathlib.Numerals.{add-one}
-use borrow.Author.Needs.{needs}
-use borrow.Author.Tests.{leb-true, leb-false, eqb-true, eqb-false}
+use borrow.Author.Tests.{leb-true, eqb-true, eqb-false}
 use lib.Dec.{leb, eqb}
-use lib.ListN.{length, take, drop, getD, length-drop}
-use lib.Seq.{drop-cons, drop-drop}
-use Rattle.base.specs.If.{ifB, if-true, if-false, if-case}
+use lib.ListN.{length, take, getD}
+use Rattle.base.specs.If.{if-case}
 use Rattle.base.specs.Part.{part, allAre}
 use Rattle.charset.specs.Number.{numberIn}
 use Rattle.charset.specs.declared.Number.{Number}
@@ -19,9 +15,7 @@ use Rattle.block.specs.Unit.{fixed, measured, variable, segment, unitOf}
 use Rattle.block.specs.declared.Unit.{Unit}
 use Rattle.block.specs.declared.Unit.the-variants.{Of, None}
 
--- ---- what holds of every unit
-
--- a unit of indicator i, with w bytes of control word and n of record or segment, in l bytes; of a format whose records stand whole, at most r of them
+-- a unit of indicator i, with w bytes of control word and n of record or segment, in l bytes; in a format other than S it is a whole record of at most r bytes
 pub record Stands (f r l i w n : ℕ) : Type 0 where
   pub some : 1 ≤ w + n
   pub within : w + n ≤ l
@@ -34,7 +28,7 @@ abbrev pub If-any : (ℕ → ℕ → ℕ → Type 0) → Unit → Type 0
 If-any P (Of i w n) = P i w n
 If-any P None = None ≡ None
 
-measured-any : (P : ℕ → ℕ → ℕ → Type 0) (i w m l : ℕ) (x : Number)
+pub measured-any : (P : ℕ → ℕ → ℕ → Type 0) (i w m l : ℕ) (x : Number)
     → ((k : ℕ) → w ≤ k → k ≤ m → k ≤ l → P i w (k - w)) → If-any P (measured i w m l x)
 unfolding measured
 measured-any P i w m l Wrong g = refl
@@ -45,7 +39,7 @@ measured-any P i w m l (Value k) g =
     (λ b. refl))
     (λ a. refl)
 
-fixed-any : (f r : ℕ) (s : List ℕ) → If-any (Stands f r (length s)) (fixed r s)
+pub fixed-any : (f r : ℕ) (s : List ℕ) → If-any (Stands f r (length s)) (fixed r s)
 unfolding fixed
 fixed-any f r s =
     if-case (If-any (Stands f r (length s))) (eqb r 0) None _ (λ a. refl)
@@ -56,13 +50,13 @@ fixed-any f r s =
     record { some = omega arith; within = omega arith; indicator = omega arith; whole = λ _. refl; short = λ _. omega arith }))
     (λ b. refl))
 
-variable-any : (f r : ℕ) (s : List ℕ) → If-any (Stands f r (length s)) (variable r s)
+pub variable-any : (f r : ℕ) (s : List ℕ) → If-any (Stands f r (length s)) (variable r s)
 unfolding variable
 variable-any f r s =
     measured-any (Stands f r (length s)) 0 4 r (length s) (numberIn (part 0 4 s))
     (λ k a b c. record { some = omega arith; within = omega arith; indicator = omega arith; whole = λ _. refl; short = λ _. omega arith })
 
-segment-any : (f r : ℕ) (s : List ℕ) → f ≡ 83 → If-any (Stands f r (length s)) (segment s)
+pub segment-any : (f r : ℕ) (s : List ℕ) → f ≡ 83 → If-any (Stands f r (length s)) (segment s)
 unfolding segment
 segment-any f r s e =
     if-case (If-any (Stands f r (length s))) (leb 48 (getD s 0 0)) _ None

@@ -45,6 +45,11 @@ someUnits none = none
 someUnits (some []) = none
 someUnits (some (x ∷ xs)) = some (x ∷ xs)
 
+-- whether the bytes could be cut
+unfoldable pub isCut : Option (List Segment) → Bool
+isCut none = false
+isCut (some xs) = true
+
 -- the units of a block, in a file of format f, block length b, record length r and offset length o
 unfoldable pub units : ℕ → ℕ → ℕ → ℕ → List ℕ → Option (List Segment)
 units f b r o s = ifB (leb (length s) b) (ifB (leb o (length s)) (someUnits (cut f r (drop o s))) none) none

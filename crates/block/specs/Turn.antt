@@ -5,11 +5,11 @@
 -- What is open is 0, or one more than the bytes of the open record so far. A 2 or a 3 stands only at the head of a block and only where
 -- something is open; a 0 or a 1 only where nothing is. So no unit can follow a 1 or a 2 in its block.
 -- Units of F and D have indicator 0 and at most R bytes, so the same turns hold of them.
-use mathlib.Core.Bool.{Bool, true, false, _&&_}
+use mathlib.Core.Bool.{Bool, true, false}
 use mathlib.Core.List.{List, [], _∷_}
 use mathlib.Core.Option.{Option, none, some}
 use Prim.Native.Nat.{ℕ, _+_, _-_}
-use lib.Dec.{leb, ltb, eqb}
+use lib.Dec.{leb, eqb}
 use lib.ListN.{length}
 use Rattle.base.specs.If.{ifB}
 use Rattle.block.specs.Cut.{Segment, units}
@@ -34,15 +34,10 @@ turnsFrom r o head (x ∷ xs) =
     (turnsFrom r (openAfter o (x .indicator) (length (x .bytes))) false xs)
     (outcome 8 0)
 
--- number 7 where what is left of the block cannot be cut
+-- number 7 where the block, or what is left of it, cannot be cut
 unfoldable pub turned : ℕ → ℕ → Bool → Option (List Segment) → Outcome
 turned r o head none = outcome 7 0
 turned r o head (some xs) = turnsFrom r o head xs
-
--- behind a unit out of turn: number 8, or 7 where what is left cannot be cut
-unfoldable pub outOfTurn : Option (List Segment) → Outcome
-outOfTurn none = outcome 7 0
-outOfTurn (some xs) = outcome 8 0
 
 -- the answer on a block, in a file of format f, block length b, record length r and offset length o, with q open
 unfoldable pub blockOutcome : ℕ → ℕ → ℕ → ℕ → ℕ → List ℕ → Outcome

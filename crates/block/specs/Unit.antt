@@ -2,8 +2,7 @@
 -- F: a unit is R bytes, not all of them 5E.
 -- D: four digits, the length with these four, then the record. R counts the control word (8.5.2.6 of ECMA-13), so the length is at most R.
 -- S: an indicator, four digits giving the length with these five, then the segment. Any indicator 0 to 3 will do here.
-use mathlib.Core.Bool.{Bool, true, false, _&&_}
-use mathlib.Core.List.{List, [], _∷_}
+use mathlib.Core.List.{List}
 use Prim.Native.Nat.{ℕ, _+_, _-_}
 use lib.Dec.{leb, eqb}
 use lib.ListN.{length, take, getD}
@@ -41,3 +40,8 @@ segment s =
 -- the unit at the head of s in a file of format f and record length r
 unfoldable pub unitOf : ℕ → ℕ → List ℕ → Unit
 unitOf f r s = ifB (eqb f F) (fixed r s) (ifB (eqb f D) (variable r s) (ifB (eqb f S) (segment s) None))
+
+-- the bytes of a unit, its control word among them; 0 where there is none
+unfoldable pub lengthOf : Unit → ℕ
+lengthOf (Of i w n) = w + n
+lengthOf None = 0

@@ -1,18 +1,22 @@
 // One data block: its units for the formats F, D and S, and the turns of segments. It knows no label.
+// `size` is the record length R. It has 32 bits, so that what is pending, which goes by R, fits a usize whatever is handed in.
 ghost use mathlib.Core.Path.{_≡_};
-ghost use mathlib.Core.Bool.{true, false};
+ghost use mathlib.Core.Bool.{true};
 ghost use mathlib.Core.List.{[], _∷_};
 ghost use Prim.Native.Nat.{_+_, _-_, _≤_};
+ghost use lib.Dec.{eqb};
 ghost use lib.ListN.{length, drop};
 ghost use Rattle.base.specs.If.{ifB};
 ghost use Rattle.base.specs.Part.{allAre};
 ghost use Rattle.base.specs.Digits.{isDigit};
 ghost use Rattle.charset.specs.Number.{numberIn};
-ghost use Rattle.block.specs.Unit.{pad, fixed, measured as measuredAs, variable, segment, unitOf};
-ghost use Rattle.block.specs.Cut.{cut};
-ghost use Rattle.block.specs.Turn.{isTurn, openAfter, turned, outOfTurn, blockOutcome};
-
-use base::{FIXED, VARIABLE, SEGMENTED};
+ghost use Rattle.base.specs.Format.{F, D, S};
+ghost use Rattle.block.specs.Unit.{pad, fixed, measured, variable, segment, unitOf, lengthOf};
+ghost use Rattle.block.specs.Cut.{cut, someUnits, isCut};
+ghost use Rattle.block.specs.Turn.{outcome, isTurn, openAfter, turned, blockOutcome};
+use base::FIXED;
+use base::SEGMENTED;
+use base::VARIABLE;
 use charset::Number;
 
 // The padding byte, a circumflex.
@@ -32,6 +36,8 @@ pub struct Outcome {
     pub number: u32,
     pub pending: usize,
 }
+
+// ---- padding
 
 // Whether every byte is padding, without a way out of the loop, so that many bytes are compared at a time.
 fn chunk_is_padding(s: &[u8]) -> bool
@@ -74,6 +80,18 @@ pub fn all_padding(s: &[u8]) -> bool
     chunks_are_padding(s)
 }
 
+// Whether all that is left from a place on is padding.
+fn padding_from(s: &[u8], at: usize) -> bool
+    ensures { λ r. ⌜ r ≡ allAre pad (drop at (now (s .entry))) ⌝ }
+{
+    if s.len() <= at {
+        return true;
+    }
+    all_padding(&s[at..])
+}
+
+// ---- control words
+
 // The value of a digit, or 10 for any other byte.
 fn digit(b: u8) -> u32
     ensures { λ r. ⌜ r ≡ ifB (isDigit b) (b - 48) 10 ⌝ }
@@ -107,8 +125,10 @@ fn four_digits(a: u8, b: u8, c: u8, d: u8) -> Number
     if 9 < ones {
         return Number::Wrong;
     }
-    Number::Value(((thousands * 10 + hundreds) * 10 + tens) * 10 + ones)
+    Number::Value((thousands * 10 + hundreds) * 100 + (tens * 10 + ones))
 }
+
+// ---- the unit at a place
 
 // How many bytes are left from a place on.
 fn left_of(s: &[u8], at: usize) -> usize
@@ -120,75 +140,89 @@ fn left_of(s: &[u8], at: usize) -> usize
     s.len() - at
 }
 
-// A fixed-length record.
-fn fixed_at(size: u32, s: &[u8], at: usize) -> Unit
-    ensures { λ r. ⌜ r ≡ fixed size (drop at (now (s .entry))) ⌝ }
+// The bytes of the fixed-length record at a place, or 0 where there is none. Most records differ from padding in their first byte.
+fn fixed_length(size: u32, s: &[u8], at: usize) -> usize
+    ensures { λ r. ⌜ r ≡ lengthOf (fixed size (drop at (now (s .entry)))) ⌝ }
 {
     if size == 0 {
-        return Unit::None;
+        return 0;
     }
     let n = size as usize;
     if left_of(s, at) < n {
-        return Unit::None;
+        return 0;
+    }
+    if s[at] != PAD {
+        return n;
     }
     let end = at + n;
-    if all_padding(&s[at..end]) {
-        return Unit::None;
+    if chunks_are_padding(&s[at..end]) {
+        return 0;
     }
-    Unit::Of(0, 0, n)
+    n
 }
 
-// A unit led by a control word of `word` bytes whose length field says `n`, at most `longest`, with `left` bytes there.
-fn measured(indicator: u32, word: usize, longest: usize, left: usize, n: Number) -> Unit
-    ensures { λ r. ⌜ r ≡ measuredAs indicator word longest left n ⌝ }
+// The bytes of a unit led by a control word of `word` bytes whose length field says `n`, at most `longest`, with `left` bytes there; or 0.
+fn measured_length(word: u32, longest: u32, left: usize, n: Number) -> usize
+    ensures { λ r. ⌜ r ≡ lengthOf (measured 0 word longest left n) ⌝ }
 {
     match n {
-        Number::Wrong => Unit::None,
+        Number::Wrong => 0,
         Number::Value(v) => {
-            let n = v as usize;
-            if n < word {
-                return Unit::None;
+            if v < word {
+                return 0;
             }
-            if longest < n {
-                return Unit::None;
+            if longest < v {
+                return 0;
             }
-            if left < n {
-                return Unit::None;
+            let k = v as usize;
+            if left < k {
+                return 0;
             }
-            Unit::Of(indicator, word, n - word)
+            k
         }
     }
 }
 
-// A variable-length record.
-fn variable_at(size: u32, s: &[u8], at: usize) -> Unit
-    ensures { λ r. ⌜ r ≡ variable size (drop at (now (s .entry))) ⌝ }
+// The bytes of the variable-length record at a place, with its control word, or 0 where there is none.
+fn variable_length(size: u32, s: &[u8], at: usize) -> usize
+    ensures { λ r. ⌜ r ≡ lengthOf (variable size (drop at (now (s .entry)))) ⌝ }
 {
     let left = left_of(s, at);
     if left < 4 {
-        return Unit::None;
+        return 0;
     }
     let n = four_digits(s[at], s[at + 1], s[at + 2], s[at + 3]);
-    measured(0, 4, size as usize, left, n)
+    measured_length(4, size, left, n)
 }
 
-// A segment.
-fn segment_at(s: &[u8], at: usize) -> Unit
-    ensures { λ r. ⌜ r ≡ segment (drop at (now (s .entry))) ⌝ }
+// The bytes of the segment at a place, with its control word, or 0 where there is none.
+fn segment_length(s: &[u8], at: usize) -> usize
+    ensures { λ r. ⌜ r ≡ lengthOf (segment (drop at (now (s .entry)))) ⌝ }
 {
     let left = left_of(s, at);
     if left < 5 {
-        return Unit::None;
+        return 0;
     }
     let i = s[at];
     if i < b'0' {
-        return Unit::None;
+        return 0;
     }
     if b'3' < i {
-        return Unit::None;
+        return 0;
     }
     let n = four_digits(s[at + 1], s[at + 2], s[at + 3], s[at + 4]);
-    measured((i - b'0') as u32, 5, 9999, left, n)
+    measured_length(5, 9999, left, n)
+}
+
+// The segment at a place.
+fn segment_at(s: &[u8], at: usize) -> Unit
+    ensures { λ r. ⌜ r ≡ segment (drop at (now (s .entry))) ⌝ }
+{
+    let n = segment_length(s, at);
+    if n == 0 {
+        return Unit::None;
+    }
+    Unit::Of((s[at] - b'0') as u32, 5, n - 5)
 }
 
 // The unit at a place, in a file of that format and record length.
@@ -196,10 +230,18 @@ pub fn unit_at(format: u8, size: u32, s: &[u8], at: usize) -> Unit
     ensures { λ r. ⌜ r ≡ unitOf format size (drop at (now (s .entry))) ⌝ }
 {
     if format == FIXED {
-        return fixed_at(size, s, at);
+        let n = fixed_length(size, s, at);
+        if n == 0 {
+            return Unit::None;
+        }
+        return Unit::Of(0, 0, n);
     }
     if format == VARIABLE {
-        return variable_at(size, s, at);
+        let n = variable_length(size, s, at);
+        if n == 0 {
+            return Unit::None;
+        }
+        return Unit::Of(0, 4, n - 4);
     }
     if format == SEGMENTED {
         return segment_at(s, at);
@@ -207,15 +249,61 @@ pub fn unit_at(format: u8, size: u32, s: &[u8], at: usize) -> Unit
     Unit::None
 }
 
-// Whether all that is left from a place on is padding.
-fn padding_from(s: &[u8], at: usize) -> bool
-    ensures { λ r. ⌜ r ≡ allAre pad (drop at (now (s .entry))) ⌝ }
+// ---- one or more units, then padding
+
+// Whether there are one or more fixed-length records from a place on, then padding.
+// Each format has a loop of its own: a block may hold very many units, and this is what an image's blocks are read by.
+fn fixed_cuts(size: u32, s: &[u8], from: usize) -> bool
+    ensures { λ r. ⌜ r ≡ isCut (someUnits (cut F size (drop from (now (s .entry))))) ⌝ }
 {
-    if s.len() <= at {
-        return true;
+    let mut at = from;
+    loop {
+        let n = fixed_length(size, s, at);
+        if n == 0 {
+            if at == from {
+                return false;
+            }
+            return padding_from(s, at);
+        }
+        at += n;
     }
-    all_padding(&s[at..])
 }
+
+// The same for variable-length records.
+fn variable_cuts(size: u32, s: &[u8], from: usize) -> bool
+    ensures { λ r. ⌜ r ≡ isCut (someUnits (cut D size (drop from (now (s .entry))))) ⌝ }
+{
+    let mut at = from;
+    loop {
+        let n = variable_length(size, s, at);
+        if n == 0 {
+            if at == from {
+                return false;
+            }
+            return padding_from(s, at);
+        }
+        at += n;
+    }
+}
+
+// The same for segments, whatever their turns; `size` has no part in it.
+fn segments_cut(size: u32, s: &[u8], from: usize) -> bool
+    ensures { λ r. ⌜ r ≡ isCut (someUnits (cut S size (drop from (now (s .entry))))) ⌝ }
+{
+    let mut at = from;
+    loop {
+        let n = segment_length(s, at);
+        if n == 0 {
+            if at == from {
+                return false;
+            }
+            return padding_from(s, at);
+        }
+        at += n;
+    }
+}
+
+// ---- turns
 
 // Whether a segment of n bytes may stand here: at the head of its block or not, with that much pending.
 fn in_turn(size: u32, pending: usize, head: bool, indicator: u32, n: usize) -> bool
@@ -254,88 +342,82 @@ fn open_after(pending: usize, indicator: u32, n: usize) -> usize
     0
 }
 
-// The answer where a unit was out of turn, from the place behind it: units that cannot be cut go before it, wherever they stand.
-fn out_of_turn(format: u8, size: u32, s: &[u8], from: usize) -> Outcome
-    ensures { λ r. ⌜ r ≡ outOfTurn (cut format size (drop from (now (s .entry)))) ⌝ }
+// ---- the answer on a block
+
+// An answer by its two numbers.
+fn answer(number: u32, pending: usize) -> Outcome
+    ensures { λ r. ⌜ r ≡ outcome number pending ⌝ }
 {
-    let mut at = from;
-    loop {
-        let unit = unit_at(format, size, s, at);
-        match unit {
-            Unit::Of(_, word, n) => {
-                at = at + word + n;
-            }
-            Unit::None => {
-                if padding_from(s, at) {
-                    return Outcome {
-                        number: 8,
-                        pending: 0,
-                    };
-                }
-                return Outcome {
-                    number: 7,
-                    pending: 0,
-                };
-            }
-        }
-    }
+    Outcome { number, pending }
 }
 
-// The answer from a place behind the first unit on, with that much pending.
-fn later_turns(format: u8, size: u32, pending: usize, s: &[u8], from: usize) -> Outcome
-    ensures { λ r. ⌜ r ≡ turned size pending false (cut format size (drop from (now (s .entry)))) ⌝ }
+// The answer on a block of whole records, which could be cut or not: they are in turn where nothing is pending.
+fn whole_outcome(cuts: bool, pending: usize) -> Outcome
+    ensures { λ r. ⌜ r ≡ ifB cuts (ifB (eqb pending 0) (outcome 0 0) (outcome 8 0)) (outcome 7 0) ⌝ }
+{
+    if cuts {
+        if pending == 0 {
+            return answer(0, 0);
+        }
+        return answer(8, 0);
+    }
+    answer(7, 0)
+}
+
+// The answer on the segments from a place on. Where one is out of turn, a unit that cannot be cut goes before it, wherever it stands.
+fn segments_outcome(size: u32, pending: usize, s: &[u8], from: usize) -> Outcome
+    ensures { λ r. ⌜ r ≡ turned size pending true (someUnits (cut S size (drop from (now (s .entry))))) ⌝ }
 {
     let mut held = pending;
     let mut at = from;
     loop {
-        let unit = unit_at(format, size, s, at);
+        let unit = segment_at(s, at);
         match unit {
             Unit::Of(indicator, word, n) => {
-                let next = at + word + n;
-                if !in_turn(size, held, false, indicator, n) {
-                    return out_of_turn(format, size, s, next);
+                if !in_turn(size, held, at == from, indicator, n) {
+                    if segments_cut(size, s, from) {
+                        return answer(8, 0);
+                    }
+                    return answer(7, 0);
                 }
                 held = open_after(held, indicator, n);
-                at = next;
+                at = at + word + n;
             }
             Unit::None => {
-                if padding_from(s, at) {
-                    return Outcome {
-                        number: 0,
-                        pending: held,
-                    };
+                if at == from {
+                    return answer(7, 0);
                 }
-                return Outcome {
-                    number: 7,
-                    pending: 0,
-                };
+                if padding_from(s, at) {
+                    return answer(0, held);
+                }
+                return answer(7, 0);
             }
         }
     }
 }
 
 // The answer on one block, in a file of that format, block length, record length and offset length, with that much pending.
-pub fn block_outcome(format: u8, block: usize, size: u32, offset: usize, pending: usize, s: &[u8]) -> Outcome
+pub fn block_outcome(
+    format: u8,
+    block: usize,
+    size: u32,
+    offset: usize,
+    pending: usize,
+    s: &[u8],
+) -> Outcome
     ensures { λ r. ⌜ r ≡ blockOutcome format block size offset pending (now (s .entry)) ⌝ }
 {
     if block < s.len() {
-        return Outcome {
-            number: 7,
-            pending: 0,
-        };
+        return answer(7, 0);
     }
-    let unit = unit_at(format, size, s, offset);
-    match unit {
-        Unit::Of(indicator, word, n) => {
-            let next = offset + word + n;
-            if !in_turn(size, pending, true, indicator, n) {
-                return out_of_turn(format, size, s, next);
-            }
-            later_turns(format, size, open_after(pending, indicator, n), s, next)
-        }
-        Unit::None => Outcome {
-            number: 7,
-            pending: 0,
-        },
+    if format == FIXED {
+        return whole_outcome(fixed_cuts(size, s, offset), pending);
     }
+    if format == VARIABLE {
+        return whole_outcome(variable_cuts(size, s, offset), pending);
+    }
+    if format == SEGMENTED {
+        return segments_outcome(size, pending, s, offset);
+    }
+    answer(7, 0)
 }

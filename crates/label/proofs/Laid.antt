@@ -1,11 +1,10 @@
 -- Laws of fields laid end to end, for any table. A new table costs no proof. Assumes nothing.
 use mathlib.Core.Path.{_≡_, refl, sym, ap, _∙_}
-use mathlib.Core.Bool.{Bool, true, false}
-use mathlib.Core.List.{List, [], _∷_, _++_, append-assoc, append-nil}
-use Prim.Native.Nat.{ℕ, zero, suc, _+_, _-_, _≤_, _<_}
+use mathlib.Core.List.{List, [], _∷_, _++_}
+use Prim.Native.Nat.{ℕ, zero, suc, _+_}
 use native.Mathlib.Omega.{arith}
-use lib.ListN.{length, take, drop, getD, replicate, length-append, length-take, length-replicate}
-use lib.Seq.{take-all, take-at, take-append-seam, length-take-le, drop-append-add}
+use lib.ListN.{length, take, drop, replicate, length-append, length-replicate}
+use lib.Seq.{take-at, length-take-le, drop-append-add}
 use Rattle.base.specs.Part.{part, putAt}
 use Rattle.label.specs.Made.{fitted, laid}
 use Rattle.label.specs.Table.{vol1, hdr1, trailer1, second, user}
@@ -32,20 +31,25 @@ widths [] = 0
 widths (w ∷ []) = 0
 widths (w ∷ r ∷ rows) = w + widths rows
 
--- ---- the fields of a label
+-- ---- the fields of a label: those that are missing are empty
 
--- field k of a list of fields; one that is missing is empty
+abbrev pub headOf : List (List ℕ) → List ℕ
+headOf [] = []
+headOf (f ∷ fs) = f
+
+abbrev pub restOf : List (List ℕ) → List (List ℕ)
+restOf [] = []
+restOf (f ∷ fs) = fs
+
+-- field k
 unfoldable pub fieldAt : ℕ → List (List ℕ) → List ℕ
-fieldAt k [] = []
-fieldAt zero (f ∷ fs) = f
-fieldAt (suc k) (f ∷ fs) = fieldAt k fs
+fieldAt zero fs = headOf fs
+fieldAt (suc k) fs = fieldAt k (restOf fs)
 
 -- the fields with f as field k
 unfoldable pub fielded : ℕ → List ℕ → List (List ℕ) → List (List ℕ)
-fielded zero f [] = f ∷ []
-fielded zero f (g ∷ fs) = f ∷ fs
-fielded (suc k) f [] = [] ∷ fielded k f []
-fielded (suc k) f (g ∷ fs) = g ∷ fielded k f fs
+fielded zero f fs = f ∷ restOf fs
+fielded (suc k) f fs = headOf fs ∷ fielded k f (restOf fs)
 
 pub length-fitted : (w : ℕ) (f : List ℕ) → length (fitted w f) ≡ w
 unfolding fitted
@@ -58,18 +62,19 @@ fitted-all w f h = take-at f (replicate w 32) w h
 
 -- ---- laid end to end
 
+pub laid-row : (w r : ℕ) (rows : List ℕ) (fs : List (List ℕ)) → laid (w ∷ r ∷ rows) fs ≡ fitted w (headOf fs) ++ laid rows (restOf fs)
+unfolding laid
+laid-row w r rows [] = refl
+laid-row w r rows (f ∷ fs) = refl
+
 pub length-laid : (rows : List ℕ) (fs : List (List ℕ)) → length (laid rows fs) ≡ widths rows
 unfolding laid widths
 length-laid [] fs = refl
 length-laid (w ∷ []) fs = refl
-length-laid (w ∷ r ∷ rows) [] =
-    let x : length (fitted w []) ≡ w = length-fitted w [] in
-    let y : length (laid rows []) ≡ widths rows = length-laid rows [] in
-    simp length-append (omega arith)
-length-laid (w ∷ r ∷ rows) (f ∷ fs) =
-    let x : length (fitted w f) ≡ w = length-fitted w f in
-    let y : length (laid rows fs) ≡ widths rows = length-laid rows fs in
-    simp length-append (omega arith)
+length-laid (w ∷ r ∷ rows) fs =
+    let x : length (fitted w (headOf fs)) ≡ w = length-fitted w (headOf fs) in
+    let y : length (laid rows (restOf fs)) ≡ widths rows = length-laid rows (restOf fs) in
+    ap length (laid-row w r rows fs) ∙ simp length-append (omega arith)
 
 -- the front of a label, and what is behind it
 part-front : (x y : List ℕ) (w : ℕ) → length x ≡ w → part 0 w (x ++ y) ≡ x
@@ -87,10 +92,11 @@ pub filled-back : (rows : List ℕ) (fs : List (List ℕ)) (k : ℕ) → part (p
 unfolding laid placeOf widthOf fieldAt part fitted
 filled-back [] fs k = refl
 filled-back (w ∷ []) fs k = refl
-filled-back (w ∷ r ∷ rows) [] zero = part-front (fitted w []) (laid rows []) w (length-fitted w [])
-filled-back (w ∷ r ∷ rows) (f ∷ fs) zero = part-front (fitted w f) (laid rows fs) w (length-fitted w f)
-filled-back (w ∷ r ∷ rows) [] (suc k) = part-behind (fitted w []) (laid rows []) w (placeOf rows k) (widthOf rows k) (length-fitted w []) ∙ filled-back rows [] k
-filled-back (w ∷ r ∷ rows) (f ∷ fs) (suc k) = part-behind (fitted w f) (laid rows fs) w (placeOf rows k) (widthOf rows k) (length-fitted w f) ∙ filled-back rows fs k
+filled-back (w ∷ r ∷ rows) fs zero = ap (part 0 w) (laid-row w r rows fs) ∙ part-front (fitted w (headOf fs)) (laid rows (restOf fs)) w (length-fitted w (headOf fs))
+filled-back (w ∷ r ∷ rows) fs (suc k) =
+    ap (part (w + placeOf rows k) (widthOf rows k)) (laid-row w r rows fs)
+    ∙ part-behind (fitted w (headOf fs)) (laid rows (restOf fs)) w (placeOf rows k) (widthOf rows k) (length-fitted w (headOf fs))
+    ∙ filled-back rows (restOf fs) k
 
 -- a field set at its place is one of the fields laid
 pub put-field : (rows : List ℕ) (fs : List (List ℕ)) (k : ℕ) (f : List ℕ)
@@ -98,14 +104,13 @@ pub put-field : (rows : List ℕ) (fs : List (List ℕ)) (k : ℕ) (f : List ℕ
 unfolding laid placeOf widthOf fielded putAt fitted
 put-field [] fs k f = refl
 put-field (w ∷ []) fs k f = refl
-put-field (w ∷ r ∷ rows) [] zero f = put-front (fitted w []) (laid rows []) (fitted w f) (length-fitted w f ∙ sym (length-fitted w []))
-put-field (w ∷ r ∷ rows) (g ∷ fs) zero f = put-front (fitted w g) (laid rows fs) (fitted w f) (length-fitted w f ∙ sym (length-fitted w g))
-put-field (w ∷ r ∷ rows) [] (suc k) f =
-    put-behind (fitted w []) (laid rows []) (fitted (widthOf rows k) f) w (placeOf rows k) (length-fitted w [])
-    ∙ ap (λ (l : List ℕ). fitted w [] ++ l) (put-field rows [] k f)
-put-field (w ∷ r ∷ rows) (g ∷ fs) (suc k) f =
-    put-behind (fitted w g) (laid rows fs) (fitted (widthOf rows k) f) w (placeOf rows k) (length-fitted w g)
-    ∙ ap (λ (l : List ℕ). fitted w g ++ l) (put-field rows fs k f)
+put-field (w ∷ r ∷ rows) fs zero f =
+    ap (λ (l : List ℕ). putAt l 0 (fitted w f)) (laid-row w r rows fs)
+    ∙ put-front (fitted w (headOf fs)) (laid rows (restOf fs)) (fitted w f) (length-fitted w f ∙ sym (length-fitted w (headOf fs)))
+put-field (w ∷ r ∷ rows) fs (suc k) f =
+    ap (λ (l : List ℕ). putAt l (w + placeOf rows k) (fitted (widthOf rows k) f)) (laid-row w r rows fs)
+    ∙ put-behind (fitted w (headOf fs)) (laid rows (restOf fs)) (fitted (widthOf rows k) f) w (placeOf rows k) (length-fitted w (headOf fs))
+    ∙ ap (λ (l : List ℕ). fitted w (headOf fs) ++ l) (put-field rows (restOf fs) k f)
 
 -- ---- the tables
 

@@ -3,3 +3,7 @@ pub mod Walk
 pub mod Filled
 pub mod Put
 pub mod Laid
+pub mod Setting
+pub mod Making
+pub mod Fine
+pub mod Read

@@ -5,13 +5,12 @@ ghost use lib.ListN.{length};
 ghost use Rattle.base.specs.Part.{part, same};
 ghost use Rattle.label.specs.Judged.{agreeAt, unequalFrom};
 ghost use Rattle.label.specs.Table.{trailerFirst, trailerSecond, sectionFirst, sectionSecond};
-
-use super::table::wide;
 use super::table::EQUAL;
 use super::table::SECTION_FIRST;
 use super::table::SECTION_SECOND;
 use super::table::TRAILER_FIRST;
 use super::table::TRAILER_SECOND;
+use super::table::wide;
 use base::equal;
 use base::part_of;
 

@@ -8,7 +8,6 @@ ghost use Rattle.charset.specs.Number.{numberIn};
 ghost use Rattle.label.specs.Field.{volumeOf, setOf, sectionOf, sequenceOf, countOf, formatOf, blockLengthOf, recordLengthOf, offsetOf};
 ghost use Rattle.label.specs.Field.{leastRecord, suits, suitsBoth, isLength, isRecordLength, hasRecordLength, isPositive, isFormat, good};
 ghost use Rattle.label.specs.Judged.{goodAt};
-
 use super::table::CHARACTERS;
 use super::table::DATE;
 use super::table::DIGITS;
@@ -18,24 +17,24 @@ use super::table::RECORD_LENGTH;
 use super::table::SPACES;
 use super::table::STANDARD;
 use super::table::ZEROS;
-use base::equal;
-use base::part_of;
 use base::SEGMENTED;
 use base::VARIABLE;
+use base::equal;
+use base::part_of;
+use charset::Number;
 use charset::all_characters;
 use charset::all_digits;
 use charset::date;
 use charset::number_in;
-use charset::Number;
 
-// The byte at a place, or 0 behind the end.
-pub(crate) fn byte_at(s: &[u8], at: usize) -> u8
-    ensures { λ r. ⌜ r ≡ getD (now (s .entry)) at 0 ⌝ }
+// The byte at a place, or another one behind the end.
+pub(crate) fn byte_or(s: &[u8], at: usize, other: u8) -> u8
+    ensures { λ r. ⌜ r ≡ getD (now (s .entry)) at other ⌝ }
 {
     if at < s.len() {
         return s[at];
     }
-    0
+    other
 }
 
 // VOL1: the volume identifier.
@@ -77,7 +76,7 @@ pub fn count_of(l: &[u8]) -> Number
 pub fn format_of(l: &[u8]) -> u8
     ensures { λ r. ⌜ r ≡ formatOf (now (l .entry)) ⌝ }
 {
-    byte_at(l, 4)
+    byte_or(l, 4, 0)
 }
 
 // HDR2, EOV2 and EOF2: the block length B.

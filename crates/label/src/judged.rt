@@ -6,25 +6,26 @@ ghost use lib.ListN.{length};
 ghost use Rattle.base.specs.Part.{part, same};
 ghost use Rattle.label.specs.Judged.{wrongFrom, accessOf, accessAt, fieldFault, labelFault};
 ghost use Rattle.label.specs.Table.{fieldsOf};
-
 use super::field::good_at;
-use super::table::wide;
+use super::table::FILE_ACCESS;
 use super::table::HDR1_FIELDS;
 use super::table::SECOND_FIELDS;
 use super::table::TRAILER1_FIELDS;
 use super::table::USER_FIELDS;
 use super::table::VOL1_FIELDS;
+use super::table::VOLUME_ACCESS;
+use super::table::wide;
+use base::Fault;
 use base::equal;
 use base::part_of;
-use base::Fault;
-use order::is;
-use order::Kind;
 use order::EOF;
 use order::EOV;
 use order::HDR;
+use order::Kind;
 use order::UHL;
 use order::UTL;
 use order::VOL;
+use order::is;
 
 // The first BP of the first field that does not suit its rule, or 0.
 fn wrong_field(l: &[u8], table: &[u8]) -> u32
@@ -84,16 +85,16 @@ fn access_of(k: Kind) -> u32
     ensures { λ r. ⌜ r ≡ accessOf k ⌝ }
 {
     if is(k, VOL, 1) {
-        return 11;
+        return VOLUME_ACCESS;
     }
     if is(k, HDR, 1) {
-        return 54;
+        return FILE_ACCESS;
     }
     if is(k, EOV, 1) {
-        return 54;
+        return FILE_ACCESS;
     }
     if is(k, EOF, 1) {
-        return 54;
+        return FILE_ACCESS;
     }
     0
 }

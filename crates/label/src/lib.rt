@@ -3,6 +3,7 @@
 mod compared; // compared.rt: two labels
 mod field; // field.rt: the fields of a label and their rules
 mod judged; // judged.rt: one label by itself
+mod made; // made.rt: the labels that the writer makes
 mod name; // name.rt: the kind of a label
 mod table; // table.rt: the fields of each label
 
@@ -20,4 +21,7 @@ pub use field::sequence_of;
 pub use field::set_of;
 pub use field::volume_of;
 pub use judged::label_fault;
+pub use made::first_label;
+pub use made::second_label;
+pub use made::volume_label;
 pub use name::kind;

@@ -1,48 +1,54 @@
 // The names of labels: which kind a block is, by its length and its first four bytes. It knows nothing of the fields behind them.
 ghost use mathlib.Core.Path.{_≡_};
 ghost use Prim.Native.Nat.{_≤_, _-_};
+ghost use Rattle.order.specs.Kind.{kind};
 ghost use Rattle.label.specs.Name.{required, family, numbered, optional, orElse, named, kindOf};
-
-use super::field::byte_at;
+use super::field::byte_or;
 use base::equal;
 use base::part_of;
-use order::is;
-use order::Kind;
 use order::EOF;
 use order::EOV;
 use order::HDR;
+use order::Kind;
 use order::OTHER;
 use order::UHL;
 use order::UTL;
 use order::UVL;
 use order::VOL;
+use order::is;
+
+fn of(family: u32, number: u32) -> Kind
+    ensures { λ r. ⌜ r ≡ kind family number ⌝ }
+{
+    Kind { family, number }
+}
 
 // The labels that every set has, by the four bytes of their name.
 fn required(n: &[u8]) -> Kind
     ensures { λ r. ⌜ r ≡ required (now (n .entry)) ⌝ }
 {
     if equal(n, b"VOL1") {
-        return Kind { family: VOL, number: 1 };
+        return of(VOL, 1);
     }
     if equal(n, b"HDR1") {
-        return Kind { family: HDR, number: 1 };
+        return of(HDR, 1);
     }
     if equal(n, b"HDR2") {
-        return Kind { family: HDR, number: 2 };
+        return of(HDR, 2);
     }
     if equal(n, b"EOV1") {
-        return Kind { family: EOV, number: 1 };
+        return of(EOV, 1);
     }
     if equal(n, b"EOV2") {
-        return Kind { family: EOV, number: 2 };
+        return of(EOV, 2);
     }
     if equal(n, b"EOF1") {
-        return Kind { family: EOF, number: 1 };
+        return of(EOF, 1);
     }
     if equal(n, b"EOF2") {
-        return Kind { family: EOF, number: 2 };
+        return of(EOF, 2);
     }
-    Kind { family: OTHER, number: 0 }
+    of(OTHER, 0)
 }
 
 // Label number n of the family with this identifier.
@@ -50,21 +56,21 @@ fn family(i: &[u8], n: u32) -> Kind
     ensures { λ r. ⌜ r ≡ family (now (i .entry)) n ⌝ }
 {
     if equal(i, b"VOL") {
-        return Kind { family: VOL, number: n };
+        return of(VOL, n);
     }
     if equal(i, b"UVL") {
-        return Kind { family: UVL, number: n };
+        return of(UVL, n);
     }
     if equal(i, b"HDR") {
-        return Kind { family: HDR, number: n };
+        return of(HDR, n);
     }
     if equal(i, b"EOV") {
-        return Kind { family: EOV, number: n };
+        return of(EOV, n);
     }
     if equal(i, b"EOF") {
-        return Kind { family: EOF, number: n };
+        return of(EOF, n);
     }
-    Kind { family: OTHER, number: 0 }
+    of(OTHER, 0)
 }
 
 // A label whose number is the character d, a digit 1 to 9.
@@ -72,10 +78,10 @@ fn numbered(i: &[u8], d: u8) -> Kind
     ensures { λ r. ⌜ r ≡ numbered (now (i .entry)) d ⌝ }
 {
     if d < b'1' {
-        return Kind { family: OTHER, number: 0 };
+        return of(OTHER, 0);
     }
     if b'9' < d {
-        return Kind { family: OTHER, number: 0 };
+        return of(OTHER, 0);
     }
     family(i, (d - b'0') as u32)
 }
@@ -85,10 +91,10 @@ fn optional(i: &[u8], d: u8) -> Kind
     ensures { λ r. ⌜ r ≡ optional (now (i .entry)) d ⌝ }
 {
     if equal(i, b"UHL") {
-        return Kind { family: UHL, number: 0 };
+        return of(UHL, 0);
     }
     if equal(i, b"UTL") {
-        return Kind { family: UTL, number: 0 };
+        return of(UTL, 0);
     }
     numbered(i, d)
 }
@@ -109,7 +115,7 @@ fn named(l: &[u8]) -> Kind
 {
     or_else(
         required(part_of(l, 0, 4)),
-        optional(part_of(l, 0, 3), byte_at(l, 3)),
+        optional(part_of(l, 0, 3), byte_or(l, 3, 0)),
     )
 }
 
@@ -118,7 +124,7 @@ pub fn kind(l: &[u8]) -> Kind
     ensures { λ r. ⌜ r ≡ kindOf (now (l .entry)) ⌝ }
 {
     if l.len() != 80 {
-        return Kind { family: OTHER, number: 0 };
+        return of(OTHER, 0);
     }
     named(l)
 }

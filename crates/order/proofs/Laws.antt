@@ -126,6 +126,7 @@ kind-is a b h =
     left : (x y : Bool) → (x && y) ≡ true → x ≡ true
     left true y p = refl
     left false y p = p
+
     right : (x y : Bool) → (x && y) ≡ true → y ≡ true
     right true y p = p
     right false y p = absurd (mathlib.Core.Bool.false≢true p)

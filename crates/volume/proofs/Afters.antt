@@ -1,5 +1,5 @@
 -- Laws of the state behind an item, by the places that the code keeps. Assumes nothing.
-use mathlib.Core.Path.{_≡_, refl, sym, ap, _∙_, subst}
+use mathlib.Core.Path.{_≡_, refl, sym, ap, ap₂, _∙_, subst}
 use mathlib.Core.Bool.{Bool, true, false}
 use mathlib.Core.List.{List, [], _∷_, _++_}
 use Prim.Native.Nat.{ℕ, zero, suc, _+_, _≤_, _<_, min}
@@ -21,12 +21,13 @@ use Rattle.order.specs.declared.Kind.{Kind}
 use Rattle.order.specs.declared.Phase.{Phase}
 use Rattle.label.specs.Field.{volumeOf}
 use Rattle.label.specs.Judged.{labelFault}
+use Rattle.block.specs.declared.Outcome.{Outcome}
 use Rattle.volume.specs.declared.Reading.{Reading}
 use Rattle.volume.specs.State.{State}
 use Rattle.volume.specs.Fault.{outcomeIn, volumeFault, contextFault, itemFault}
 use Rattle.volume.specs.Step.{stateAfter, namesAfter, filesAfter, goesOnAfter, firstAfter, secondAfter, countAfter, pendingAfter}
 use Rattle.volume.specs.Place.{labelAt, namesAt, contents}
-use Rattle.volume.specs.Walk.{Sized}
+use Rattle.volume.specs.Walk.{Sized, Room, Behind}
 
 -- a place past the sixteenth is not kept
 pub names-full : (t m : Bool) (names : List ℕ) (reels start : ℕ) → m ≡ t → m ≡ true → length names ≡ 16 → 16 ≤ reels
@@ -57,7 +58,7 @@ label-after s t start len kept z =
 -- the volume identifiers, with one more where there is room
 names-kept : (s names : List ℕ) (reels start len : ℕ) (t : Bool) → (t ≡ true → len ≡ 80) → (t ≡ true → reels < length names)
     → namesAt s (take (ifB t (reels + 1) reels) (ifB t (set names reels start) names))
-      ≡ ifB t (namesAt s (take reels names) ++ (volumeOf (part start len s) ∷ [])) (namesAt s (take reels names))
+    ≡ ifB t (namesAt s (take reels names) ++ (volumeOf (part start len s) ∷ [])) (namesAt s (take reels names))
 unfolding ifB
 names-kept s names reels start len true z r =
     ap (λ (n : ℕ). namesAt s (take n (set names reels start))) (add-one reels)
@@ -80,17 +81,50 @@ pub contents-after : (s : List ℕ) (st : Reading) (p : Phase) (k : Kind) (start
     → count ≡ ifB (isKind k dataBlock) (st .count + 1) (ifB (isKind k (hdr 1)) 0 (st .count))
     → pending ≡ ifB (isKind k dataBlock) (outcomeIn (labelAt s (st .second)) (st .pending) (part start len s) .pending) (st .pending)
     → contents s (record { phase = p; names = names; reels = reels; files = files; ongoing = ongoing; first = first; second = second; count = count; pending = pending })
-      ≡ stateAfter (contents s st) p k (part start len s)
+    ≡ stateAfter (contents s st) p k (part start len s)
 unfolding contents stateAfter namesAfter filesAfter goesOnAfter firstAfter secondAfter countAfter pendingAfter
 contents-after s st p k start len names reels files first second count pending ongoing z room en er ef eo e1 e2 ec ep =
     let a : namesAt s (take reels names) ≡ ifB (isKind k (vol 1)) (namesAt s (take (st .reels) (st .names)) ++ (volumeOf (part start len s) ∷ [])) (namesAt s (take (st .reels) (st .names)))
-            = ap (λ (n : ℕ). namesAt s (take n names)) er ∙ ap (λ (l : List ℕ). namesAt s (take (ifB (isKind k (vol 1)) (st .reels + 1) (st .reels)) l)) en
-            ∙ names-kept s (st .names) (st .reels) start len (isKind k (vol 1)) (z .volume) room in
+    = ap (λ (n : ℕ). namesAt s (take n names)) er ∙ ap (λ (l : List ℕ). namesAt s (take (ifB (isKind k (vol 1)) (st .reels + 1) (st .reels)) l)) en
+    ∙ names-kept s (st .names) (st .reels) start len (isKind k (vol 1)) (z .volume) room in
     let b : labelAt s first ≡ ifB (isKind k (hdr 1)) (part start len s) (labelAt s (st .first))
-            = ap (labelAt s) e1 ∙ label-after s (isKind k (hdr 1)) start len (st .first) (z .first) in
+    = ap (labelAt s) e1 ∙ label-after s (isKind k (hdr 1)) start len (st .first) (z .first) in
     let d : labelAt s second ≡ ifB (isKind k (hdr 2)) (part start len s) (labelAt s (st .second))
-            = ap (labelAt s) e2 ∙ label-after s (isKind k (hdr 2)) start len (st .second) (z .second) in
+    = ap (labelAt s) e2 ∙ label-after s (isKind k (hdr 2)) start len (st .second) (z .second) in
     λ i. record { phase = p; names = a i; files = ef i; goesOn = eo i; first = b i; second = d i; count = ec i; pending = ep i }
+
+-- what is chosen of two numbers is at most what both are at most
+if-most : (t : Bool) (a b m x : ℕ) → a ≤ m → b ≤ m → x ≡ ifB t a b → x ≤ m
+if-most t a b m x p q e = subst (λ (y : ℕ). y ≤ m) (sym e) (if-case (λ (y : ℕ). y ≤ m) t a b (λ _. p) (λ _. q))
+
+pub behind-made : (s : List ℕ) (st : Reading) (p : Phase) (k : Kind) (start len : ℕ) (names : List ℕ) (reels files first second count pending : ℕ) (ongoing : Bool)
+    → Sized k len → Room k st
+    → names ≡ ifB (isKind k (vol 1)) (set (st .names) (st .reels) start) (st .names)
+    → reels ≡ ifB (isKind k (vol 1)) (st .reels + 1) (st .reels)
+    → files ≡ ifB (isKind k (hdr 2)) (ifB (st .ongoing) (st .files) (st .files + 1)) (st .files)
+    → ongoing ≡ ifB (isKind k (eov 1)) true (ifB (isKind k (eof 1)) false (st .ongoing))
+    → first ≡ ifB (isKind k (hdr 1)) start (st .first)
+    → second ≡ ifB (isKind k (hdr 2)) start (st .second)
+    → count ≡ ifB (isKind k dataBlock) (st .count + 1) (ifB (isKind k (hdr 1)) 0 (st .count))
+    → pending ≡ ifB (isKind k dataBlock) (outcomeIn (labelAt s (st .second)) (st .pending) (part start len s) .pending) (st .pending)
+    → Behind s st p k start len
+    (record { phase = p; names = names; reels = reels; files = files; ongoing = ongoing; first = first; second = second; count = count; pending = pending })
+behind-made s st p k start len names reels files first second count pending ongoing z room en er ef eo e1 e2 ec ep =
+    record {
+      same = contents-after s st p k start len names reels files first second count pending ongoing z room en er ef eo e1 e2 ec ep;
+      reels = if-most _ _ _ _ _ (omega arith) (omega arith) er;
+      files = if-most _ _ _ _ _ (if-case (λ (y : ℕ). y ≤ st .files + 1) (st .ongoing) _ _ (λ _. omega arith) (λ _. omega arith)) (omega arith) ef;
+      blocks = if-most _ _ _ _ _ (omega arith) (if-case (λ (y : ℕ). y ≤ st .count + 1) (isKind k (hdr 1)) _ _ (λ _. omega arith) (λ _. omega arith)) ec;
+    }
+
+-- what is pending behind a data block
+pub pending-data : (s : List ℕ) (t m : Bool) (o : Outcome) (a b : List ℕ) (second pending start len : ℕ) → m ≡ t → m ≡ true → a ≡ part second 80 s → b ≡ part start len s
+    → o ≡ outcomeIn a pending b → o .pending ≡ ifB t (outcomeIn (labelAt s second) pending (part start len s) .pending) pending
+unfolding labelAt
+pending-data s t m o a b second pending start len e h p q c =
+    ap (λ (x : Outcome). x .pending) c ∙ ap₂ (λ (x y : List ℕ). outcomeIn x pending y .pending) p q ∙ sym (if-true t _ pending (so-true m t e h))
+
+pub ruleset behinds = (behind-made, pending-data, if-true, if-false, so-true, so-false, needs)
 
 -- ---- room for a name
 

@@ -44,7 +44,7 @@ data-fault s l = refl
 -- one that has none is counted, and what is pending behind it kept
 pub step-block : (t : State) (count pending : ℕ) (l : List ℕ) → outcomeIn (t .second) pending l .number ≡ 0
     → step (body t count pending) (block l)
-      ≡ go (body t (count + 1) (outcomeIn (t .second) pending l .pending)) (eventsOf (body t count pending) dataBlock l)
+    ≡ go (body t (count + 1) (outcomeIn (t .second) pending l .pending)) (eventsOf (body t count pending) dataBlock l)
 unfolding step kindIn bytesIn isDue dueAfter dues choose isKind ifB ordered judged stateAfter namesAfter filesAfter goesOnAfter firstAfter secondAfter countAfter pendingAfter blockFault fault
 step-block t count pending l h =
     if-true _ _ _ (eq-eqb _ 0 (ap (λ f. f .number) (data-fault (body t count pending) l) ∙ h))
@@ -53,7 +53,7 @@ step-block t count pending l h =
 
 pub skip-none : (s : List ℕ) (h : Lengths) (at item count pending : ℕ) → Inside s at item count
     → Skipped s h (between at item count pending) (between at item count pending)
-skip-none s h at item count pending i = record { same = λ t g. refl; onward = le-refl at; inside = i }
+skip-none s h at item count pending i = record { same = λ t g. refl; onward = le-refl at; passed = le-refl item; inside = i }
 
 -- what the code found of a block is what the section's HDR2 makes of it
 outcome-given : (h : Lengths) (second : List ℕ) (pending : ℕ) (l : List ℕ) → Given h second
@@ -75,16 +75,17 @@ skip-block s h a at item count pending n p o k m e b q z =
     let i : Inside s at item count = k .inside in
     let l : List ℕ = part (at + 3) n s in
     let made : o ≡ blockOutcome (h .format) (h .block) (h .size) (h .offset) pending l
-            = q ∙ ap (blockOutcome (h .format) (h .block) (h .size) (h .offset) pending) (part-within (at + 3) n s) in
+    = q ∙ ap (blockOutcome (h .format) (h .block) (h .size) (h .offset) pending) (part-within (at + 3) n s) in
     record {
       same = λ t g.
-        k .same t g
-        ∙ ap (λ xs. answerOf item (runs (body t count pending) xs)) (decode-block s at n p m e b)
-        ∙ answer-go item (body t count pending) (body t (count + 1) (outcomeIn (t .second) pending l .pending)) (block l) (decode (drop (at + 3 + n) s)) _
+          k .same t g
+          ∙ ap (λ xs. answerOf item (runs (body t count pending) xs)) (decode-block s at n p m e b)
+          ∙ answer-go item (body t count pending) (body t (count + 1) (outcomeIn (t .second) pending l .pending)) (block l) (decode (drop (at + 3 + n) s)) _
           (step-block t count pending l (ap (λ x. x .number) (sym (made ∙ outcome-given h (t .second) pending l g)) ∙ z))
-        ∙ ap (λ (x : Outcome). answerOf (item + 1) (runs (body t (count + 1) (x .pending)) (decode (drop (at + 3 + n) s)))) (sym (made ∙ outcome-given h (t .second) pending l g));
+          ∙ ap (λ (x : Outcome). answerOf (item + 1) (runs (body t (count + 1) (x .pending)) (decode (drop (at + 3 + n) s)))) (sym (made ∙ outcome-given h (t .second) pending l g));
       onward = omega (arith, k .onward);
-      inside = record { short = i .short; within = w; items = omega (arith, i .items); blocks = omega (arith, i .blocks) }
+      passed = omega (arith, k .passed);
+      inside = record { short = i .short; within = w; items = omega (arith, i .items); blocks = omega (arith, i .blocks) };
     }
 
 pub block-falls : (s : List ℕ) (at n : ℕ) (p : Shape) → at < length s → p ≡ shape (drop at s) → p ≡ Block n → length s - (at + 3 + n) < length s - at

@@ -17,7 +17,7 @@ use Rattle.volume.specs.Run.{Run, ended, stopped, further, next, runs, a
 
 -- ---- the answer, item by item
 
-answer-further : (n : ℕ) (es : List Event) (r : Run) → answerOf n (further es r) ≡ answerOf (n + 1) r
+pub answer-further : (n : ℕ) (es : List Event) (r : Run) → answerOf n (further es r) ≡ answerOf (n + 1) r
 unfolding answerOf further
 answer-further n es (ended fs) = refl
 answer-further n es (stopped k i b) = let e : n + suc i ≡ n + 1 + i = omega arith in ap (λ (m : ℕ). verdict k m b) e

@@ -25,7 +25,7 @@ body s count pending =
       first = s .first;
       second = s .second;
       count = count;
-      pending = pending
+      pending = pending;
     }
 
 -- the lengths are those of this HDR2
@@ -53,4 +53,5 @@ pub record Inside (s : List ℕ) (at item count : ℕ) : Type 0 where
 pub record Skipped (s : List ℕ) (h : Lengths) (a b : Between) : Type 0 where
   pub same : (t : State) → Given h (t .second) → answerBetween s t a ≡ answerBetween s t b
   pub onward : a .at ≤ b .at
+  pub passed : a .item ≤ b .item
   pub inside : Inside s (b .at) (b .item) (b .count)

@@ -26,5 +26,5 @@ contents s r =
       first = labelAt s (r .first);
       second = labelAt s (r .second);
       count = r .count;
-      pending = r .pending
+      pending = r .pending;
     }

@@ -4,9 +4,22 @@ ghost use mathlib.Core.Bool.{true, false};
 ghost use Prim.Native.Nat.{_+_, _<_};
 ghost use lib.ListN.{set};
 ghost use Rattle.base.specs.If.{ifB};
+ghost use Rattle.base.specs.Part.{part};
 ghost use Rattle.order.specs.Kind.{vol, hdr, eov, eof, dataBlock, isKind};
-
-use order::{is, Kind, DATA_BLOCK, EOF, EOV, HDR, VOL};
+ghost use Rattle.volume.specs.Fault.{outcomeIn};
+ghost use Rattle.volume.specs.Place.{labelAt};
+ghost use Rattle.volume.specs.Walk.{Sized, Room, Small, Behind};
+use crate::Reading;
+use crate::fault::outcome_in;
+use base::part_of;
+use order::DATA_BLOCK;
+use order::EOF;
+use order::EOV;
+use order::HDR;
+use order::Kind;
+use order::Phase;
+use order::VOL;
+use order::is;
 
 // The places of the volume labels, with one more behind VOL1.
 pub(crate) fn names_after(names: [usize; 16], reels: usize, k: Kind, start: usize) -> [usize; 16]
@@ -83,4 +96,54 @@ pub(crate) fn count_after(count: usize, k: Kind) -> usize
         return 0;
     }
     count
+}
+
+// What is pending behind an item.
+fn pending_after(
+    image: &[u8],
+    second: usize,
+    pending: usize,
+    k: Kind,
+    start: usize,
+    len: usize,
+) -> usize
+    ensures { λ r. ⌜ r ≡ ifB (isKind k dataBlock) (outcomeIn (labelAt (now (image .entry)) second) pending (part start len (now (image .entry))) .pending) pending ⌝ }
+{
+    if is(k, DATA_BLOCK, 0) {
+        let o = outcome_in(
+            part_of(image, second, 80),
+            pending,
+            part_of(image, start, len),
+        );
+        return o.pending;
+    }
+    pending
+}
+
+// The reading behind an item of kind k and phase p that stands at `start` and has no fault.
+pub(crate) fn reading_after(
+    image: &[u8],
+    st: Reading,
+    p: Phase,
+    k: Kind,
+    start: usize,
+    len: usize,
+) -> Reading
+    requires { ⌜ Sized k len ⌝ }
+    requires { ⌜ Room k st ⌝ }
+    requires { ⌜ Small st ⌝ }
+    ensures { λ r. ⌜ Behind (now (image .entry)) st p k start len r ⌝ }
+{
+    let kept = st.names;
+    Reading {
+        phase: p,
+        names: names_after(kept, st.reels, k, start),
+        reels: reels_after(st.reels, k),
+        files: files_after(st.files, st.ongoing, k),
+        ongoing: ongoing_after(st.ongoing, k),
+        first: header_after(st.first, k, 1, start),
+        second: header_after(st.second, k, 2, start),
+        count: count_after(st.count, k),
+        pending: pending_after(image, st.second, st.pending, k, start, len),
+    }
 }

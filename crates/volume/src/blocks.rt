@@ -1,6 +1,5 @@
 // Data blocks passed in a row: numbers only, since an image may hold millions of them. It knows of a section the lengths that its HDR2 gives.
 ghost use Rattle.volume.specs.Body.{Inside, Skipped};
-
 use block::block_outcome;
 use image::Shape;
 
@@ -35,16 +34,33 @@ pub(crate) fn past_blocks(image: &[u8], h: Lengths, from: Between) -> Between
             Shape::Block(n) => {
                 let start = at + 3;
                 let end = start + n;
-                let o = block_outcome(h.format, h.block, h.size, h.offset, pending, &image[start..end]);
+                let o = block_outcome(
+                    h.format,
+                    h.block,
+                    h.size,
+                    h.offset,
+                    pending,
+                    &image[start..end],
+                );
                 if o.number != 0 {
-                    return Between { at, item, count, pending };
+                    return Between {
+                        at,
+                        item,
+                        count,
+                        pending,
+                    };
                 }
                 at = end;
                 item += 1;
                 count += 1;
                 pending = o.pending;
             }
-            _ => return Between { at, item, count, pending },
+            _ => return Between {
+                at,
+                item,
+                count,
+                pending,
+            },
         }
     }
 }

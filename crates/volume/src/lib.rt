@@ -1,9 +1,15 @@
 // A whole set: the order of its items, the fields and cross-checks of its labels, its blocks; the verdict on an image.
 // It knows no byte of a label and no unit of a block by itself: those are the layers' below.
 mod after; // after.rt: the reading behind an item
+mod among; // among.rt: the names of the volumes read before
 mod blocks; // blocks.rt: data blocks passed in a row
+mod fault; // fault.rt: the fault of an item against what was read before it
 mod walk; // walk.rt: the items of an image, one after the other
 
+ghost use mathlib.Core.Path.{_≡_};
+ghost use Rattle.volume.specs.Run.{imageVerdict};
+use base::Verdict;
+use image::framing;
 use order::Phase;
 
 // What is known behind an item: numbers, and places in the image. A place past the end stands for no label.
@@ -18,4 +24,15 @@ pub struct Reading {
     pub second: usize,
     pub count: usize,
     pub pending: usize,
+}
+
+// The verdict on an image, whatever its bytes: number 0 exactly for an accepted set, else the number and place of the first wrong item.
+pub fn check(image: &[u8]) -> Verdict
+    ensures { λ r. ⌜ r ≡ imageVerdict (now (image .entry)) ⌝ }
+{
+    let f = framing(image);
+    if f.number != 0 {
+        return f;
+    }
+    walk::walk(image)
 }

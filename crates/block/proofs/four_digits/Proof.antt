@@ -35,11 +35,11 @@ add-t11 c = search four
 mul-t12 : tie.Need-mul-t12
 mul-t12 c = search four
 
-add-t13 : tie.Need-add-t13
-add-t13 c = search four
+mul-t13 : tie.Need-mul-t13
+mul-t13 c = search four
 
-mul-t14 : tie.Need-mul-t14
-mul-t14 c = search four
+add-t14 : tie.Need-add-t14
+add-t14 c = search four
 
 add-t15 : tie.Need-add-t15
 add-t15 c = search four
@@ -62,7 +62,7 @@ four-digits-spec =
     mul-t10
     add-t11
     mul-t12
-    add-t13
-    mul-t14
+    mul-t13
+    add-t14
     add-t15
     returns-5)

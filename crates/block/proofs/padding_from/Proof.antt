@@ -1,4 +1,4 @@
-use Rattle.block.proofs.Turns.{paddings}
+use Rattle.block.proofs.Padding.{paddings}
 use Rattle.block.proofs.padding_from.Statement.{statement}
 use Rattle.block.proofs.padding_from.Tie as tie
 

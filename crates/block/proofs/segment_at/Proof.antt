@@ -1,76 +1,29 @@
-use Rattle.block.proofs.Places.{segments}
+use Rattle.block.proofs.Lengths.{segments-of}
 use Rattle.block.proofs.segment_at.Statement.{statement}
 use Rattle.block.proofs.segment_at.Tie as tie
 
-left-of-requires : tie.Need-left-of-requires
-left-of-requires c κs = search segments
+segment-length-requires : tie.Need-segment-length-requires
+segment-length-requires c κs = search segments-of
 
 returns : tie.Need-returns
-returns c = search segments
+returns c = search segments-of
 
-shared-slice-read-i : tie.Need-shared-slice-read-i
-shared-slice-read-i c = search segments
+shared-slice-read-t6 : tie.Need-shared-slice-read-t6
+shared-slice-read-t6 c = search segments-of
+
+sub-t7 : tie.Need-sub-t7
+sub-t7 c = search segments-of
+
+cast-t8 : tie.Need-cast-t8
+cast-t8 c = search segments-of
+
+sub-t9 : tie.Need-sub-t9
+sub-t9 c = search segments-of
 
 returns-2 : tie.Need-returns-2
-returns-2 c = search segments
-
-returns-3 : tie.Need-returns-3
-returns-3 c = search segments
-
-add-four-digits : tie.Need-add-four-digits
-add-four-digits c = search segments
-
-shared-slice-read-four-digits : tie.Need-shared-slice-read-four-digits
-shared-slice-read-four-digits c = search segments
-
-add-four-digits-2 : tie.Need-add-four-digits-2
-add-four-digits-2 c = search segments
-
-shared-slice-read-four-digits-2 : tie.Need-shared-slice-read-four-digits-2
-shared-slice-read-four-digits-2 c = search segments
-
-add-four-digits-3 : tie.Need-add-four-digits-3
-add-four-digits-3 c = search segments
-
-shared-slice-read-four-digits-3 : tie.Need-shared-slice-read-four-digits-3
-shared-slice-read-four-digits-3 c = search segments
-
-add-four-digits-4 : tie.Need-add-four-digits-4
-add-four-digits-4 c = search segments
-
-shared-slice-read-four-digits-4 : tie.Need-shared-slice-read-four-digits-4
-shared-slice-read-four-digits-4 c = search segments
-
-four-digits-requires : tie.Need-four-digits-requires
-four-digits-requires c κs = search segments
-
-cast-measured : tie.Need-cast-measured
-cast-measured c = search segments
-
-measured-requires : tie.Need-measured-requires
-measured-requires c κs = search segments
-
-returns-4 : tie.Need-returns-4
-returns-4 c = search segments
+returns-2 c = search segments-of
 
 pub segment-at-spec : {M : Type 1} → statement M
 segment-at-spec =
     tie.close
-    (tie.spec
-    left-of-requires
-    returns
-    shared-slice-read-i
-    returns-2
-    returns-3
-    add-four-digits
-    shared-slice-read-four-digits
-    add-four-digits-2
-    shared-slice-read-four-digits-2
-    add-four-digits-3
-    shared-slice-read-four-digits-3
-    add-four-digits-4
-    shared-slice-read-four-digits-4
-    four-digits-requires
-    cast-measured
-    measured-requires
-    returns-4)
+    (tie.spec segment-length-requires returns shared-slice-read-t6 sub-t7 cast-t8 sub-t9 returns-2)

@@ -1,11 +1,8 @@
 use Prim.Native.Nat.{_-_}
 use lib.ListN.{length}
 use Rattle.label.proofs.Filled.{Filled, filling}
-use borrow.Author.Needs.{needs}
 use Rattle.label.proofs.field.all_are.Statement.{statement}
 use Rattle.label.proofs.field.all_are.Tie as tie
-use Rattle.label.proofs.field.all_are.Reads as reads
-use Rattle.label.proofs.field.all_are.Lts as lts
 
 abbrev Inv-loop : tie.InvT-loop
 Inv-loop b s i₀ i = Filled b s i
@@ -13,31 +10,24 @@ Inv-loop b s i₀ i = Filled b s i
 abbrev μ-loop : tie.MeasureT-loop
 μ-loop b s i₀ i = length s - i
 
--- src/field.rt:107:5
 loop-holds : tie.Need-loop-holds Inv-loop μ-loop
 loop-holds c = search filling
 
--- src/field.rt:108:12
 shared-slice-read-if1 : tie.Need-shared-slice-read-if1 Inv-loop μ-loop
 shared-slice-read-if1 c = search filling
 
--- src/field.rt:109:13
 returns : tie.Need-returns Inv-loop μ-loop
 returns c = search filling
 
--- src/field.rt:111:9
 add-i : tie.Need-add-i Inv-loop μ-loop
 add-i c = search filling
 
--- src/field.rt:107:5
 loop-less : tie.Need-loop-less Inv-loop μ-loop
 loop-less c = search filling
 
--- src/field.rt:107:5
 loop-again : tie.Need-loop-again Inv-loop μ-loop
 loop-again c = search filling
 
--- src/field.rt:103:1
 returns-2 : tie.Need-returns-2 Inv-loop μ-loop
 returns-2 c = search filling
 

@@ -3,23 +3,17 @@ use Rattle.label.proofs.Rules.{matches}
 use borrow.Author.Needs.{needs}
 use Rattle.label.proofs.field.suits.Statement.{statement}
 use Rattle.label.proofs.field.suits.Tie as tie
-use Rattle.label.proofs.field.suits.Reads as reads
-use Rattle.label.proofs.field.suits.Lts as lts
 
--- src/field.rt:149:16
 add-result : tie.Need-add-result
 add-result c = search needs
 
--- src/field.rt:149:9
 returns : tie.Need-returns
 unfolding suits
 returns c = search matches
 
--- src/field.rt:151:5
 add-result-2 : tie.Need-add-result-2
 add-result-2 c = search needs
 
--- src/field.rt:145:1
 returns-2 : tie.Need-returns-2
 unfolding suits
 returns-2 c = search matches

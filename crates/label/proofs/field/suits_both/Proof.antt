@@ -2,41 +2,30 @@ use Rattle.label.specs.Field.{suitsBoth}
 use borrow.Author.Needs.{needs}
 use Rattle.label.proofs.field.suits_both.Statement.{statement}
 use Rattle.label.proofs.field.suits_both.Tie as tie
-use Rattle.label.proofs.field.suits_both.Reads as reads
-use Rattle.label.proofs.field.suits_both.Lts as lts
-use Rattle.label.proofs.field.suits.Reads as suits-reads
 
--- src/field.rt:158:23
 enum-known-b : tie.Need-enum-known-b
 enum-known-b c = search needs
 
--- src/field.rt:159:9
 enum-told : tie.Need-enum-told
 enum-told c = search needs
 
--- src/field.rt:159:9
 returns : tie.Need-returns
 unfolding suitsBoth
 returns c = cc
 
--- src/field.rt:161:23
 enum-known-o : tie.Need-enum-known-o
 enum-known-o c = search needs
 
--- src/field.rt:162:9
 enum-told-2 : tie.Need-enum-told-2
 enum-told-2 c = search needs
 
--- src/field.rt:162:9
 returns-2 : tie.Need-returns-2
 unfolding suitsBoth
 returns-2 c = cc
 
--- src/field.rt:164:5
 suits-requires : tie.Need-suits-requires
 suits-requires c κs = search needs
 
--- src/field.rt:155:1
 returns-3 : tie.Need-returns-3
 unfolding suitsBoth
 returns-3 c = cc

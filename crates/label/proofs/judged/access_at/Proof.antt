@@ -4,33 +4,24 @@ use Rattle.base.specs.Answer.{fault}
 use borrow.Author.Needs.{needs}
 use Rattle.label.proofs.judged.access_at.Statement.{statement}
 use Rattle.label.proofs.judged.access_at.Tie as tie
-use Rattle.label.proofs.judged.access_at.Reads as reads
-use Rattle.label.proofs.judged.access_at.Lts as lts
-use Rattle.label.proofs.judged.space_at.Reads as space-at-reads
 
--- src/judged.rt:113:9
 returns : tie.Need-returns
 unfolding accessAt fault
 returns c = search (matches, calls)
 
--- src/judged.rt:115:21
 sub-space-at : tie.Need-sub-space-at
 sub-space-at c = search needs
 
--- src/judged.rt:115:20
 cast-space-at : tie.Need-cast-space-at
 cast-space-at c = search needs
 
--- src/judged.rt:115:8
 space-at-requires : tie.Need-space-at-requires
 space-at-requires c κs = search needs
 
--- src/judged.rt:116:9
 returns-2 : tie.Need-returns-2
 unfolding accessAt fault
 returns-2 c = search (matches, calls)
 
--- src/judged.rt:109:1
 returns-3 : tie.Need-returns-3
 unfolding accessAt fault
 returns-3 c = search (matches, calls)

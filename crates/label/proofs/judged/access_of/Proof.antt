@@ -3,47 +3,35 @@ use Rattle.label.proofs.Rules.{calls}
 use borrow.Author.Needs.{needs}
 use Rattle.label.proofs.judged.access_of.Statement.{statement}
 use Rattle.label.proofs.judged.access_of.Tie as tie
-use Rattle.label.proofs.judged.access_of.Reads as reads
-use Rattle.label.proofs.judged.access_of.Lts as lts
-use Rattle.order.proofs.is.Reads as is-reads
 
--- src/judged.rt:86:8
 is-requires : tie.Need-is-requires
 is-requires c κs = search needs
 
--- src/judged.rt:87:9
 returns : tie.Need-returns
 unfolding accessOf
 returns c = search calls depth 20
 
--- src/judged.rt:89:8
 is-requires-2 : tie.Need-is-requires-2
 is-requires-2 c κs = search needs
 
--- src/judged.rt:90:9
 returns-2 : tie.Need-returns-2
 unfolding accessOf
 returns-2 c = search calls depth 20
 
--- src/judged.rt:92:8
 is-requires-3 : tie.Need-is-requires-3
 is-requires-3 c κs = search needs
 
--- src/judged.rt:93:9
 returns-3 : tie.Need-returns-3
 unfolding accessOf
 returns-3 c = search calls depth 20
 
--- src/judged.rt:95:8
 is-requires-4 : tie.Need-is-requires-4
 is-requires-4 c κs = search needs
 
--- src/judged.rt:96:9
 returns-4 : tie.Need-returns-4
 unfolding accessOf
 returns-4 c = search calls depth 20
 
--- src/judged.rt:83:1
 returns-5 : tie.Need-returns-5
 unfolding accessOf
 returns-5 c = search calls depth 20

@@ -1,0 +1,375 @@
+-- Laws of the walk's turns. Assumes nothing.
+use mathlib.Core.Path.{_≡_, refl, sym, ap, _∙_, subst}
+use mathlib.Core.Bool.{Bool, true, false, false≢true}
+use mathlib.Core.List.{List, [], _∷_}
+use Prim.Native.Nat.{ℕ, _+_, _-_, _≤_, _<_}
+use native.Mathlib.Omega.{arith}
+use borrow.Author.Needs.{needs}
+use borrow.Author.Tests.{ne-eqb, eq-eqb, eqb-true}
+use mir.Val.{Fits}
+use mir.Syntax.{w64}
+use lib.Dec.{eqb}
+use lib.ListN.{length, take, drop, length-take}
+use lib.Seq.{drop-length}
+use Rattle.image.specs.Framing.{mostImage, head, framing, items as allItems}
+use Rattle.image.proofs.Frames.{framing-zero}
+use Rattle.order.specs.declared.Phase.the-variants.{Data, Reel}
+use Rattle.base.specs.If.{ifB, if-true, if-false, if-case}
+use Rattle.base.specs.Part.{part}
+use Rattle.base.specs.Answer.{verdict}
+use Rattle.base.specs.declared.Verdict.{Verdict}
+use Rattle.base.specs.declared.Fault.{Fault}
+use Rattle.image.specs.Item.{Item, block, mark, reelEnd, broken, decode, shape}
+use Rattle.image.specs.declared.Shape.{Shape}
+use Rattle.image.specs.declared.Shape.the-variants.{Block, Mark, ReelEnd, Broken}
+use Rattle.image.proofs.Items.{decode-past, decode-block, decode-mark, decode-reel-end, decode-broken, block-within, mark-within, reel-end-within}
+use Rattle.order.specs.Kind.{kind, other, vol, hdr, dataBlock, endOfImage, isKind}
+use Rattle.order.specs.Due.{dueAfter}
+use Rattle.order.specs.declared.Kind.{Kind}
+use Rattle.order.specs.declared.Phase.{Phase}
+use Rattle.order.specs.declared.Due.{Due}
+use Rattle.order.specs.declared.Due.the-variants.{To, Wrong}
+use Rattle.base.proofs.Parts.{part-within, length-part}
+use Rattle.label.specs.Name.{kindOf, named}
+use Rattle.volume.specs.declared.Reading.{Reading}
+use Rattle.volume.specs.declared.walk.Spot.{Spot}
+use Rattle.volume.specs.declared.walk.Turn.{Turn}
+use Rattle.volume.specs.declared.blocks.Lengths.{Lengths}
+use Rattle.volume.specs.declared.blocks.Between.{Between}
+use Rattle.volume.specs.State.{State, start}
+use Rattle.volume.specs.Body.{body, between, answerBetween, Given, Inside, Skipped}
+use Rattle.volume.specs.Fault.{itemFault}
+use Rattle.volume.specs.Step.{Event, Next, go, no, step, isDue, ordered, judged, kindIn, bytesIn, stateAfter, eventsOf}
+use Rattle.volume.specs.Run.{Run, runs, next, further, answerOf, imageVerdict}
+use Rattle.volume.specs.Place.{contents, labelAt, namesAt}
+use Rattle.volume.specs.Walk.{answerFrom, answerBy, answerJudged, answerAfter, stopTurn, acceptTurn, BlockHere, BareHere, Begun, Past, Sized, Bounded, Small, Room, Ahead, Onward, Owes}
+use Rattle.volume.proofs.Runs.{answer-further, answer-end, answer-early}
+use Rattle.volume.proofs.Afters.{room-for-name}
+
+-- ---- counts
+
+pub small : (s : List ℕ) (x : Spot) (behind : ℕ) → Ahead s x behind → Small (x .state)
+small s x behind a =
+    let b : Bounded s (x .at) (x .item) (x .state) = a .bounded in
+    record {
+      reels = omega (arith, b .short, b .within, b .items, b .reels);
+      files = omega (arith, b .short, b .within, b .items, b .files);
+      blocks = omega (arith, b .short, b .within, b .items, b .blocks);
+    }
+
+-- ---- turns that stop
+
+-- the answer of a refused item
+answer-stop : (n : ℕ) (k b : ℕ) (f : State → Run) → answerOf n (next (no k b) f) ≡ verdict k n b
+unfolding next answerOf
+answer-stop n k b f = let z : n + 0 ≡ n = omega arith in ap (λ (m : ℕ). verdict k m b) z
+
+owes-stop : (s : List ℕ) (at : ℕ) (x : Spot) (k b : ℕ) (v : Verdict) (r : Turn) → r ≡ stopTurn x k b → v ≡ verdict k (x .item) b → Owes s at v r
+unfolding answerAfter ifB
+owes-stop s at x k b v r e q =
+    subst (Owes s at v) (sym e)
+    (record { same = sym q; onward = λ h. absurd (false≢true h); bounded = λ h. absurd (false≢true h) })
+
+-- an item that is not due
+pub owes-undue : (s : List ℕ) (x : Spot) (k : Kind) (l : List ℕ) (behind : ℕ) (d : Due) (r : Turn) → d ≡ dueAfter (x .state .phase) k → d ≡ Wrong
+    → r ≡ stopTurn x 3 0 → Owes s (x .at) (answerBy s (x .item) (contents s (x .state)) k l behind) r
+unfolding answerBy ordered contents
+owes-undue s x k l behind d r e w q =
+    owes-stop s (x .at) x 3 0 _ r q
+    (ap (λ (y : Due). answerOf (x .item) (next (ordered (contents s (x .state)) k l y) (λ u. runs u (decode (drop behind s))))) (sym e ∙ w)
+    ∙ answer-stop (x .item) 3 0 (λ u. runs u (decode (drop behind s))))
+
+-- an item with a fault
+pub owes-fault : (s : List ℕ) (x : Spot) (p : Phase) (k : Kind) (l m : List ℕ) (behind : ℕ) (f : Fault) (r : Turn) → m ≡ l → f ≡ itemFault (contents s (x .state)) k m
+    → (f .number ≡ 0 → ⊥) → r ≡ stopTurn x (f .number) (f .byte) → Owes s (x .at) (answerJudged s (x .item) (contents s (x .state)) p k l behind) r
+unfolding answerJudged judged
+owes-fault s x p k l m behind f r i e z q =
+    let same : itemFault (contents s (x .state)) k l ≡ f = ap (itemFault (contents s (x .state)) k) (sym i) ∙ sym e in
+    owes-stop s (x .at) x (f .number) (f .byte) _ r q
+    (ap (λ (y : Fault). answerOf (x .item) (next (judged (contents s (x .state)) p k l y) (λ u. runs u (decode (drop behind s))))) same
+    ∙ ap (λ (y : Next). answerOf (x .item) (next y (λ u. runs u (decode (drop behind s))))) (if-false _ _ _ (ne-eqb (f .number) 0 z))
+    ∙ answer-stop (x .item) (f .number) (f .byte) (λ u. runs u (decode (drop behind s))))
+
+-- ---- turns that go on
+
+answer-goes : (n : ℕ) (t : State) (es : List Event) (f : State → Run) → answerOf n (next (go t es) f) ≡ answerOf (n + 1) (f t)
+unfolding next
+answer-goes n t es f = answer-further n es (f t)
+
+-- an item without fault
+pub owes-on : (s : List ℕ) (x : Spot) (p : Phase) (k : Kind) (start len : ℕ) (m : List ℕ) (behind : ℕ) (f : Fault) (r : Turn) → m ≡ part start len s
+    → f ≡ itemFault (contents s (x .state)) k m → f .number ≡ 0 → Ahead s x behind → Onward s x p k start len behind r
+    → Owes s (x .at) (answerJudged s (x .item) (contents s (x .state)) p k (part start len s) behind) r
+unfolding answerJudged judged answerAfter answerFrom
+owes-on s x p k start len m behind f r i e z a o =
+    let l : List ℕ = part start len s in
+    let t : State = contents s (x .state) in
+    let same : itemFault t k l ≡ f = ap (itemFault t k) (sym i) ∙ sym e in
+    record {
+      same =
+          if-true _ _ _ (o .on)
+          ∙ ap (λ (n : ℕ). answerOf n (runs (contents s (r .spot .state)) (decode (drop (r .spot .at) s)))) (o .item)
+          ∙ ap (λ (u : State). answerOf (x .item + 1) (runs u (decode (drop (r .spot .at) s)))) (o .same)
+          ∙ ap (λ (n : ℕ). answerOf (x .item + 1) (runs (stateAfter t p k l) (decode (drop n s)))) (o .at)
+          ∙ sym (answer-goes (x .item) (stateAfter t p k l) (eventsOf t k l) (λ u. runs u (decode (drop behind s))))
+          ∙ sym (ap (λ (y : Next). answerOf (x .item) (next y (λ u. runs u (decode (drop behind s))))) (if-true _ _ _ (eq-eqb (f .number) 0 z)))
+          ∙ ap (λ (y : Fault). answerOf (x .item) (next (judged t p k l y) (λ u. runs u (decode (drop behind s))))) (sym same);
+      onward = λ _. subst (λ (n : ℕ). x .at < n) (sym (o .at)) (a .onward);
+      bounded = λ _. o .bounded;
+    }
+
+-- an item that is due owes what its judgement owes
+pub owes-due : (s : List ℕ) (x : Spot) (p : Phase) (k : Kind) (l : List ℕ) (behind : ℕ) (d : Due) (r : Turn) → d ≡ dueAfter (x .state .phase) k → d ≡ To p
+    → Owes s (x .at) (answerJudged s (x .item) (contents s (x .state)) p k l behind) r
+    → Owes s (x .at) (answerBy s (x .item) (contents s (x .state)) k l behind) r
+unfolding answerBy answerJudged ordered contents
+owes-due s x p k l behind d r e q o =
+    subst (λ (v : Verdict). Owes s (x .at) v r)
+    (sym (ap (λ (y : Due). answerOf (x .item) (next (ordered (contents s (x .state)) k l y) (λ u. runs u (decode (drop behind s))))) (sym e ∙ q))) o
+
+-- there is room for the name of a volume label without fault
+pub room-here : (s : List ℕ) (x : Spot) (k : Kind) (m : List ℕ) (f : Fault) → length (x .state .names) ≡ 16 → f ≡ itemFault (contents s (x .state)) k m → f .number ≡ 0
+    → Room k (x .state)
+room-here s x k m f n e z = room-for-name s (x .state) k m f e z n
+
+-- ---- the end of the image
+
+pub owes-end : (s : List ℕ) (x : Spot) (d : Due) (p : Phase) (r : Turn) → length s ≤ x .at → d ≡ dueAfter (x .state .phase) endOfImage → d ≡ To p
+    → r ≡ acceptTurn x → Owes s (x .at) (answerFrom s x) r
+unfolding answerFrom answerAfter ifB isDue contents
+owes-end s x d p r h e q t =
+    let fine : answerFrom s x ≡ verdict 0 0 0
+    = ap (λ (xs : List Item). answerOf (x .item) (runs (contents s (x .state)) xs)) (decode-past s (x .at) h)
+    ∙ answer-end (x .item) (contents s (x .state)) (ap isDue (sym e ∙ q)) in
+    subst (Owes s (x .at) (answerFrom s x)) (sym t)
+    (record { same = sym fine; onward = λ g. absurd (false≢true g); bounded = λ g. absurd (false≢true g) })
+
+pub owes-early : (s : List ℕ) (x : Spot) (d : Due) (r : Turn) → length s ≤ x .at → d ≡ dueAfter (x .state .phase) endOfImage → d ≡ Wrong
+    → r ≡ stopTurn x 3 0 → Owes s (x .at) (answerFrom s x) r
+unfolding answerFrom isDue contents
+owes-early s x d r h e q t =
+    owes-stop s (x .at) x 3 0 _ r t
+    (ap (λ (xs : List Item). answerOf (x .item) (runs (contents s (x .state)) xs)) (decode-past s (x .at) h)
+    ∙ answer-early (x .item) (contents s (x .state)) (ap isDue (sym e ∙ q)))
+
+-- ---- what a block is
+
+pub kind-label : (p : Phase) (l : List ℕ) (d : Due) (k : Kind) → d ≡ dueAfter p dataBlock → d ≡ Wrong → k ≡ kindOf l → k ≡ kindIn p (block l)
+unfolding kindIn isDue
+kind-label p l d k e w q = q ∙ sym (if-false _ _ _ (ap isDue (sym e ∙ w)))
+
+pub kind-data : (p t : Phase) (l : List ℕ) (d : Due) → d ≡ dueAfter p dataBlock → d ≡ To t → dataBlock ≡ kindIn p (block l)
+unfolding kindIn isDue
+kind-data p t l d e w = sym (if-true _ _ _ (ap isDue (sym e ∙ w)))
+
+-- a block that is kept by its place is a label of 80 bytes
+sized-of : (p : Phase) (l : List ℕ) (f n : ℕ) → (isKind dataBlock (kind f n) ≡ false) → (isKind other (kind f n) ≡ false)
+    → isKind (kindIn p (block l)) (kind f n) ≡ true → length l ≡ 80
+unfolding kindIn kindOf
+sized-of p l f n d o =
+    if-case (λ (k : Kind). isKind k (kind f n) ≡ true → length l ≡ 80) (isDue (dueAfter p dataBlock)) dataBlock (kindOf l)
+    (λ _ h. absurd (false≢true (sym d ∙ h)))
+    (λ _. if-case (λ (k : Kind). isKind k (kind f n) ≡ true → length l ≡ 80) (eqb (length l) 80) (named l) other
+    (λ e _. eqb-true (length l) 80 e) (λ _ h. absurd (false≢true (sym o ∙ h))))
+
+pub sized-block : (s : List ℕ) (x : Spot) (n : ℕ) (k : Kind) → BlockHere s x n
+    → k ≡ kindIn (x .state .phase) (block (take (x .at + 3 + n - (x .at + 3)) (drop (x .at + 3) s))) → Sized k n
+unfolding isKind
+sized-block s x n k h e =
+    let l : List ℕ = take (x .at + 3 + n - (x .at + 3)) (drop (x .at + 3) s) in
+    let long : length l ≡ n = ap length (part-within (x .at + 3) n s) ∙ length-part (x .at + 3) n s (omega (arith, h .within)) in
+    let at : (f m : ℕ) → isKind dataBlock (kind f m) ≡ false → isKind other (kind f m) ≡ false → isKind k (kind f m) ≡ true → n ≡ 80
+    = λ f m d o q. sym long ∙ sized-of (x .state .phase) l f m d o (ap (λ (j : Kind). isKind j (kind f m)) (sym e) ∙ q) in
+    record { volume = at 1 1 refl refl; first = at 3 1 refl refl; second = at 3 2 refl refl }
+
+pub ahead-block : (s : List ℕ) (x : Spot) (n : ℕ) → BlockHere s x n → Ahead s x (x .at + 3 + n)
+ahead-block s x n h = record { bounded = h .bounded; onward = omega arith; within = h .within }
+
+pub owes-block : (s : List ℕ) (x : Spot) (n : ℕ) (k : Kind) (r : Turn) → BlockHere s x n
+    → k ≡ kindIn (x .state .phase) (block (take (x .at + 3 + n - (x .at + 3)) (drop (x .at + 3) s)))
+    → Owes s (x .at) (answerBy s (x .item) (contents s (x .state)) k (part (x .at + 3) n s) (x .at + 3 + n)) r → Owes s (x .at) (answerFrom s x) r
+unfolding answerFrom answerBy runs step bytesIn contents
+owes-block s x n k r h e o =
+    let same : k ≡ kindIn (x .state .phase) (block (part (x .at + 3) n s)) = e ∙ ap (λ (l : List ℕ). kindIn (x .state .phase) (block l)) (part-within (x .at + 3) n s) in
+    subst (λ (v : Verdict). Owes s (x .at) v r)
+    (ap (λ (j : Kind). answerBy s (x .item) (contents s (x .state)) j (part (x .at + 3) n s) (x .at + 3 + n)) same
+    ∙ sym (ap (λ (xs : List Item). answerOf (x .item) (runs (contents s (x .state)) xs)) (h .here))) o
+
+-- ---- items without bytes
+
+pub owes-bare : (s : List ℕ) (x : Spot) (family behind : ℕ) (r : Turn) → BareHere s x family behind
+    → Owes s (x .at) (answerBy s (x .item) (contents s (x .state)) (kind family 0) (part 0 0 s) behind) r → Owes s (x .at) (answerFrom s x) r
+unfolding answerFrom answerBy runs step contents part
+owes-bare s x family behind r h o =
+    let y : Item = h .here .0 in
+    subst (λ (v : Verdict). Owes s (x .at) v r)
+    (ap (λ (l : List ℕ). answerBy s (x .item) (contents s (x .state)) (kind family 0) l behind) (sym (h .here .3))
+    ∙ ap (λ (j : Kind). answerBy s (x .item) (contents s (x .state)) j (bytesIn y) behind) (sym (h .here .2))
+    ∙ sym (ap (λ (xs : List Item). answerOf (x .item) (runs (contents s (x .state)) xs)) (h .here .1))) o
+
+-- no label of a kind that is kept
+sized-bare : (f : ℕ) → isKind (kind f 0) (vol 1) ≡ false → isKind (kind f 0) (hdr 1) ≡ false → isKind (kind f 0) (hdr 2) ≡ false → Sized (kind f 0) 0
+sized-bare f a b c =
+    record { volume = λ h. absurd (false≢true (sym a ∙ h)); first = λ h. absurd (false≢true (sym b ∙ h)); second = λ h. absurd (false≢true (sym c ∙ h)) }
+
+pub bare-mark : (s : List ℕ) (x : Spot) (p : Shape) → Bounded s (x .at) (x .item) (x .state) → x .at < length s → p ≡ shape (drop (x .at) s) → p ≡ Mark
+    → BareHere s x 9 (x .at + 3)
+unfolding isKind kindIn bytesIn
+bare-mark s x p b m e q =
+    record {
+      ahead = record { bounded = b; onward = omega arith; within = mark-within s (x .at) p e q };
+      bare = sized-bare 9 refl refl refl;
+      here = (mark, decode-mark s (x .at) p m e q, refl, refl);
+    }
+
+pub bare-reel-end : (s : List ℕ) (x : Spot) (p : Shape) → Bounded s (x .at) (x .item) (x .state) → x .at < length s → p ≡ shape (drop (x .at) s) → p ≡ ReelEnd
+    → BareHere s x 10 (x .at + 3)
+unfolding isKind kindIn bytesIn
+bare-reel-end s x p b m e q =
+    record {
+      ahead = record { bounded = b; onward = omega arith; within = reel-end-within s (x .at) p e q };
+      bare = sized-bare 10 refl refl refl;
+      here = (reelEnd, decode-reel-end s (x .at) p m e q, refl, refl);
+    }
+
+pub bare-broken : (s : List ℕ) (x : Spot) (p : Shape) → Bounded s (x .at) (x .item) (x .state) → x .at < length s → p ≡ shape (drop (x .at) s) → p ≡ Broken
+    → BareHere s x 0 (length s)
+unfolding isKind kindIn bytesIn
+bare-broken s x p b m e q =
+    record {
+      ahead = record { bounded = b; onward = m; within = omega arith };
+      bare = sized-bare 0 refl refl refl;
+      here = (
+        broken,
+        decode-broken s (x .at) p m e q ∙ ap (λ (xs : List Item). broken ∷ xs) (sym (decode-past s (length s) (omega arith))),
+        refl,
+        refl,
+      );
+    }
+
+pub block-stands : (s : List ℕ) (x : Spot) (n : ℕ) (p : Shape) → Bounded s (x .at) (x .item) (x .state) → x .at < length s → p ≡ shape (drop (x .at) s) → p ≡ Block n
+    → BlockHere s x n
+block-stands s x n p b m e q =
+    record { bounded = b; here = decode-block s (x .at) n p m e q; within = block-within s (x .at) n p e q }
+
+-- the place behind an item fits
+pub spot-fits : (s : List ℕ) (x : Spot) → Bounded s (x .at) (x .item) (x .state) → Fits w64 (x .at + 3)
+spot-fits s x b = record { fits = omega (arith, b .short, b .within) }
+
+pub ruleset turns = (small, owes-undue, owes-fault, owes-on, owes-due, room-here, needs)
+
+pub ruleset items = (owes-end, owes-early, kind-label, kind-data, sized-block, ahead-block, owes-block, owes-bare, bare-mark, bare-reel-end, bare-broken, block-stands, spot-fits, needs)
+
+-- ---- data blocks in a row
+
+pub inside : (s : List ℕ) (x : Spot) → Bounded s (x .at) (x .item) (x .state) → Inside s (x .at) (x .item) (x .state .count)
+inside s x b = record { short = b .short; within = b .within; items = b .items; blocks = b .blocks }
+
+-- past data blocks the answer is the same
+pub past-data : (s : List ℕ) (x : Spot) (h : Lengths) (m : List ℕ) (b : Between) → m ≡ part (x .state .second) 80 s → Given h m
+    → Skipped s h (between (x .at) (x .item) (x .state .count) (x .state .pending)) b → x .state .phase ≡ Data → Bounded s (x .at) (x .item) (x .state)
+    → Past s x
+    (record {
+      at = b .at;
+      item = b .item;
+      state =
+          record {
+            phase = Data;
+            names = x .state .names;
+            reels = x .state .reels;
+            files = x .state .files;
+            ongoing = x .state .ongoing;
+            first = x .state .first;
+            second = x .state .second;
+            count = b .count;
+            pending = b .pending;
+          };
+    })
+unfolding answerFrom answerBetween contents labelAt
+past-data s x h m b e g k d w =
+    let t : State = contents s (x .state) in
+    let inData : contents s (x .state) ≡ body t (x .state .count) (x .state .pending)
+    = λ i. record { phase = d i; names = t .names; files = t .files; goesOn = t .goesOn; first = t .first; second = t .second; count = t .count; pending = t .pending } in
+    let given : Given h (t .second) = subst (Given h) e g in
+    record {
+      same =
+          sym (k .same t given)
+          ∙ sym (ap (λ (u : State). answerOf (x .item) (runs u (decode (drop (x .at) s)))) inData);
+      onward = k .onward;
+      bounded =
+          record {
+            short = w .short;
+            within = k .inside .within;
+            items = k .inside .items;
+            reels = omega (arith, w .reels, k .passed);
+            files = omega (arith, w .files, k .passed);
+            blocks = k .inside .blocks;
+          };
+    }
+
+pub past-none : (s : List ℕ) (x : Spot) → Bounded s (x .at) (x .item) (x .state) → Past s x x
+past-none s x b = record { same = refl; onward = omega arith; bounded = b }
+
+pub ruleset pasts = (inside, past-data, past-none, needs)
+
+-- ---- the whole walk
+
+pub begun : (s names : List ℕ) → 5 ≤ length s → length s ≤ mostImage
+    → Begun s
+    (record {
+      at = 5;
+      item = 0;
+      state = record { phase = Reel; names = names; reels = 0; files = 0; ongoing = false; first = length s; second = length s; count = 0; pending = 0 };
+    })
+unfolding answerFrom allItems contents start namesAt labelAt part
+begun s names a b =
+    let none : take 80 (drop (length s) s) ≡ [] = ap (take 80) (drop-length s) in
+    record {
+      same =
+          ap (λ (u : State). answerOf 0 (runs u (decode (drop 5 s))))
+          (λ i. record { phase = Reel; names = []; files = 0; goesOn = false; first = none i; second = none i; count = 0; pending = 0 });
+      bounded = record { short = b; within = a; items = omega arith; reels = omega arith; files = omega arith; blocks = omega arith };
+    }
+
+pub walk-on : (s : List ℕ) (x y : Spot) (t : Turn) → Begun s x → Past s x y → Owes s (y .at) (answerFrom s y) t → t .on ≡ true → Begun s (t .spot)
+unfolding answerAfter
+walk-on s x y t b p o h =
+    record { same = sym (if-true _ _ _ h) ∙ o .same ∙ p .same ∙ b .same; bounded = o .bounded h }
+
+pub walk-falls : (s : List ℕ) (x y : Spot) (t : Turn) → Past s x y → Owes s (y .at) (answerFrom s y) t → t .on ≡ true → length s - t .spot .at < length s - x .at
+walk-falls s x y t p o h = omega (arith, p .onward, o .onward h, o .bounded h .within)
+
+pub walk-done : (s : List ℕ) (x y : Spot) (t : Turn) → Begun s x → Past s x y → Owes s (y .at) (answerFrom s y) t → t .on ≡ false
+    → t .verdict ≡ answerOf 0 (runs start (allItems s))
+unfolding answerAfter
+walk-done s x y t b p o h = sym (if-false _ _ _ h) ∙ o .same ∙ p .same ∙ b .same
+
+pub still-bounded : (s : List ℕ) (x : Spot) → Begun s x → Bounded s (x .at) (x .item) (x .state)
+still-bounded s x b = b .bounded
+
+pub past-bounded : (s : List ℕ) (x y : Spot) → Past s x y → Bounded s (y .at) (y .item) (y .state)
+past-bounded s x y p = p .bounded
+
+pub ruleset walks = (begun, walk-on, walk-falls, walk-done, still-bounded, past-bounded, needs)
+
+-- ---- the verdict
+
+-- an image of good framing has its head and is not too long
+pub framed-long : (s : List ℕ) (f : Verdict) → f ≡ framing s → f .number ≡ 0 → 5 ≤ length s
+framed-long s f e z =
+    let headed : take 5 s ≡ head = framing-zero s (ap (λ (v : Verdict). v .number) (sym e) ∙ z) .headed in
+    let five : length (take 5 s) ≡ 5 = ap length headed in
+    omega (arith, length-take 5 s)
+
+pub framed-short : (s : List ℕ) (f : Verdict) → f ≡ framing s → f .number ≡ 0 → length s ≤ mostImage
+framed-short s f e z = framing-zero s (ap (λ (v : Verdict). v .number) (sym e) ∙ z) .small
+
+pub verdict-framing : (s : List ℕ) (f : Verdict) → f ≡ framing s → (f .number ≡ 0 → ⊥) → f ≡ imageVerdict s
+unfolding imageVerdict
+verdict-framing s f e z = e ∙ sym (if-false _ _ _ (ne-eqb (framing s .number) 0 (λ q. z (ap (λ (v : Verdict). v .number) e ∙ q))))
+
+pub verdict-items : (s : List ℕ) (f r : Verdict) → f ≡ framing s → f .number ≡ 0 → r ≡ answerOf 0 (runs start (allItems s)) → r ≡ imageVerdict s
+unfolding imageVerdict
+verdict-items s f r e z q = q ∙ sym (if-true _ _ _ (eq-eqb (framing s .number) 0 (ap (λ (v : Verdict). v .number) (sym e) ∙ z)))
+
+pub ruleset verdicts = (framed-long, framed-short, verdict-framing, verdict-items, needs)

@@ -1,0 +1,21 @@
+use Rattle.volume.specs.Fault.{fileEndFault}
+use borrow.Author.Needs.{needs}
+use Rattle.volume.proofs.fault.file_end_fault.Statement.{statement}
+use Rattle.volume.proofs.fault.file_end_fault.Tie as tie
+
+first-trailer-fault-requires : tie.Need-first-trailer-fault-requires
+first-trailer-fault-requires c κs = search needs
+
+open-fault-requires : tie.Need-open-fault-requires
+open-fault-requires c κs = search needs
+
+or-else-requires : tie.Need-or-else-requires
+or-else-requires c κs = search needs
+
+returns : tie.Need-returns
+unfolding fileEndFault
+returns c = cc
+
+pub file-end-fault-spec : {M : Type 1} → statement M
+file-end-fault-spec =
+    tie.close (tie.spec first-trailer-fault-requires open-fault-requires or-else-requires returns)

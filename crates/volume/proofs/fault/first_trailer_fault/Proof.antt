@@ -1,0 +1,30 @@
+use Rattle.volume.specs.Fault.{firstTrailerFault}
+use borrow.Author.Needs.{needs}
+use Rattle.volume.proofs.fault.first_trailer_fault.Statement.{statement}
+use Rattle.volume.proofs.fault.first_trailer_fault.Tie as tie
+
+unequal-trailer-first-requires : tie.Need-unequal-trailer-first-requires
+unequal-trailer-first-requires c κs = search needs
+
+count-place-requires : tie.Need-count-place-requires
+count-place-requires c κs = search needs
+
+lower-requires : tie.Need-lower-requires
+lower-requires c κs = search needs
+
+crossed-requires : tie.Need-crossed-requires
+crossed-requires c κs = search needs
+
+returns : tie.Need-returns
+unfolding firstTrailerFault
+returns c = cc
+
+pub first-trailer-fault-spec : {M : Type 1} → statement M
+first-trailer-fault-spec =
+    tie.close
+    (tie.spec
+    unequal-trailer-first-requires
+    count-place-requires
+    lower-requires
+    crossed-requires
+    returns)

@@ -1,0 +1,25 @@
+use Rattle.volume.proofs.Faults.{is-then}
+use Rattle.volume.specs.Fault.{secondHeaderFault}
+use Rattle.base.proofs.Rules.{ifs}
+use Rattle.base.specs.Answer.{fault}
+use borrow.Author.Needs.{needs}
+use Rattle.volume.proofs.fault.second_header_fault.Statement.{statement}
+use Rattle.volume.proofs.fault.second_header_fault.Tie as tie
+
+unequal-section-second-requires : tie.Need-unequal-section-second-requires
+unequal-section-second-requires c κs = search needs
+
+crossed-requires : tie.Need-crossed-requires
+crossed-requires c κs = search needs
+
+returns : tie.Need-returns
+unfolding secondHeaderFault fault
+returns c = is-then _ _ _ _ (cc) (cc)
+
+returns-2 : tie.Need-returns-2
+unfolding secondHeaderFault fault
+returns-2 c = search ifs
+
+pub second-header-fault-spec : {M : Type 1} → statement M
+second-header-fault-spec =
+    tie.close (tie.spec unequal-section-second-requires crossed-requires returns returns-2)

@@ -1,0 +1,36 @@
+use Rattle.volume.proofs.Walks.{items}
+use Rattle.volume.proofs.walk.end_turn.Statement.{statement}
+use Rattle.volume.proofs.walk.end_turn.Tie as tie
+
+due-after-requires : tie.Need-due-after-requires
+due-after-requires c κs = search items
+
+enum-told : tie.Need-enum-told
+enum-told c = search items
+
+stop-requires : tie.Need-stop-requires
+stop-requires c κs = search items
+
+enum-told-2 : tie.Need-enum-told-2
+enum-told-2 c = search items
+
+accept-requires : tie.Need-accept-requires
+accept-requires c κs = search items
+
+returns : tie.Need-returns
+returns c = search items
+
+returns-2 : tie.Need-returns-2
+returns-2 c = search items
+
+pub end-turn-spec : {M : Type 1} → statement M
+end-turn-spec =
+    tie.close
+    (tie.spec
+    due-after-requires
+    enum-told
+    stop-requires
+    enum-told-2
+    accept-requires
+    returns
+    returns-2)

@@ -1,0 +1,329 @@
+// The faults of an item that is due: those of its label by itself, then those against what was read before it.
+// It knows no order of items, and no place of a field but those that a cross-check names.
+ghost use mathlib.Core.Path.{_≡_};
+ghost use mathlib.Core.Bool.{true};
+ghost use Prim.Native.Nat.{_+_};
+ghost use lib.Dec.{eqb};
+ghost use lib.ListN.{take};
+ghost use Rattle.base.specs.If.{ifB};
+ghost use Rattle.base.specs.Part.{same};
+ghost use Rattle.base.specs.Answer.{fault, orElse};
+ghost use Rattle.order.specs.Kind.{eov, eof, isKind};
+ghost use Rattle.label.specs.Field.{setOf, sectionOf, countOf};
+ghost use Rattle.volume.specs.Fault.{says, valueOf, lower, crossed, volumeFault, newFilePlace, laterPlace, fileFault};
+ghost use Rattle.volume.specs.Fault.{firstHeaderFault, secondHeaderFault, firstTrailerFault, openFault, fileEndFault, secondTrailerFault};
+ghost use Rattle.volume.specs.Fault.{outcomeIn, blockFault, contextFault, itemFault};
+ghost use Rattle.volume.specs.Place.{namesAt, contents};
+use super::Reading;
+use super::among::is_among;
+use super::among::label_at;
+use base::Fault;
+use base::equal;
+use block::Outcome;
+use block::block_outcome;
+use charset::Number;
+use label::block_length;
+use label::count_of;
+use label::format_of;
+use label::label_fault;
+use label::offset_length;
+use label::record_length;
+use label::section_of;
+use label::sequence_of;
+use label::set_of;
+use label::unequal_section_first;
+use label::unequal_section_second;
+use label::unequal_trailer_first;
+use label::unequal_trailer_second;
+use label::volume_of;
+use order::DATA_BLOCK;
+use order::EOF;
+use order::EOV;
+use order::HDR;
+use order::Kind;
+use order::VOL;
+use order::is;
+
+// The most reels and files of a set.
+const REELS: usize = 16;
+
+const FILES: u32 = 64;
+
+// Whether a field says n. At 64 bits, where one more than any number of 32 bits fits.
+fn says(n: u64, x: Number) -> bool
+    ensures { λ r. ⌜ r ≡ says n x ⌝ }
+{
+    match x {
+        Number::Value(m) => m as u64 == n,
+        Number::Wrong => false,
+    }
+}
+
+// What a field says.
+pub(crate) fn value_of(x: Number) -> u32
+    ensures { λ r. ⌜ r ≡ valueOf x ⌝ }
+{
+    match x {
+        Number::Value(n) => n,
+        Number::Wrong => 0,
+    }
+}
+
+// The lower of two BPs, where 0 is none.
+fn lower(a: u32, b: u32) -> u32
+    ensures { λ r. ⌜ r ≡ lower a b ⌝ }
+{
+    if a == 0 {
+        return b;
+    }
+    if b == 0 {
+        return a;
+    }
+    if a <= b {
+        return a;
+    }
+    b
+}
+
+// Number 6 at a BP, or none.
+fn crossed(bp: u32) -> Fault
+    ensures { λ r. ⌜ r ≡ crossed bp ⌝ }
+{
+    if bp == 0 {
+        return Fault { number: 0, byte: 0 };
+    }
+    Fault {
+        number: 6,
+        byte: bp,
+    }
+}
+
+// The first of two faults that is one.
+fn or_else(f: Fault, g: Fault) -> Fault
+    ensures { λ r. ⌜ r ≡ orElse f g ⌝ }
+{
+    if f.number == 0 {
+        return g;
+    }
+    f
+}
+
+// VOL1 behind the volume labels at the first `reels` places: another reel than theirs, and no 17th.
+fn volume_fault(image: &[u8], names: [usize; 16], reels: usize, l: &[u8]) -> Fault
+    ensures { λ r. ⌜ r ≡ volumeFault (namesAt (now (image .entry)) (take reels names)) (now (l .entry)) ⌝ }
+{
+    if REELS <= reels {
+        return Fault { number: 2, byte: 0 };
+    }
+    if is_among(image, &names[..reels], volume_of(l)) {
+        return Fault { number: 6, byte: 5 };
+    }
+    Fault { number: 0, byte: 0 }
+}
+
+// Whether a new file has the set identifier of the file before, where there is one.
+fn is_same_set(files: u32, first: &[u8], l: &[u8]) -> bool
+    ensures { λ r. ⌜ r ≡ ifB (eqb files 0) true (same (setOf (now (l .entry))) (setOf (now (first .entry)))) ⌝ }
+{
+    if files == 0 {
+        return true;
+    }
+    equal(set_of(l), set_of(first))
+}
+
+// The BP at which the first HDR1 of a file is wrong against the file before, or 0.
+fn new_file_place(files: u32, first: &[u8], l: &[u8]) -> u32
+    ensures { λ r. ⌜ r ≡ newFilePlace files (now (first .entry)) (now (l .entry)) ⌝ }
+{
+    if is_same_set(files, first, l) {
+        if says(1, section_of(l)) {
+            if says(files as u64 + 1, sequence_of(l)) {
+                return 0;
+            }
+            return 32;
+        }
+        return 28;
+    }
+    22
+}
+
+// The BP of the section number, where it is not one higher than in the section before, or 0.
+fn section_place(first: &[u8], l: &[u8]) -> u32
+    ensures { λ r. ⌜ r ≡ ifB (says (valueOf (sectionOf (now (first .entry))) + 1) (sectionOf (now (l .entry)))) 0 28 ⌝ }
+{
+    let before = value_of(section_of(first)) as u64;
+    if says(before + 1, section_of(l)) {
+        return 0;
+    }
+    28
+}
+
+// The BP at which HDR1 of a later section is wrong against the section before, or 0.
+fn later_place(first: &[u8], l: &[u8]) -> u32
+    ensures { λ r. ⌜ r ≡ laterPlace (now (first .entry)) (now (l .entry)) ⌝ }
+{
+    lower(unequal_section_first(first, l), section_place(first, l))
+}
+
+// The file behind that many others: the 65th is refused.
+fn file_fault(files: u32) -> Fault
+    ensures { λ r. ⌜ r ≡ fileFault files ⌝ }
+{
+    if FILES <= files {
+        return Fault { number: 9, byte: 0 };
+    }
+    Fault { number: 0, byte: 0 }
+}
+
+// HDR1, of a later section or of a new file.
+fn first_header_fault(ongoing: bool, files: u32, first: &[u8], l: &[u8]) -> Fault
+    ensures { λ r. ⌜ r ≡ firstHeaderFault ongoing files (now (first .entry)) (now (l .entry)) ⌝ }
+{
+    if ongoing {
+        return crossed(later_place(first, l));
+    }
+    or_else(crossed(new_file_place(files, first, l)), file_fault(files))
+}
+
+// HDR2, which a later section has as the section before.
+fn second_header_fault(ongoing: bool, second: &[u8], l: &[u8]) -> Fault
+    ensures { λ r. ⌜ r ≡ secondHeaderFault ongoing (now (second .entry)) (now (l .entry)) ⌝ }
+{
+    if ongoing {
+        return crossed(unequal_section_second(second, l));
+    }
+    Fault { number: 0, byte: 0 }
+}
+
+// The BP of the block count, where it is not the number of blocks of the section, or 0.
+fn count_place(count: usize, l: &[u8]) -> u32
+    ensures { λ r. ⌜ r ≡ ifB (says count (countOf (now (l .entry)))) 0 55 ⌝ }
+{
+    if says(count as u64, count_of(l)) {
+        return 0;
+    }
+    55
+}
+
+// EOV1 or EOF1 against the HDR1 and the blocks of its section.
+fn first_trailer_fault(first: &[u8], count: usize, l: &[u8]) -> Fault
+    ensures { λ r. ⌜ r ≡ firstTrailerFault (now (first .entry)) count (now (l .entry)) ⌝ }
+{
+    crossed(lower(unequal_trailer_first(first, l), count_place(count, l)))
+}
+
+// A file that ends with a record open.
+fn open_fault(pending: usize) -> Fault
+    ensures { λ r. ⌜ r ≡ openFault pending ⌝ }
+{
+    if pending == 0 {
+        return Fault { number: 0, byte: 0 };
+    }
+    Fault { number: 8, byte: 0 }
+}
+
+// EOF1.
+fn file_end_fault(first: &[u8], count: usize, pending: usize, l: &[u8]) -> Fault
+    ensures { λ r. ⌜ r ≡ fileEndFault (now (first .entry)) count pending (now (l .entry)) ⌝ }
+{
+    or_else(first_trailer_fault(first, count, l), open_fault(pending))
+}
+
+// EOV2 or EOF2 against the HDR2 of its section.
+fn second_trailer_fault(second: &[u8], l: &[u8]) -> Fault
+    ensures { λ r. ⌜ r ≡ secondTrailerFault (now (second .entry)) (now (l .entry)) ⌝ }
+{
+    crossed(unequal_trailer_second(second, l))
+}
+
+// A trailer label of kind k, or none of them.
+fn trailer_fault(
+    first: &[u8],
+    second: &[u8],
+    count: usize,
+    pending: usize,
+    k: Kind,
+    l: &[u8],
+) -> Fault
+    ensures { λ r. ⌜ r ≡ ifB (isKind k (eov 1)) (firstTrailerFault (now (first .entry)) count (now (l .entry)))
+        (ifB (isKind k (eof 1)) (fileEndFault (now (first .entry)) count pending (now (l .entry)))
+        (ifB (isKind k (eov 2)) (secondTrailerFault (now (second .entry)) (now (l .entry)))
+        (ifB (isKind k (eof 2)) (secondTrailerFault (now (second .entry)) (now (l .entry))) (fault 0 0)))) ⌝ }
+{
+    if is(k, EOV, 1) {
+        return first_trailer_fault(first, count, l);
+    }
+    if is(k, EOF, 1) {
+        return file_end_fault(first, count, pending, l);
+    }
+    if is(k, EOV, 2) {
+        return second_trailer_fault(second, l);
+    }
+    if is(k, EOF, 2) {
+        return second_trailer_fault(second, l);
+    }
+    Fault { number: 0, byte: 0 }
+}
+
+// The answer on a data block, by the lengths in the HDR2 of its section.
+pub(crate) fn outcome_in(second: &[u8], pending: usize, l: &[u8]) -> Outcome
+    ensures { λ r. ⌜ r ≡ outcomeIn (now (second .entry)) pending (now (l .entry)) ⌝ }
+{
+    let block = value_of(block_length(second)) as usize;
+    let size = value_of(record_length(second));
+    let offset = value_of(offset_length(second)) as usize;
+    block_outcome(format_of(second), block, size, offset, pending, l)
+}
+
+// A data block.
+fn block_fault(second: &[u8], pending: usize, l: &[u8]) -> Fault
+    ensures { λ r. ⌜ r ≡ blockFault (now (second .entry)) pending (now (l .entry)) ⌝ }
+{
+    let outcome = outcome_in(second, pending, l);
+    Fault {
+        number: outcome.number,
+        byte: 0,
+    }
+}
+
+// The fault of an item of kind k and contents l against what was read before it, with the last HDR1 and HDR2 at hand.
+fn context_fault(image: &[u8], st: Reading, first: &[u8], second: &[u8], k: Kind, l: &[u8]) -> Fault
+    ensures { λ r. ⌜ r ≡ contextFault
+        (record {
+          phase = st .phase;
+          names = namesAt (now (image .entry)) (take (st .reels) (st .names));
+          files = st .files;
+          goesOn = st .ongoing;
+          first = now (first .entry);
+          second = now (second .entry);
+          count = st .count;
+          pending = st .pending;
+        }) k (now (l .entry)) ⌝ }
+{
+    if is(k, DATA_BLOCK, 0) {
+        return block_fault(second, st.pending, l);
+    }
+    if is(k, VOL, 1) {
+        let names = st.names;
+        return volume_fault(image, names, st.reels, l);
+    }
+    if is(k, HDR, 1) {
+        return first_header_fault(st.ongoing, st.files, first, l);
+    }
+    if is(k, HDR, 2) {
+        return second_header_fault(st.ongoing, second, l);
+    }
+    trailer_fault(first, second, st.count, st.pending, k, l)
+}
+
+// Its first fault: 4 and 5 of its label by itself, then the others.
+pub(crate) fn item_fault(image: &[u8], st: Reading, k: Kind, l: &[u8]) -> Fault
+    ensures { λ r. ⌜ r ≡ itemFault (contents (now (image .entry)) st) k (now (l .entry)) ⌝ }
+{
+    let first = label_at(image, st.first);
+    let second = label_at(image, st.second);
+    or_else(
+        label_fault(k, l),
+        context_fault(image, st, first, second, k, l),
+    )
+}
