@@ -17,6 +17,7 @@ pub struct Fault {
 }
 
 // The answer on an image: the number given back, 0 for done, the item and the byte position in its label.
+#[repr(C)]
 pub struct Verdict {
     pub number: u32,
     pub item: u32,
