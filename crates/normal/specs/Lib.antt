@@ -1,0 +1,3 @@
+pub mod Rewrite
+pub mod Normal
+pub mod Demands

@@ -9,7 +9,7 @@ use Rattle.base.specs.If.{ifB}
 use Rattle.image.specs.Framing.{mostReels}
 use Rattle.volume.specs.Fault.{mostFiles}
 use Rattle.volume.specs.Meaning.{File, Meaning}
-use Rattle.sheet.specs.Legal.{Sheet, legalSheet}
+use Rattle.sheet.specs.Legal.{Sheet, legalSheet, legalQuota, legalNames}
 
 pub record Flat : Type 0 where
   pub set : List ℕ
@@ -70,3 +70,9 @@ sheetNumber x =
     ifB (ltb mostFiles (length (x .files) / 46)) 9
     (ifB (ltb mostReels (length (x .names) / 6)) 9
     (ifB (addsUp x) (ifB (legalSheet (sheetOf x)) 0 11) 11))
+
+-- the quota and the names alone, as rewriting gets them: 9, 11, else 0
+unfoldable pub reelsNumber : ℕ → List ℕ → ℕ
+reelsNumber quota names =
+    ifB (ltb mostReels (length names / 6)) 9
+    (ifB (eqb (length names % 6) 0) (ifB (legalQuota quota) (ifB (legalNames (inParts 6 names)) 0 11) 11) 11)

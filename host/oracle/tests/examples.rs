@@ -1,7 +1,6 @@
 //! The worked examples of document 01: the whole LEDGER set and its listing.
 
-mod common;
-use common::*;
+use cases::ledger::*;
 use oracle::generate::image_of;
 use oracle::{check, listing, listing_of_input, meaning, record, write, Answer, Found};
 

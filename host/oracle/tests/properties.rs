@@ -1,11 +1,11 @@
 //! Laws that hold for every set and sheet the generator makes, from fixed seeds.
 
+use cases::tally::Tally;
 use oracle::generate::{
     damaged, illegal_order, image_of, large, legal_order, names, whole, whole_pieces, Large, Piece,
     Rng,
 };
 use oracle::*;
-use std::collections::BTreeMap;
 
 #[test]
 fn whole_sets_are_accepted_up_to_every_limit() {
@@ -28,23 +28,11 @@ fn whole_sets_are_accepted_up_to_every_limit() {
 #[test]
 fn damaged_sets_give_every_number_at_many_places() {
     let rng = &mut Rng::new(12);
-    let mut numbers = [0; 10];
-    let mut places: BTreeMap<(u32, u32), u32> = BTreeMap::new();
+    let mut tally = Tally::default();
     for _ in 0..50_000 {
-        let answer = check(&damaged(rng));
-        numbers[answer.number as usize] += 1;
-        *places.entry((answer.number, answer.byte)).or_default() += 1;
+        tally.count(check(&damaged(rng)));
     }
-    for (number, &count) in numbers.iter().enumerate() {
-        assert!(count > 100, "number {number} came {count} times: {numbers:?}");
-    }
-    let bytes = |number| places.keys().filter(move |key| key.0 == number).map(|key| key.1);
-    let fields =
-        [4, 5, 6, 11, 12, 22, 25, 28, 32, 36, 38, 40, 42, 48, 51, 52, 53, 54, 55, 61, 74, 80];
-    assert!(bytes(4).eq(fields), "every field of every label: {places:?}");
-    assert!(bytes(5).eq([11, 54]), "{places:?}");
-    let compared = [5, 6, 11, 22, 28, 32, 36, 40, 42, 48, 51, 55];
-    assert!(bytes(6).eq(compared), "every field that is compared: {places:?}");
+    tally.assert_complete(100);
 }
 
 #[test]

@@ -1,7 +1,6 @@
 //! Writing order sheets: the blocks and reels made, and the refusals 9, 11, 12, 14, 10 in this order.
 
-mod common;
-use common::*;
+use cases::ledger::*;
 use oracle::generate::{image_of, names, Rng};
 use oracle::tape::{Item, Tape};
 use oracle::{check, rewrite, Answer, Order, Written};

@@ -1,0 +1,63 @@
+-- The owner's three demands, over the definitions that the public contracts cite. Each proof cites the file below it. Assumes nothing.
+use mathlib.Core.Path.{_≡_}
+use mathlib.Core.Logic.{_↔_}
+use mathlib.Core.List.{List}
+use Prim.Native.Nat.{ℕ, _≤_}
+use lib.ListN.{length, take}
+use Rattle.base.specs.Answer.{verdict}
+use Rattle.image.specs.Framing.{framing, items}
+use Rattle.volume.specs.State.{start}
+use Rattle.volume.specs.Run.{imageVerdict}
+use Rattle.volume.specs.Accepted.{Accepted, FirstWrong}
+use Rattle.volume.specs.Meaning.{content}
+use Rattle.volume.proofs.Accepted.{accepted-iff, refused-first}
+use Rattle.sheet.specs.Flat.{Flat, sheetOf}
+use Rattle.writer.specs.Write.{write}
+use Rattle.writer.proofs.RoundTrip.{Means, write-reads-back}
+use Rattle.normal.specs.Rewrite.{rewrite, imageIn}
+use Rattle.normal.specs.Normal.{Given, Enough, Kept, write-kept, rewrite-kept, rewrite-normal, normal-same, normal-twice}
+
+-- "1. Any bytes, any numbers: every operation ends and answers by itself, without asking the caller to have checked anything. Each refusal has its
+-- number and place, and changes no byte of a lent buffer."
+-- The definitions are total, and no public function has a `requires`. Ruled out: a writer that fails half way through its buffer.
+pub refusal-changes-nothing : (x : Flat) (out : List ℕ) → Kept (write x out .number) (write x out .len) out (write x out .out)
+refusal-changes-nothing = write-kept
+
+pub rewriting-refusal-changes-nothing : (s : List ℕ) (quota : ℕ) (names out : List ℕ)
+    → Kept (rewrite s quota names out .verdict .number) (rewrite s quota names out .len) out (rewrite s quota names out .out)
+rewriting-refusal-changes-nothing = rewrite-kept
+
+-- "2. A set is accepted exactly when its image, labels, marks, blocks and cross-checks follow ECMA-13, fourth edition, as cut down in document 01;"
+-- Ruled out: a checker that refuses all sets, or accepts all, or names a later fault.
+pub accepted-exactly : (s : List ℕ) → imageVerdict s .number ≡ 0 ↔ Accepted s
+accepted-exactly = accepted-iff
+
+pub refused-at-the-first : (s : List ℕ) (k i b : ℕ) → framing s .number ≡ 0 → (k ≡ 0 → ⊥) → imageVerdict s ≡ verdict k i b → FirstWrong start (items s) k i b
+refused-at-the-first = refused-first
+
+-- "The reel writer turns any order sheet that it doesn't refuse into the image fixed there, which reads back as an accepted set with that sheet's
+-- meaning." Ruled out: an idle writer, a made-up trailer count.
+pub written-reads-back : (x : Flat) (out : List ℕ) → write x out .number ≡ 0 → Means (take (write x out .len) (write x out .out)) (sheetOf x .meaning)
+written-reads-back = write-reads-back
+
+-- "3. One meaning, one normal set. Take any two accepted sets, whatever their images hold beyond their meanings. Take any legal reel quota and any
+-- legal list of reel names, the same for both, with reels and room enough for each, and neither written image over document 01's limit."
+module _ (a b : List ℕ) (quota : ℕ) (names : List ℕ) (o p : List ℕ) (ga : Given a quota names) (gb : Given b quota names) (ea : Enough (rewrite a quota names o .verdict .number))
+    (eb : Enough (rewrite b quota names p .verdict .number)) where
+  -- "Then rewriting refuses neither set, whatever the buffers lent to write into held before." Ruled out: a rewriter that refuses.
+  pub refuses-neither : (rewrite a quota names o .verdict ≡ verdict 0 0 0) × (rewrite b quota names p .verdict ≡ verdict 0 0 0)
+  refuses-neither = (rewrite-normal a quota names o ga ea .done, rewrite-normal b quota names p gb eb .done)
+
+  -- "Each written image is an accepted set with the same meaning, records included, as the set it was written from." Ruled out: one fixed set.
+  pub same-meaning : Means (imageIn (rewrite a quota names o)) (content a) × Means (imageIn (rewrite b quota names p)) (content b)
+  same-meaning = (rewrite-normal a quota names o ga ea .means, rewrite-normal b quota names p gb eb .means)
+
+  -- "The two written images are equal in length and in every byte exactly when the two meanings are equal." Ruled out: a rewriter that copies.
+  pub equal-exactly : (imageIn (rewrite a quota names o) ≡ imageIn (rewrite b quota names p)) ↔ (content a ≡ content b)
+  equal-exactly = normal-same a b quota names o p (rewrite-normal a quota names o ga ea) (rewrite-normal b quota names p gb eb)
+
+  -- "Each written image, rewritten with that quota and list into another buffer with room enough, gives the same image again, byte for byte."
+  pub again-the-same : (other : List ℕ) → length (imageIn (rewrite a quota names o)) ≤ length other
+      → (rewrite (imageIn (rewrite a quota names o)) quota names other .verdict ≡ verdict 0 0 0)
+      × (imageIn (rewrite (imageIn (rewrite a quota names o)) quota names other) ≡ imageIn (rewrite a quota names o))
+  again-the-same other room = normal-twice a quota names o other ga (rewrite-normal a quota names o ga ea) room
