@@ -1,15 +1,18 @@
--- Laws of lists of checks. Assumes nothing.
-use mathlib.Core.Path.{_≡_, refl, sym, ap, _∙_}
-use mathlib.Core.Bool.{Bool, true, false}
-use mathlib.Core.List.{List, [], _∷_, _++_}
-use Prim.Native.Nat.{ℕ, _<_}
-use Rattle.base.specs.If.{ifB, if-true, if-false}
-use Rattle.base.specs.Answer.{Check, firstFault, fault}
+-- Laws of the first of two faults. Assumes nothing.
+use mathlib.Core.Path.{_≡_}
+use Prim.Native.Nat.{ℕ}
+use borrow.Author.Tests.{eqb-true, eqb-false}
+use lib.Dec.{eqb}
+use Rattle.base.specs.If.{if-case}
+use Rattle.base.specs.Answer.{orElse}
+use Rattle.base.specs.declared.Fault.{Fault}
 
-pub first-passed : (c : Check) (cs : List Check) → c .test ≡ true → firstFault (c ∷ cs) ≡ firstFault cs
-unfolding firstFault
-first-passed c cs h = if-true _ _ _ h
+-- where the first of two faults that is one is none, neither is
+pub or-first : (f g : Fault) → orElse f g .number ≡ 0 → f .number ≡ 0
+unfolding orElse
+or-first f g = if-case (λ (h : Fault). h .number ≡ 0 → f .number ≡ 0) (eqb (f .number) 0) g f (λ e _. eqb-true (f .number) 0 e) (λ _ q. q)
 
-pub first-failed : (c : Check) (cs : List Check) → c .test ≡ false → firstFault (c ∷ cs) ≡ fault (c .number) (c .byte)
-unfolding firstFault
-first-failed c cs h = if-false _ _ _ h
+pub or-second : (f g : Fault) → orElse f g .number ≡ 0 → g .number ≡ 0
+unfolding orElse
+or-second f g =
+    if-case (λ (h : Fault). h .number ≡ 0 → g .number ≡ 0) (eqb (f .number) 0) g f (λ _ q. q) (λ e q. absurd (eqb-false (f .number) 0 e q))

@@ -2,7 +2,7 @@
 -- `ifB` is shut: a proof opens it by the two laws `if-true` and `if-false`, at the test that the code made, and by no other way.
 -- Assumes nothing.
 use mathlib.Core.Path.{_≡_, refl, sym, ap, _∙_}
-use mathlib.Core.Bool.{Bool, true, false, not, _&&_, _||_}
+use mathlib.Core.Bool.{Bool, true, false, false≢true, _&&_, _||_}
 
 unfoldable pub ifB {ℓ} : {A : Type ℓ} → Bool → A → A → A
 ifB true a b = a
@@ -50,6 +50,15 @@ and-left a b p = ap (λ (s : Bool). s && b) p
 pub and-right : (a b : Bool) → b ≡ false → a && b ≡ false
 and-right true b p = p
 and-right false b p = refl
+
+-- both parts of an `and` that holds
+pub and-first : (a b : Bool) → a && b ≡ true → a ≡ true
+and-first true b h = refl
+and-first false b h = h
+
+pub and-second : (a b : Bool) → a && b ≡ true → b ≡ true
+and-second true b h = h
+and-second false b h = absurd (false≢true h)
 
 pub or-left : (a b : Bool) → a ≡ true → a || b ≡ true
 or-left a b p = ap (λ (s : Bool). s || b) p

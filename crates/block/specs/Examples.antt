@@ -20,7 +20,7 @@ use Rattle.block.specs.Turn.{outcome, isTurn, openAfter, turnsFrom, turn
 use Rattle.block.specs.declared.Outcome.{Outcome}
 
 -- the bytes of a text
-pub bytes : String → List ℕ
+unfoldable pub bytes : String → List ℕ
 bytes empty = []
 bytes (c then s) = code c ∷ bytes s
 

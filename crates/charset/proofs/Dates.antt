@@ -52,21 +52,3 @@ date-year s p r t u all day h e f k a l d q =
     ∙ sym (if-true _ _ _ (eq-eqb (length s) 6 h) ∙ if-true _ _ _ (sym e ∙ not-false p f))
 
 pub ruleset dating = (year-wrong, day-wrong, year-zero, day-zero, day-last, date-length, date-century, date-year, needs)
-
--- ---- ` 85335` and `000000` are dates, ` 85000` and `100001` are none
-
-good-day : isDate (32 ∷ 56 ∷ 53 ∷ 51 ∷ 51 ∷ 53 ∷ []) ≡ true
-unfolding isDate isCentury isYearDay numberIn part isDigit allDigits value ifB
-good-day = refl
-
-good-zeros : isDate (48 ∷ 48 ∷ 48 ∷ 48 ∷ 48 ∷ 48 ∷ []) ≡ true
-unfolding isDate isCentury isYearDay numberIn part isDigit allDigits value ifB
-good-zeros = refl
-
-wrong-day : isDate (32 ∷ 56 ∷ 53 ∷ 48 ∷ 48 ∷ 48 ∷ []) ≡ false
-unfolding isDate isCentury isYearDay numberIn part isDigit allDigits value ifB
-wrong-day = refl
-
-wrong-century : isDate (49 ∷ 48 ∷ 48 ∷ 48 ∷ 48 ∷ 49 ∷ []) ≡ false
-unfolding isDate isCentury isYearDay numberIn part isDigit allDigits value ifB
-wrong-century = refl

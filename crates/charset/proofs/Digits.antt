@@ -7,27 +7,19 @@ use native.Mathlib.Nat.{mod-lt}
 use native.Mathlib.Omega.{arith}
 use borrow.Author.Tests.{le-leb, lt-leb, leb-true}
 use lib.Dec.{leb}
-use Rattle.base.specs.If.{if-true, and-true, and-left, and-right}
+use Rattle.base.specs.If.{if-true, and-true, and-left, and-right, and-first, and-second}
 use Rattle.base.specs.Digits.{isDigit, allDigits, digits}
 use Rattle.base.proofs.Numbers.{digits-append}
-
-both-left : (a b : Bool) → a && b ≡ true → a ≡ true
-both-left true b h = refl
-both-left false b h = h
-
-both-right : (a b : Bool) → a && b ≡ true → b ≡ true
-both-right true b h = h
-both-right false b h = absurd (mathlib.Core.Bool.false≢true h)
 
 -- ---- one digit is a byte from 48 to 57
 
 pub digit-low : (b : ℕ) → isDigit b ≡ true → 48 ≤ b
 unfolding isDigit
-digit-low b h = leb-true 48 b (both-left (leb 48 b) (leb b 57) h)
+digit-low b h = leb-true 48 b (and-first (leb 48 b) (leb b 57) h)
 
 pub digit-high : (b : ℕ) → isDigit b ≡ true → b ≤ 57
 unfolding isDigit
-digit-high b h = leb-true b 57 (both-right (leb 48 b) (leb b 57) h)
+digit-high b h = leb-true b 57 (and-second (leb 48 b) (leb b 57) h)
 
 pub within-digits : (b : ℕ) → 48 ≤ b → b ≤ 57 → isDigit b ≡ true
 unfolding isDigit

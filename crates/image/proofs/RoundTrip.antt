@@ -11,7 +11,7 @@ use borrow.Author.Tests.{ne-eqb, le-leb, le-ltb, leb-true}
 use lib.Dec.{leb}
 use lib.ListN.{length, take, drop, getD, length-append, take-append-drop}
 use lib.Seq.{drop-drop, getD-drop, take-append-seam, drop-append-seam}
-use Rattle.base.specs.If.{if-true, if-false, if-case}
+use Rattle.base.specs.If.{if-true, if-false, if-case, and-first, and-second}
 use Rattle.base.specs.Part.{part}
 use Rattle.base.proofs.Parts.{length-part}
 use Rattle.base.proofs.Bytes.{same-refl}
@@ -22,14 +22,6 @@ use Rattle.image.specs.Byte.{Bytes}
 use Rattle.image.specs.Framing.{mostImage, head, framedFrom, items, framing}
 use Rattle.image.proofs.Frames.{framing-zero, framing-items}
 use Rattle.image.proofs.Items.{decode-none, decode-more, by-items, BlockAt, WordAt, block-at, mark-at, reel-end-at}
-
-and-first : (a b : Bool) → a && b ≡ true → a ≡ true
-and-first true b h = refl
-and-first false b h = h
-
-and-second : (a b : Bool) → a && b ≡ true → b ≡ true
-and-second true b h = h
-and-second false b h = absurd (false≢true h)
 
 -- ---- lists of bytes
 

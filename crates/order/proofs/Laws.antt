@@ -9,7 +9,7 @@ use mir.Syntax.{w32}
 use borrow.Author.Needs.{needs}
 use borrow.Author.Tests.{eq-eqb, ne-eqb, lt-ltb, le-ltb, ltb-true, eqb-true}
 use lib.Dec.{eqb, ltb}
-use Rattle.base.specs.If.{ifB, if-true, if-false, if-case, and-left, and-true, and-right}
+use Rattle.base.specs.If.{ifB, if-true, if-false, and-left, and-first, and-second}
 use Rattle.order.specs.Kind.{kind, isKind, vol, hdr, eof, eov, dataBlock, tapeMark, endOfReel, endOfImage}
 use Rattle.order.specs.Due.{Turn, turn, dues, choose, dueAfter, upToNine}
 use Rattle.order.specs.declared.Kind.{Kind}
@@ -119,14 +119,6 @@ pub ruleset nexts = (choose-next, choose-rest, fits-next, needs)
 pub kind-is : (a b : Kind) → isKind a b ≡ true → a ≡ b
 unfolding isKind
 kind-is a b h =
-    let f : a .family ≡ b .family = eqb-true (a .family) (b .family) (left (eqb (a .family) (b .family)) (eqb (a .number) (b .number)) h) in
-    let n : a .number ≡ b .number = eqb-true (a .number) (b .number) (right (eqb (a .family) (b .family)) (eqb (a .number) (b .number)) h) in
+    let f : a .family ≡ b .family = eqb-true (a .family) (b .family) (and-first (eqb (a .family) (b .family)) (eqb (a .number) (b .number)) h) in
+    let n : a .number ≡ b .number = eqb-true (a .number) (b .number) (and-second (eqb (a .family) (b .family)) (eqb (a .number) (b .number)) h) in
     λ i. record { family = f i; number = n i }
-  where
-    left : (x y : Bool) → (x && y) ≡ true → x ≡ true
-    left true y p = refl
-    left false y p = p
-
-    right : (x y : Bool) → (x && y) ≡ true → y ≡ true
-    right true y p = p
-    right false y p = absurd (mathlib.Core.Bool.false≢true p)

@@ -9,6 +9,7 @@ use borrow.Author.Tests.{eqb-true, ne-eqb}
 use lib.Dec.{eqb, ltb}
 use Rattle.base.specs.If.{if-case, and-left}
 use Rattle.order.specs.Kind.{kind, vol, uvl, hdr, uhl, eof, eov, utl, dataBlock, tapeMark, endOfReel, endOfImage, isKind}
+use Rattle.order.proofs.Laws.{kind-is}
 use Rattle.order.specs.Due.{Turn, upToNine, dues, choose, dueAfter}
 use Rattle.order.specs.declared.Kind.{Kind}
 use Rattle.order.specs.declared.Phase.{Phase}
@@ -199,22 +200,6 @@ moves ReelClosed h = (record { move = nextReel quiet-reel; numbered = tt }, tt)
 moves Over h = (record { move = finish; numbered = tt }, tt)
 moves Accepted h = tt
 
--- ---- what is due moves
-
-both-left : (a b : Bool) → a && b ≡ true → a ≡ true
-both-left true b h = refl
-both-left false b h = h
-
-both-right : (a b : Bool) → a && b ≡ true → b ≡ true
-both-right true b h = h
-both-right false b h = absurd (false≢true h)
-
-same-kind : (a b : Kind) → isKind a b ≡ true → a ≡ b
-unfolding isKind
-same-kind a b h =
-    let f : a .family ≡ b .family = eqb-true (a .family) (b .family) (both-left (eqb (a .family) (b .family)) (eqb (a .number) (b .number)) h) in
-    let n : a .number ≡ b .number = eqb-true (a .number) (b .number) (both-right (eqb (a .family) (b .family)) (eqb (a .number) (b .number)) h) in
-    λ i. record { family = f i; number = n i }
 
 -- what holds of every turn that is due holds of the one that is taken
 chosen : (P : Kind → Phase → Type 0) (ts : List Turn) (k : Kind) (q : Phase) → Each P ts → choose ts k ≡ To q → P k q
@@ -222,7 +207,7 @@ unfolding choose
 chosen P [] k q each e = let z : _≡_ {A = ℕ} 0 1 = cc in absurd (omega arith)
 chosen P (t ∷ ts) k q (here, later) e =
     if-case (λ (d : Due). d ≡ To q → P k q) (isKind k (t .item)) (To (t .phase)) (choose ts k)
-    (λ s h. let same : t .phase ≡ q = cc in subst₂ P (sym (same-kind k (t .item) s)) same here) (λ _ h. chosen P ts k q later h) e
+    (λ s h. let same : t .phase ≡ q = cc in subst₂ P (sym (kind-is k (t .item) s)) same here) (λ _ h. chosen P ts k q later h) e
 
 pub due-goes : (p : Phase) (k : Kind) (q : Phase) → Numbered p → dueAfter p k ≡ To q → Goes p k q
 unfolding dueAfter

@@ -8,6 +8,7 @@ use native.Mathlib.Omega.{arith}
 use borrow.Author.Tests.{ne-eqb, eqb-true, eqb-false, leb-false}
 use lib.Dec.{leb, eqb}
 use lib.ListN.{length, getD}
+use Rattle.base.proofs.Faults.{or-first, or-second}
 use Rattle.base.specs.If.{ifB, if-true, if-false, if-case, if-same}
 use Rattle.base.specs.Part.{part, same}
 use Rattle.base.specs.Answer.{fault, orElse}
@@ -118,16 +119,6 @@ pub record Promise (ongoing : Bool) (v : View) (es : List Event) : Type 0 where
 abbrev pub Promised : Stage → View → List Event → Type 0
 Promised a v es = Promise (isOpen a (v .goesOn)) v es
 
--- ---- what an item without fault tells
-
-pub or-first : (f g : Fault) → orElse f g .number ≡ 0 → f .number ≡ 0
-unfolding orElse
-or-first f g = if-case (λ (h : Fault). h .number ≡ 0 → f .number ≡ 0) (eqb (f .number) 0) g f (λ e _. eqb-true (f .number) 0 e) (λ _ q. q)
-
-pub or-second : (f g : Fault) → orElse f g .number ≡ 0 → g .number ≡ 0
-unfolding orElse
-or-second f g =
-    if-case (λ (h : Fault). h .number ≡ 0 → g .number ≡ 0) (eqb (f .number) 0) g f (λ _ q. q) (λ e q. absurd (eqb-false (f .number) 0 e q))
 
 crossed-none : (bp : ℕ) → crossed bp .number ≡ 0 → bp ≡ 0
 unfolding crossed fault

@@ -12,6 +12,7 @@ use lib.ListN.{length, take, set, length-take}
 use lib.Seq.{set-out, take-suc-set}
 use Rattle.base.specs.If.{ifB, if-true, if-false, if-case, ap-if, so-true, so-false}
 use Rattle.base.specs.Part.{part}
+use Rattle.base.proofs.Faults.{or-second}
 use Rattle.base.specs.Answer.{fault, orElse}
 use Rattle.base.specs.declared.Fault.{Fault}
 use Rattle.image.specs.Framing.{mostReels}
@@ -133,13 +134,6 @@ unfolding namesAt
 length-names s [] = refl
 length-names s (a ∷ places) = ap suc (length-names s places)
 
--- of two faults neither is one, where the first that is one is none
-pub second-sound : (f g : Fault) → orElse f g .number ≡ 0 → g .number ≡ 0
-unfolding orElse
-second-sound f g =
-    if-case (λ (x : Fault). x .number ≡ 0 → g .number ≡ 0) (eqb (f .number) 0) g f (λ _ h. h)
-    (λ e h. absurd (eqb-false (f .number) 0 e h))
-
 -- a volume label behind sixteen others is refused
 names-room : (names : List (List ℕ)) (l : List ℕ) → volumeFault names l .number ≡ 0 → length names < 16
 unfolding volumeFault fault
@@ -154,5 +148,5 @@ unfolding itemFault contextFault isKind ifB contents
 room-for-name s st k l f e z n v =
     let sound : itemFault (contents s st) k l .number ≡ 0 = ap (λ (x : Fault). x .number) (sym e) ∙ z in
     let here : itemFault (contents s st) (vol 1) l .number ≡ 0 = subst (λ (j : Kind). itemFault (contents s st) j l .number ≡ 0) (kind-is k (vol 1) v) sound in
-    let few : length (namesAt s (take (st .reels) (st .names))) < 16 = names-room _ l (second-sound (labelFault (vol 1) l) (volumeFault _ l) here) in
+    let few : length (namesAt s (take (st .reels) (st .names))) < 16 = names-room _ l (or-second (labelFault (vol 1) l) (volumeFault _ l) here) in
     omega (arith, length-names s (take (st .reels) (st .names)), length-take (st .reels) (st .names))
