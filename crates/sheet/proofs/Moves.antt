@@ -200,7 +200,6 @@ moves ReelClosed h = (record { move = nextReel quiet-reel; numbered = tt }, tt)
 moves Over h = (record { move = finish; numbered = tt }, tt)
 moves Accepted h = tt
 
-
 -- what holds of every turn that is due holds of the one that is taken
 chosen : (P : Kind → Phase → Type 0) (ts : List Turn) (k : Kind) (q : Phase) → Each P ts → choose ts k ≡ To q → P k q
 unfolding choose

@@ -119,7 +119,6 @@ pub record Promise (ongoing : Bool) (v : View) (es : List Event) : Type 0 where
 abbrev pub Promised : Stage → View → List Event → Type 0
 Promised a v es = Promise (isOpen a (v .goesOn)) v es
 
-
 crossed-none : (bp : ℕ) → crossed bp .number ≡ 0 → bp ≡ 0
 unfolding crossed fault
 crossed-none bp =

@@ -29,6 +29,7 @@ use Rattle.volume.specs.Fault.{outcomeIn, volumeFault, contextFault, ite
 use Rattle.volume.specs.Step.{stateAfter, namesAfter, filesAfter, goesOnAfter, firstAfter, secondAfter, countAfter, pendingAfter}
 use Rattle.volume.specs.Place.{labelAt, namesAt, contents}
 use Rattle.volume.specs.Walk.{Sized, Room, Behind}
+use Rattle.volume.proofs.Faults.{length-names}
 
 -- a place past the sixteenth is not kept
 pub names-full : (t m : Bool) (names : List ℕ) (reels start : ℕ) → m ≡ t → m ≡ true → length names ≡ 16 → 16 ≤ reels
@@ -128,11 +129,6 @@ pending-data s t m o a b second pending start len e h p q c =
 pub ruleset behinds = (behind-made, pending-data, if-true, if-false, so-true, so-false, needs)
 
 -- ---- room for a name
-
-length-names : (s places : List ℕ) → length (namesAt s places) ≡ length places
-unfolding namesAt
-length-names s [] = refl
-length-names s (a ∷ places) = ap suc (length-names s places)
 
 -- a volume label behind sixteen others is refused
 names-room : (names : List (List ℕ)) (l : List ℕ) → volumeFault names l .number ≡ 0 → length names < 16

@@ -10,12 +10,13 @@ use borrow.Author.Tests.{le-leb, lt-leb}
 use lib.Dec.{leb}
 use lib.ListN.{length, take, drop, getD, length-take, drop-of-length-le}
 use lib.Seq.{drop-cons, length-take-le}
-use Rattle.base.specs.If.{ifB, if-true, if-false}
+use Rattle.base.specs.If.{ifB, if-true, if-false, so-true, so-false}
 use Rattle.base.specs.Part.{same}
 use Rattle.base.specs.Answer.{fault}
 use Rattle.base.specs.declared.Fault.{Fault}
+use Rattle.charset.specs.declared.Number.{Number}
 use Rattle.label.specs.Field.{volumeOf}
-use Rattle.volume.specs.Fault.{isAmong, crossed, volumeFault}
+use Rattle.volume.specs.Fault.{says, isAmong, crossed, volumeFault}
 use Rattle.volume.specs.Place.{labelAt, namesAt}
 
 -- ---- a choice, at the branch that the code took
@@ -25,6 +26,16 @@ is-then t a b r h e = e ∙ sym (if-true t a b h)
 
 pub is-else : {A : Type 0} (t : Bool) (a b r : A) → t ≡ false → r ≡ b → r ≡ ifB t a b
 is-else t a b r h e = e ∙ sym (if-false t a b h)
+
+-- ---- a field that was read, and what it says
+
+pub said : (b : Bool) (n : ℕ) (x y : Number) → b ≡ says n x → x ≡ y → b ≡ true → says n y ≡ true
+said b n x y e f h = cc
+
+pub unsaid : (b : Bool) (n : ℕ) (x y : Number) → b ≡ says n x → x ≡ y → b ≡ false → says n y ≡ false
+unsaid b n x y e f h = cc
+
+pub ruleset fields = (if-true, if-false, so-true, so-false, said, unsaid)
 
 -- ---- the loop of `is_among`: what is left from here is searched as the whole
 

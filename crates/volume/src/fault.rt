@@ -108,7 +108,7 @@ fn or_else(f: Fault, g: Fault) -> Fault
     f
 }
 
-// VOL1 behind the volume labels at the first `reels` places: another reel than theirs, and no 17th.
+// The fault of VOL1 behind the volume labels at the first `reels` places: a 17th reel, or an identifier that one of them has.
 fn volume_fault(image: &[u8], names: [usize; 16], reels: usize, l: &[u8]) -> Fault
     ensures { λ r. ⌜ r ≡ volumeFault (namesAt (now (image .entry)) (take reels names)) (now (l .entry)) ⌝ }
 {
@@ -165,7 +165,7 @@ fn later_place(first: &[u8], l: &[u8]) -> u32
     lower(unequal_section_first(first, l), section_place(first, l))
 }
 
-// The file behind that many others: the 65th is refused.
+// The fault of a file behind that many others: the 65th is refused.
 fn file_fault(files: u32) -> Fault
     ensures { λ r. ⌜ r ≡ fileFault files ⌝ }
 {
@@ -175,7 +175,7 @@ fn file_fault(files: u32) -> Fault
     Fault { number: 0, byte: 0 }
 }
 
-// HDR1, of a later section or of a new file.
+// The fault of HDR1, of a later section or of a new file.
 fn first_header_fault(ongoing: bool, files: u32, first: &[u8], l: &[u8]) -> Fault
     ensures { λ r. ⌜ r ≡ firstHeaderFault ongoing files (now (first .entry)) (now (l .entry)) ⌝ }
 {
@@ -185,7 +185,7 @@ fn first_header_fault(ongoing: bool, files: u32, first: &[u8], l: &[u8]) -> Faul
     or_else(crossed(new_file_place(files, first, l)), file_fault(files))
 }
 
-// HDR2, which a later section has as the section before.
+// The fault of HDR2, which a later section has as the section before.
 fn second_header_fault(ongoing: bool, second: &[u8], l: &[u8]) -> Fault
     ensures { λ r. ⌜ r ≡ secondHeaderFault ongoing (now (second .entry)) (now (l .entry)) ⌝ }
 {
@@ -205,14 +205,14 @@ fn count_place(count: usize, l: &[u8]) -> u32
     55
 }
 
-// EOV1 or EOF1 against the HDR1 and the blocks of its section.
+// The fault of EOV1 or EOF1 against the HDR1 and the blocks of its section.
 fn first_trailer_fault(first: &[u8], count: usize, l: &[u8]) -> Fault
     ensures { λ r. ⌜ r ≡ firstTrailerFault (now (first .entry)) count (now (l .entry)) ⌝ }
 {
     crossed(lower(unequal_trailer_first(first, l), count_place(count, l)))
 }
 
-// A file that ends with a record open.
+// The fault of a file that ends with a record open.
 fn open_fault(pending: usize) -> Fault
     ensures { λ r. ⌜ r ≡ openFault pending ⌝ }
 {
@@ -222,21 +222,21 @@ fn open_fault(pending: usize) -> Fault
     Fault { number: 8, byte: 0 }
 }
 
-// EOF1.
+// The fault of EOF1: that of a first trailer label, then an open record.
 fn file_end_fault(first: &[u8], count: usize, pending: usize, l: &[u8]) -> Fault
     ensures { λ r. ⌜ r ≡ fileEndFault (now (first .entry)) count pending (now (l .entry)) ⌝ }
 {
     or_else(first_trailer_fault(first, count, l), open_fault(pending))
 }
 
-// EOV2 or EOF2 against the HDR2 of its section.
+// The fault of EOV2 or EOF2 against the HDR2 of its section.
 fn second_trailer_fault(second: &[u8], l: &[u8]) -> Fault
     ensures { λ r. ⌜ r ≡ secondTrailerFault (now (second .entry)) (now (l .entry)) ⌝ }
 {
     crossed(unequal_trailer_second(second, l))
 }
 
-// A trailer label of kind k, or none of them.
+// The fault of an item of kind k that is a trailer label; any other has none here.
 fn trailer_fault(
     first: &[u8],
     second: &[u8],
@@ -275,7 +275,7 @@ pub(crate) fn outcome_in(second: &[u8], pending: usize, l: &[u8]) -> Outcome
     block_outcome(format_of(second), block, size, offset, pending, l)
 }
 
-// A data block.
+// The fault of a data block.
 fn block_fault(second: &[u8], pending: usize, l: &[u8]) -> Fault
     ensures { λ r. ⌜ r ≡ blockFault (now (second .entry)) pending (now (l .entry)) ⌝ }
 {

@@ -1,41 +1,38 @@
 -- The items that the writer lays, read one at a time: each is due where it stands and has no fault, and this is the state behind it. Assumes nothing.
-use mathlib.Core.Path.{_≡_, refl, sym, ap, ap₂, _∙_, subst}
-use mathlib.Core.Bool.{Bool, true, false, false≢true, _&&_}
+use mathlib.Core.Path.{_≡_, refl, sym, ap, _∙_}
+use mathlib.Core.Bool.{Bool, true, false}
 use mathlib.Core.List.{List, [], _∷_, _++_}
-use mathlib.Core.Option.{Option, none, some}
-use Prim.Native.Nat.{ℕ, zero, suc, _+_, _-_, _≤_, _<_}
+use Prim.Native.Nat.{ℕ, suc, _+_, _<_}
 use native.Mathlib.Omega.{arith}
 use native.Mathlib.Numerals.{add-one}
-use borrow.Author.Tests.{eq-eqb, ne-eqb, le-leb, lt-leb}
-use lib.Dec.{eqb, leb, ltb}
+use borrow.Author.Tests.{eq-eqb, lt-leb}
+use lib.Dec.{eqb}
 use lib.ListN.{length}
-use Rattle.base.specs.If.{ifB, if-true, if-false, if-case, and-true}
+use Rattle.base.specs.If.{ifB, if-true, if-false}
 use Rattle.base.specs.Part.{same}
 use Rattle.base.specs.Answer.{fault, orElse}
 use Rattle.base.specs.declared.Fault.{Fault}
-use Rattle.base.proofs.Bytes.{same-refl}
 use Rattle.charset.specs.Number.{numberIn}
 use Rattle.charset.specs.declared.Number.{Number}
-use Rattle.charset.specs.declared.Number.the-variants.{Value, Wrong}
-use Rattle.image.specs.Item.{Item, block, mark, reelEnd, isItem}
+use Rattle.charset.specs.declared.Number.the-variants.{Value}
+use Rattle.image.specs.Item.{block, mark, reelEnd}
 use Rattle.order.specs.Kind.{vol, hdr, eov, eof, dataBlock, tapeMark, endOfReel, isKind}
 use Rattle.order.specs.Due.{dues, choose, upToNine, dueAfter}
 use Rattle.order.specs.declared.Kind.{Kind}
 use Rattle.order.specs.declared.Phase.{Phase}
-use Rattle.order.specs.declared.Phase.the-variants.{Reel, Volume, FirstHeader, Header, Data, Trailer, FirstEof, Eof, FirstEov, Eov, FileEnd, VolumeEnd, SetClosed, ReelClosed, Over}
-use Rattle.order.specs.declared.Due.{Due}
+use Rattle.order.specs.declared.Phase.the-variants.{Reel, Volume, FirstHeader, Header, Data, Trailer, FirstEof, Eof, FirstEov, Eov}
 use Rattle.order.specs.declared.Due.the-variants.{To}
 use Rattle.label.specs.Name.{HDR1, HDR2, EOV1, EOV2, EOF1, EOF2, kindOf}
-use Rattle.label.specs.Field.{formatOf, blockLengthOf, recordLengthOf, offsetOf, volumeOf, setOf, sectionOf, sequenceOf, countOf}
-use Rattle.label.specs.Table.{fieldsOf, trailerFirst, trailerSecond, sectionFirst, sectionSecond}
-use Rattle.label.specs.Judged.{firstBad, accessOf, accessAt, fieldFault, labelFault, unequalFrom}
-use Rattle.label.specs.Made.{madeVolume, madeFirst, madeSecond, blockLengthIn, recordLengthIn}
-use Rattle.block.specs.Cut.{Segment, units}
-use Rattle.block.specs.Turn.{outcome, turnsFrom, turned, blockOutcome}
+use Rattle.label.specs.Field.{volumeOf, setOf, sectionOf, sequenceOf, countOf}
+use Rattle.label.specs.Table.{fieldsOf}
+use Rattle.label.specs.Judged.{firstBad, accessOf, accessAt, fieldFault, labelFault}
+use Rattle.label.specs.Made.{madeVolume, madeFirst, madeSecond, recordLengthIn}
+use Rattle.block.specs.Cut.{Segment}
+use Rattle.block.specs.Turn.{outcome, turned, blockOutcome}
 use Rattle.block.specs.declared.Outcome.{Outcome}
 use Rattle.volume.specs.State.{State}
 use Rattle.volume.specs.Fault.{says, valueOf, lower, crossed, isAmong, volumeFault, newFilePlace, laterPlace, fileFault, firstHeaderFault, secondHeaderFault, firstTrailerFault, openFault, fileEndFault, secondTrailerFault, outcomeIn, blockFault, contextFault, itemFault}
-use Rattle.volume.specs.Step.{Event, begins, holds, isDue, kindIn, bytesIn, namesAfter, filesAfter, goesOnAfter, firstAfter, secondAfter, countAfter, pendingAfter, stateAfter, segmentsOf, segmentsIn, eventsOf, Next, go, no, judged, ordered, step}
+use Rattle.volume.specs.Step.{begins, holds, isDue, kindIn, bytesIn, namesAfter, filesAfter, goesOnAfter, firstAfter, secondAfter, countAfter, pendingAfter, stateAfter, segmentsOf, segmentsIn, eventsOf, go, judged, ordered, step}
 use Rattle.sheet.specs.Legal.{formatFrom, blockLengthFrom, recordLengthFrom}
 use Rattle.writer.proofs.Packed.{Block}
 use Rattle.writer.proofs.Labels.{GoodFirst, GoodSecond, header-sound, header-kind, volume-end-sound, volume-end-kind, file-end-sound, file-end-kind, section-back, sequence-back, count-back, set-back, trailer-agrees, section-agrees, second-agrees, second-section-agrees, format-back, block-back, record-back, offset-back, second-header-sound, second-header-kind, second-volume-end-sound, second-volume-end-kind, second-file-end-sound, second-file-end-kind, volume-back, volume-kind}

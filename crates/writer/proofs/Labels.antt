@@ -1,17 +1,17 @@
 -- The labels that the writer makes, as they are read: their kind, their fields, that they have no fault by themselves, and that a trailer and a
 -- later section equal their header. Assumes nothing.
-use mathlib.Core.Path.{_≡_, refl, sym, ap, _∙_, subst}
-use mathlib.Core.Bool.{Bool, true, false, false≢true, _&&_, _||_}
-use mathlib.Core.List.{List, [], _∷_, _++_}
-use Prim.Native.Nat.{ℕ, zero, suc, _+_, _-_, _^_, _≤_, _<_}
+use mathlib.Core.Path.{_≡_, refl, sym, ap, _∙_}
+use mathlib.Core.Bool.{Bool, true, false}
+use mathlib.Core.List.{List, [], _∷_}
+use Prim.Native.Nat.{ℕ, _+_, _<_}
 use native.Mathlib.Omega.{arith}
-use borrow.Author.Tests.{eqb-true, eqb-false, eq-eqb, ne-eqb, leb-true, le-leb}
-use lib.Dec.{eqb, leb}
-use lib.ListN.{length, take, drop, getD}
-use lib.Seq.{take-all, take-add, drop-drop, getD-take, getD-drop}
-use Rattle.base.specs.If.{ifB, if-true, if-false, if-case, and-true}
+use borrow.Author.Tests.{eqb-true, eq-eqb}
+use lib.Dec.{eqb}
+use lib.ListN.{length, drop, getD}
+use lib.Seq.{getD-take, getD-drop}
+use Rattle.base.specs.If.{ifB, if-true, if-false, if-case}
 use Rattle.base.specs.Part.{part, same, allAre}
-use Rattle.base.specs.Digits.{allDigits, value, digits}
+use Rattle.base.specs.Digits.{allDigits, digits}
 use Rattle.base.specs.Answer.{fault}
 use Rattle.base.specs.declared.Fault.{Fault}
 use Rattle.base.proofs.Bytes.{same-refl}
@@ -20,15 +20,14 @@ use Rattle.base.proofs.Parts.{length-part}
 use Rattle.charset.specs.Class.{isA, allA}
 use Rattle.charset.specs.Number.{numberIn}
 use Rattle.charset.specs.Date.{isDate}
-use Rattle.charset.specs.declared.Number.{Number}
-use Rattle.charset.specs.declared.Number.the-variants.{Value, Wrong}
+use Rattle.charset.specs.declared.Number.the-variants.{Value}
 use Rattle.charset.proofs.Digits.{digits-digits}
 use Rattle.charset.proofs.Numbers.{number-digits}
 use Rattle.order.specs.Kind.{vol, hdr, eov, eof, isKind}
 use Rattle.order.specs.declared.Kind.{Kind}
 use Rattle.label.specs.Name.{VOL1, HDR1, HDR2, EOV1, EOV2, EOF1, EOF2, required, orElse, named, kindOf}
 use Rattle.label.specs.Field.{good, isPositive, isFormat, isRecordLength, hasRecordLength, formatOf, blockLengthOf, recordLengthOf, offsetOf, volumeOf, setOf, sectionOf, sequenceOf, countOf}
-use Rattle.label.specs.Table.{vol1, hdr1, trailer1, second, fieldsOf, trailerFirst, trailerSecond, sectionFirst, sectionSecond}
+use Rattle.label.specs.Table.{vol1, hdr1, second, fieldsOf, trailerFirst, trailerSecond, sectionFirst, sectionSecond}
 use Rattle.label.specs.Judged.{firstBad, goodAt, agreeAt, wrongFrom, unequalFrom, accessOf, accessAt, fieldFault, labelFault}
 use Rattle.label.specs.Made.{fitted, laid, madeVolume, madeFirst, madeSecond, identifierIn, generationIn, versionIn, createdIn, expiresIn, formatIn, blockLengthIn, recordLengthIn}
 use Rattle.sheet.specs.Legal.{formatFrom}

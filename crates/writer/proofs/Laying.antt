@@ -1,35 +1,32 @@
 -- What the writer lays is read to its end: one law for each piece that is laid, one induction over the blocks of a file, one over the files.
 -- Assumes nothing.
-use mathlib.Core.Path.{_≡_, refl, sym, ap, ap₂, _∙_, subst}
-use mathlib.Core.Bool.{Bool, true, false, false≢true, _&&_}
+use mathlib.Core.Path.{_≡_, refl, sym, ap, _∙_, subst}
+use mathlib.Core.Bool.{Bool, true, false, false≢true}
 use mathlib.Core.List.{List, [], _∷_, _++_}
-use Prim.Native.Nat.{ℕ, zero, suc, _+_, _-_, _≤_, _<_, pred}
+use Prim.Native.Nat.{ℕ, zero, suc, _+_, _≤_, _<_, pred}
 use native.Mathlib.Omega.{arith}
-use native.Mathlib.Numerals.{add-one}
-use borrow.Author.Tests.{eq-eqb, ne-eqb, le-leb, eqb-true}
-use lib.Dec.{eqb, leb}
+use borrow.Author.Tests.{ne-eqb, le-leb, eqb-true}
+use lib.Dec.{eqb}
 use lib.ListN.{length, length-append}
 use Rattle.base.specs.If.{ifB, if-true, if-false, if-case, and-true}
 use Rattle.base.specs.Part.{same}
 use Rattle.base.specs.Answer.{verdict}
-use Rattle.base.specs.declared.Verdict.{Verdict}
 use Rattle.base.proofs.Bytes.{same-refl}
 use Rattle.image.specs.Item.{Item, block, mark, reelEnd, isItem, allItems}
 use Rattle.image.specs.Framing.{framedFrom}
-use Rattle.order.specs.Kind.{hdr, vol, dataBlock, tapeMark, endOfReel, endOfImage, isKind}
+use Rattle.order.specs.Kind.{hdr, vol, dataBlock, endOfImage, isKind}
 use Rattle.order.specs.Due.{dues, choose, upToNine, dueAfter}
 use Rattle.order.specs.declared.Phase.{Phase}
-use Rattle.order.specs.declared.Phase.the-variants.{Reel, Volume, FirstHeader, Header, Data, Trailer, FirstEof, Eof, FirstEov, Eov, FileEnd, VolumeEnd, SetClosed, ReelClosed, Over}
+use Rattle.order.specs.declared.Phase.the-variants.{Reel, FirstHeader, Header, Data, Trailer, Eof, Eov, FileEnd, VolumeEnd, SetClosed, ReelClosed, Over}
 use Rattle.order.specs.declared.Due.the-variants.{To}
 use Rattle.label.specs.Name.{HDR1, HDR2, EOV1, EOV2, EOF1, EOF2}
-use Rattle.label.specs.Field.{setOf}
 use Rattle.label.specs.Judged.{labelFault}
 use Rattle.label.specs.Made.{madeVolume, madeFirst, madeSecond}
 use Rattle.block.specs.Cut.{Segment}
-use Rattle.volume.specs.State.{State, start}
+use Rattle.volume.specs.State.{State}
 use Rattle.volume.specs.Fault.{isAmong}
 use Rattle.volume.specs.Step.{Event, begins, holds, isDue, Next, go, step}
-use Rattle.volume.specs.Run.{Run, ended, further, next, runs}
+use Rattle.volume.specs.Run.{ended, further, next, runs}
 use Rattle.volume.specs.Meaning.{File}
 use Rattle.sheet.specs.Legal.{formatFrom, blockLengthFrom, recordLengthFrom, isSound, legalName, freshNames, legalFile, legalFiles, legalEntry, legalRecords}
 use Rattle.writer.specs.Pack.{blocksOf}

@@ -5,12 +5,12 @@ use mathlib.Core.Bool.{Bool, true, false}
 use mathlib.Core.List.{List, [], _∷_, _++_}
 use Prim.Native.Nat.{ℕ, zero, suc, _+_, _-_, _≤_, _<_, min}
 use native.Mathlib.Omega.{arith}
-use borrow.Author.Tests.{eqb-true, eqb-false, eq-eqb, ne-eqb, leb-true, le-leb}
+use borrow.Author.Tests.{eqb-true, eqb-false, eq-eqb, leb-true, le-leb}
 use lib.Dec.{eqb, leb}
 use lib.ListN.{length, take, drop, length-drop}
 use Rattle.base.specs.If.{ifB, if-true, if-false}
 use Rattle.block.specs.Cut.{Segment, segmentOf}
-use Rattle.writer.specs.Pack.{wordOf, enters, taken, indicatorOf, Left, finished, going, startOf, unitIn, fill, after, weights, weight, blocksF, blocksLeft}
+use Rattle.writer.specs.Pack.{wordOf, enters, taken, indicatorOf, Left, finished, going, unitIn, fill, after, weights, weight, blocksF, blocksLeft}
 
 -- a proof by the two values of a test
 pub by-test {ℓ} : {A : Type ℓ} (t : Bool) → (t ≡ true → A) → (t ≡ false → A) → A

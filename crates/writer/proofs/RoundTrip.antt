@@ -1,29 +1,28 @@
 -- The round trip: what the writer makes of a legal order sheet is an accepted set, and reading it gives the sheet's meaning again. Assumes nothing.
 use mathlib.Core.Path.{_≡_, refl, sym, ap, ap₂, _∙_, subst}
-use mathlib.Core.Bool.{Bool, true, false, false≢true}
+use mathlib.Core.Bool.{true, false}
 use mathlib.Core.List.{List, [], _∷_, _++_, append-assoc, append-nil}
-use Prim.Native.Nat.{ℕ, zero, suc, _+_, _≤_, _<_}
+use Prim.Native.Nat.{ℕ, suc, _≤_}
 use native.Mathlib.Omega.{arith}
 use borrow.Author.Tests.{eq-eqb, eqb-true, eqb-false, leb-true}
-use lib.Dec.{eqb, leb, ltb}
+use lib.Dec.{eqb, leb}
 use lib.ListN.{length, take, drop}
 use lib.Seq.{take-append-seam}
-use Rattle.base.specs.If.{ifB, if-true, if-false, if-case}
+use Rattle.base.specs.If.{ifB, if-true, if-case}
 use Rattle.base.specs.Answer.{verdict}
 use Rattle.base.specs.declared.Verdict.{Verdict}
 use Rattle.image.specs.Item.{Item, block, encode}
 use Rattle.image.specs.Framing.{head, mostImage, framing, items}
 use Rattle.image.proofs.RoundTrip.{items-image, framing-image}
-use Rattle.order.specs.Kind.{hdr, vol, dataBlock, isKind}
+use Rattle.order.specs.Kind.{isKind}
 use Rattle.order.specs.Due.{dues, choose, upToNine, dueAfter}
-use Rattle.order.specs.declared.Phase.the-variants.{Reel, Volume}
+use Rattle.order.specs.declared.Phase.the-variants.{Volume}
 use Rattle.label.specs.Name.{HDR1, HDR2}
-use Rattle.label.specs.Judged.{labelFault}
 use Rattle.label.specs.Made.{madeVolume, madeFirst, madeSecond}
 use Rattle.block.specs.Cut.{Segment}
-use Rattle.volume.specs.State.{State, start}
-use Rattle.volume.specs.Fault.{isAmong, mostFiles}
-use Rattle.volume.specs.Step.{Event, begins, holds, isDue}
+use Rattle.volume.specs.State.{start}
+use Rattle.volume.specs.Fault.{mostFiles}
+use Rattle.volume.specs.Step.{Event, isDue}
 use Rattle.volume.specs.Run.{Run, ended, runs, answerOf, imageVerdict}
 use Rattle.volume.specs.Meaning.{File, Meaning, joined, Collected, fieldsFrom, collect, setFrom, meaningOf, handedOut, content}
 use Rattle.sheet.specs.Legal.{Sheet, formatFrom, blockLengthFrom, recordLengthFrom, freshNames, legalFiles, legalMeaning, legalNames, legalQuota, legalSheet}
@@ -32,10 +31,10 @@ use Rattle.writer.specs.Lay.{Laid, laid, short, layFiles, layOn, lay}
 use Rattle.writer.specs.Write.{Written, refused, stored, storedLaid, writeSheet, write}
 use Rattle.writer.proofs.Units.{both}
 use Rattle.writer.proofs.Packed.{held, flat, file-records}
-use Rattle.writer.proofs.Labels.{GoodFirst, length-volume, set-back}
+use Rattle.writer.proofs.Labels.{length-volume, set-back}
 use Rattle.writer.proofs.Entry.{legal-first, legal-second, suited, entry-back}
 use Rattle.writer.proofs.Acts.{at, act-volume}
-use Rattle.writer.proofs.Laying.{Read, read-label, Ends, IsLaid, ends-put, Reels, heldBy, eventsFrom, legal-file, fresh-next, one-set, file-ends, files-end}
+use Rattle.writer.proofs.Laying.{read-label, Ends, IsLaid, ends-put, Reels, heldBy, eventsFrom, legal-file, fresh-next, one-set, file-ends, files-end}
 
 -- ---- what a legal sheet says
 

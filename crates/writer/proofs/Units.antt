@@ -1,26 +1,23 @@
 -- A unit that the writer makes is read back, whatever follows it. Assumes nothing.
-use mathlib.Core.Path.{_≡_, refl, sym, ap, _∙_, subst}
+use mathlib.Core.Path.{_≡_, refl, sym, ap, _∙_}
 use mathlib.Core.Bool.{Bool, true, false, not, false≢true}
 use mathlib.Core.List.{List, [], _∷_, _++_, append-assoc}
-use mathlib.Core.Option.{Option}
-use Prim.Native.Nat.{ℕ, zero, suc, _+_, _-_, _^_, _≤_, _<_}
+use Prim.Native.Nat.{ℕ, suc, _+_, _-_, _≤_}
 use native.Mathlib.Omega.{arith}
-use borrow.Author.Tests.{eqb-true, eqb-false, eq-eqb, ne-eqb, leb-true, le-leb, not-true}
+use borrow.Author.Tests.{eqb-true, eq-eqb, ne-eqb, leb-true, le-leb, not-true}
 use lib.Dec.{eqb, leb}
-use lib.ListN.{length, take, drop, getD, length-append, length-take}
-use lib.Seq.{take-at, drop-at, take-all, length-take-le, drop-append-add}
+use lib.ListN.{length, take, drop, length-append}
+use lib.Seq.{take-at, drop-at, take-all, length-take-le}
 use Rattle.base.specs.If.{ifB, if-true, if-false, if-case}
 use Rattle.base.specs.Part.{part, allAre}
 use Rattle.base.specs.Digits.{digits}
 use Rattle.base.proofs.Numbers.{length-digits}
 use Rattle.charset.specs.Number.{numberIn}
-use Rattle.charset.specs.declared.Number.{Number}
-use Rattle.charset.specs.declared.Number.the-variants.{Value, Wrong}
+use Rattle.charset.specs.declared.Number.the-variants.{Value}
 use Rattle.charset.proofs.Numbers.{number-digits}
 use Rattle.block.specs.Unit.{pad, fixed, measured, variable, segment, unitOf}
-use Rattle.block.specs.Cut.{Segment, segmentOf, onto, cut}
-use Rattle.block.specs.declared.Unit.{Unit}
-use Rattle.block.specs.declared.Unit.the-variants.{Of, None}
+use Rattle.block.specs.Cut.{segmentOf, onto, cut}
+use Rattle.block.specs.declared.Unit.the-variants.{Of}
 use Rattle.block.proofs.Cuts.{cut-unit}
 use Rattle.sheet.specs.Legal.{legalRecord}
 use Rattle.writer.specs.Pack.{wordOf, enters, taken, indicatorOf, controlWord, unitIn}

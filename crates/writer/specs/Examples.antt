@@ -1,7 +1,7 @@
 -- The worked examples of document 01 that concern writing, and cases that are easy to get wrong, as one list with one claim, which is computed.
 use mathlib.Core.Path.{_≡_, refl}
 use mathlib.Core.Bool.{Bool, true, false, _&&_}
-use mathlib.Core.List.{List, [], _∷_, _++_}
+use mathlib.Core.List.{List, [], _∷_}
 use Prim.Native.Nat.{ℕ}
 use Prim.Native.String.{String}
 use Rattle.base.specs.If.{ifB}
@@ -35,7 +35,7 @@ allHold (x ∷ xs) = holds x && allHold xs
 pub examples : List Example
 examples =
     packs S 12 ("ABCDEFGHIJ" ∷ "" ∷ []) ("10012ABCDEFG" ∷ "30008HIJ" ∷ "00005" ∷ [])
-    -- one byte more than an empty record needs is left behind `30008HIJ`
+    -- one byte more than an empty record needs is left behind `30008JKL`
     ∷ packs S 14 ("ABCDEFGHIJKL" ∷ "" ∷ []) ("10014ABCDEFGHI" ∷ "30008JKL00005" ∷ [])
     -- five bytes are left behind `A`: enough for an empty record, and not for `B`
     ∷ packs S 11 ("A" ∷ "" ∷ "B" ∷ []) ("00006A00005" ∷ "00006B" ∷ [])

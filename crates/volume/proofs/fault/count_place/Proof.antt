@@ -1,4 +1,4 @@
-use Rattle.volume.proofs.Faults.{is-then, is-else}
+use Rattle.volume.proofs.Faults.{fields}
 use borrow.Author.Needs.{needs}
 use Rattle.volume.proofs.fault.count_place.Statement.{statement}
 use Rattle.volume.proofs.fault.count_place.Tie as tie
@@ -10,10 +10,10 @@ says-requires : tie.Need-says-requires
 says-requires c κs = search needs
 
 returns : tie.Need-returns
-returns c = is-then _ _ _ _ (cc) (cc)
+returns c = search fields
 
 returns-2 : tie.Need-returns-2
-returns-2 c = is-else _ _ _ _ (cc) (cc)
+returns-2 c = search fields
 
 pub count-place-spec : {M : Type 1} → statement M
 count-place-spec = tie.close (tie.spec count-of-requires says-requires returns returns-2)

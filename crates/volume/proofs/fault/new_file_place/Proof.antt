@@ -1,5 +1,5 @@
 use Rattle.volume.specs.Fault.{newFilePlace}
-use Rattle.volume.proofs.Faults.{is-then, is-else}
+use Rattle.volume.proofs.Faults.{fields}
 use borrow.Author.Needs.{needs}
 use Rattle.volume.proofs.fault.new_file_place.Statement.{statement}
 use Rattle.volume.proofs.fault.new_file_place.Tie as tie
@@ -24,19 +24,19 @@ says-requires-2 c κs = search needs
 
 returns : tie.Need-returns
 unfolding newFilePlace
-returns c = is-then _ _ _ _ (cc) (is-then _ _ _ _ (cc) (is-then _ _ _ _ (cc) (cc)))
+returns c = search fields
 
 returns-2 : tie.Need-returns-2
 unfolding newFilePlace
-returns-2 c = is-then _ _ _ _ (cc) (is-then _ _ _ _ (cc) (is-else _ _ _ _ (cc) (cc)))
+returns-2 c = search fields
 
 returns-3 : tie.Need-returns-3
 unfolding newFilePlace
-returns-3 c = is-then _ _ _ _ (cc) (is-else _ _ _ _ (cc) (cc))
+returns-3 c = search fields
 
 returns-4 : tie.Need-returns-4
 unfolding newFilePlace
-returns-4 c = is-else _ _ _ _ (cc) (cc)
+returns-4 c = search fields
 
 pub new-file-place-spec : {M : Type 1} → statement M
 new-file-place-spec =
