@@ -13,8 +13,5 @@ fn main() -> io::Result<()> {
 }
 
 fn samples() -> Vec<(&'static str, Vec<Piece>)> {
-    vec![
-        ("ledger.tgi", base()),
-        ("ledger-miscounted.tgi", changed(base(), 6, 55, "000002")),
-    ]
+    vec![("ledger.tgi", base()), ("ledger-miscounted.tgi", changed(base(), 6, 55, "000002"))]
 }
