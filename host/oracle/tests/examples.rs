@@ -69,12 +69,12 @@ fn records_by_number() {
 fn joined_records() {
     let blocks: [&[u8]; 4] = [b"10007AB", b"30006C00006D", b"10005", b"30005"];
     let image = image_of(&set_of("S0002000010", "00", &blocks));
-    let mut join = *b"xxxxx";
+    let mut join = *b"-----";
     assert_eq!(record(&image, 1, 1, &mut join), Found::Joined { len: 3 });
-    assert_eq!(&join, b"ABCxx", "only the record's own bytes change");
+    assert_eq!(&join, b"ABC--", "only the record's own bytes change");
     assert_eq!(record(&image, 1, 1, &mut join[..2]), refused(10));
     assert!(matches!(record(&image, 1, 2, &mut []), Found::InImage { len: 1, .. }));
-    assert_eq!(&join, b"ABCxx", "a record of one unit changes none");
+    assert_eq!(&join, b"ABC--", "a record of one unit changes none");
     assert_eq!(
         record(&image, 1, 3, &mut []),
         Found::Joined { len: 0 },
