@@ -1,4 +1,11 @@
+pub mod Cutting
+pub mod Sums
 pub mod Records
+pub mod Files
+pub mod Names
+pub mod Numbers
+pub mod Flattened
+pub mod Assembled
 pub mod Entries
 pub mod Moves
 pub mod Stages

@@ -27,7 +27,7 @@ use Rattle.volume.specs.Fault.{valueOf, says, lower, crossed, newFilePlace, lat
 use Rattle.volume.specs.Step.{Event, begins, holds, segmentsOf}
 use Rattle.volume.specs.Meaning.{File, joined, collect, setFrom, fieldsFrom}
 use Rattle.sheet.specs.Legal.{formatFrom, recordLengthFrom, legalEntry, legalRecords, legalFile, legalFiles}
-use Rattle.sheet.proofs.Records.{Owed, units-fair, block-owed}
+use Rattle.sheet.proofs.Assembled.{Owed, units-fair, block-owed}
 use Rattle.sheet.proofs.Entries.{Rows, bad-rows, byte-part, entry-legal, entry-format, entry-record}
 use Rattle.sheet.proofs.Moves.{Stage, before, named, within, fileOver, reelOver}
 

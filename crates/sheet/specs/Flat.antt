@@ -1,15 +1,15 @@
 -- The order sheet as flat slices that a caller fills: the set identifier; 46 bytes a file; a count of records for each file; a length for each
 -- record; the records' bytes one behind the other; the quota; 6 bytes a reel name.
-use mathlib.Core.Bool.{Bool, true, false, _||_}
-use mathlib.Core.List.{List, [], _∷_}
+use mathlib.Core.Bool.{Bool, true, false}
+use mathlib.Core.List.{List, [], _∷_, map, flatten as endToEnd}
 use Prim.Native.Nat.{ℕ, zero, suc, _+_, _*_, _-_, _/_, _%_}
-use lib.Dec.{eqb, leb, ltb}
+use lib.Dec.{eqb, ltb}
 use lib.ListN.{length, take, drop}
 use Rattle.base.specs.If.{ifB}
 use Rattle.image.specs.Framing.{mostReels}
 use Rattle.volume.specs.Fault.{mostFiles}
 use Rattle.volume.specs.Meaning.{File, Meaning}
-use Rattle.sheet.specs.Legal.{Sheet, legalSheet, legalQuota, legalNames}
+use Rattle.sheet.specs.Legal.{Sheet, legalQuota, legalNames, legalSheet}
 
 pub record Flat : Type 0 where
   pub set : List ℕ
@@ -71,8 +71,28 @@ sheetNumber x =
     (ifB (ltb mostReels (length (x .names) / 6)) 9
     (ifB (addsUp x) (ifB (legalSheet (sheetOf x)) 0 11) 11))
 
--- the quota and the names alone, as rewriting gets them: 9, 11, else 0
+-- the same for the quota and the names alone, as rewriting is given them: 9: a 17th name; 11: not legal; else 0
 unfoldable pub reelsNumber : ℕ → List ℕ → ℕ
 reelsNumber quota names =
     ifB (ltb mostReels (length names / 6)) 9
     (ifB (eqb (length names % 6) 0) (ifB (legalQuota quota) (ifB (legalNames (inParts 6 names)) 0 11) 11) 11)
+
+-- ---- slices that say a given meaning
+
+-- each of the parts has w elements
+unfoldable pub allLong : ℕ → List (List ℕ) → Bool
+allLong w [] = true
+allLong w (x ∷ xs) = ifB (eqb (length x) w) (allLong w xs) false
+
+-- entries, lengths, records and names laid end to end, file by file
+unfoldable pub flatten : Meaning → ℕ → List (List ℕ) → Flat
+flatten m quota names =
+    record {
+      set = m .set;
+      files = endToEnd (map (λ (d : File). d .fields) (m .files));
+      counts = map (λ (d : File). length (d .records)) (m .files);
+      lengths = endToEnd (map (λ (d : File). map length (d .records)) (m .files));
+      bytes = endToEnd (map (λ (d : File). endToEnd (d .records)) (m .files));
+      quota = quota;
+      names = endToEnd names;
+    }

@@ -1,2 +1,3 @@
 pub mod Legal
 pub mod Flat
+pub mod Passing

@@ -1,0 +1,44 @@
+use Rattle.sheet.proofs.Numbers.{says}
+use Rattle.sheet.proofs.says_files.Statement.{statement}
+use Rattle.sheet.proofs.says_files.Tie as tie
+
+returns : tie.Need-returns
+returns c = search says
+
+returns-2 : tie.Need-returns-2
+returns-2 c = search says
+
+returns-3 : tie.Need-returns-3
+returns-3 c = search says
+
+add-up-to-requires : tie.Need-add-up-to-requires
+add-up-to-requires c κs = search says
+
+add-up-to-requires-2 : tie.Need-add-up-to-requires-2
+add-up-to-requires-2 c κs = search says
+
+are-legal-requires : tie.Need-are-legal-requires
+are-legal-requires c κs = search says
+
+returns-4 : tie.Need-returns-4
+returns-4 c = search says
+
+returns-5 : tie.Need-returns-5
+returns-5 c = search says
+
+returns-6 : tie.Need-returns-6
+returns-6 c = search says
+
+pub says-files-spec : {M : Type 1} → statement M
+says-files-spec =
+    tie.close
+    (tie.spec
+    returns
+    returns-2
+    returns-3
+    add-up-to-requires
+    add-up-to-requires-2
+    are-legal-requires
+    returns-4
+    returns-5
+    returns-6)
