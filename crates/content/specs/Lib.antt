@@ -1,0 +1,5 @@
+pub mod Section
+pub mod Walk
+pub mod Measure
+pub mod File
+pub mod Found

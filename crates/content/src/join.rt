@@ -1,0 +1,60 @@
+// Joining: the segments of one record, end to end, in the front of a lent buffer. It knows no refusal: whoever calls it knows that all of it fits.
+ghost use mathlib.Core.Path.{_≡_};
+ghost use Prim.Native.Nat.{_+_, _≤_};
+ghost use lib.ListN.{length};
+ghost use Rattle.base.specs.Part.{putAt};
+ghost use Rattle.content.specs.Walk.{recordAt};
+ghost use Rattle.content.specs.Measure.{GoesOn, bytesBehind, SplitAt, recordBytes};
+use crate::Walk;
+use crate::unit::Taken;
+use crate::unit::unit_from;
+use crate::unit::unit_next;
+use base::part_of;
+
+// Bytes copied into a buffer, from a place on.
+fn copy_in(src: &[u8], out: &mut [u8], at: usize)
+    requires { ⌜ at + length (now src) ≤ length (now out) ⌝ }
+    ensures { λ r. ⌜ now (out .exit) ≡ putAt (now (out .entry)) at (now (src .entry)) ⌝ }
+{
+    let mut i = 0;
+    while i < src.len() {
+        out[at + i] = src[i];
+        i += 1;
+    }
+}
+
+// The segments behind the first, copied from a place on.
+fn copy_rest(image: &[u8], from: Walk, join: &mut [u8], place: usize)
+    requires { ⌜ GoesOn (now image) from place (length (now join)) ⌝ }
+    ensures { λ r. ⌜ now (join .exit) ≡ putAt (now (join .entry)) place (bytesBehind (now (image .entry)) from) ⌝ }
+{
+    let mut w = from;
+    let mut at = place;
+    loop {
+        match unit_next(image, w) {
+            Taken::Nothing => return,
+            Taken::One(i, start, n, v) => {
+                copy_in(part_of(image, start, n), join, at);
+                if i == 3 {
+                    return;
+                }
+                at += n;
+                w = v;
+            }
+        }
+    }
+}
+
+// The record of several segments at a walk's place, joined.
+pub(crate) fn join_record(image: &[u8], w: Walk, join: &mut [u8])
+    requires { ⌜ SplitAt (now image) w (length (now join)) ⌝ }
+    ensures { λ r. ⌜ now (join .exit) ≡ putAt (now (join .entry)) 0 (recordBytes (recordAt (now (image .entry)) w)) ⌝ }
+{
+    match unit_from(image, w) {
+        Taken::Nothing => return,
+        Taken::One(_, start, n, v) => {
+            copy_in(part_of(image, start, n), join, 0);
+            copy_rest(image, v, join, n);
+        }
+    }
+}

@@ -1,0 +1,179 @@
+// Records handed out: by number, and by a walk over one file. It knows where a record stands and how its segments are joined; what is right in a
+// set it leaves to the layers below.
+mod file; // file.rt: where the walk over a file begins
+mod join; // join.rt: segments joined in a buffer
+mod measure; // measure.rt: the record at a place, by its numbers
+mod section; // section.rt: the next data block of a file
+mod unit; // unit.rt: the next unit of a file
+
+ghost use mathlib.Core.Path.{_≡_};
+ghost use lib.ListN.{length};
+ghost use Rattle.base.specs.Answer.{verdict};
+ghost use Rattle.content.specs.Walk.{stepAt, joinAt};
+ghost use Rattle.content.specs.File.{begunAt};
+ghost use Rattle.content.specs.Found.{passed, foundBy, foundIn, leftIn, foundFrom, leftFrom, foundAt, leftAt, partOf};
+use base::Verdict;
+use base::part_of;
+use file::file_start;
+use join::join_record;
+use measure::Measured;
+use measure::measure;
+use unit::Place;
+use volume::check;
+
+// A walk over the records of one file: the format, the record length and the offset length of the file, the place of what is left of the
+// current block, and how many bytes of it are left. With none left the place is that of the next item.
+pub struct Walk {
+    pub format: u8,
+    pub size: u32,
+    pub offset: usize,
+    pub at: usize,
+    pub left: usize,
+}
+
+// A step of a walk: a record that is a part of the image, by its place and length, or one that was joined into the front of the buffer, by its
+// length, each with the walk behind it; or 13 or 10.
+pub enum Step {
+    InImage(usize, usize, Walk),
+    Joined(usize, Walk),
+    Refused(u32),
+}
+
+// A walk begun, or the refusal.
+pub enum Begun {
+    At(Walk),
+    Refused(Verdict),
+}
+
+// Where a record is: a part of the image, by its place and length, or the front of the joining buffer; or the refusal.
+pub enum Found {
+    InImage(usize, usize),
+    Joined(usize),
+    Refused(Verdict),
+}
+
+impl Walk {
+    // The record at the walk's place: 13 where there is none, 10 where it has several segments and is longer than the buffer.
+    // A record of one unit changes no byte of the buffer, a joined one its own bytes at the front, a refusal none.
+    pub fn step(self, image: &[u8], join: &mut [u8]) -> Step
+        ensures { λ r. ⌜ r ≡ stepAt (now (image .entry)) (length (now (join .entry))) self ⌝ }
+        ensures { λ r. ⌜ now (join .exit) ≡ joinAt (now (image .entry)) (now (join .entry)) self ⌝ }
+    {
+        match measure(image, self) {
+            Measured::Nothing => Step::Refused(13),
+            Measured::Whole(start, n, v) => Step::InImage(start, n, v),
+            Measured::Split(n, v) => {
+                if join.len() < n {
+                    return Step::Refused(10);
+                }
+                join_record(image, self, join);
+                Step::Joined(n, v)
+            }
+        }
+    }
+}
+
+// An answer without a place.
+fn answer(number: u32) -> Verdict
+    ensures { λ r. ⌜ r ≡ verdict number 0 0 ⌝ }
+{
+    Verdict {
+        number,
+        item: 0,
+        byte: 0,
+    }
+}
+
+// The walk at the first record of a file, from 1: the image's own number, then 13 where there is no such file.
+pub fn begin(image: &[u8], file: u64) -> Begun
+    ensures { λ r. ⌜ r ≡ begunAt (now (image .entry)) file ⌝ }
+{
+    let v = check(image);
+    if v.number != 0 {
+        return Begun::Refused(v);
+    }
+    match file_start(image, file) {
+        Place::At(w) => Begun::At(w),
+        Place::Nowhere => Begun::Refused(answer(13)),
+    }
+}
+
+// The walk behind so many records.
+fn pass(image: &[u8], from: Walk, records: u64) -> Place
+    ensures { λ r. ⌜ r ≡ passed (now (image .entry)) records from ⌝ }
+{
+    let mut left = records;
+    let mut w = from;
+    while 0 < left {
+        match measure(image, w) {
+            Measured::Nothing => return Place::Nowhere,
+            Measured::Whole(_, _, v) => {
+                left -= 1;
+                w = v;
+            }
+            Measured::Split(_, v) => {
+                left -= 1;
+                w = v;
+            }
+        }
+    }
+    Place::At(w)
+}
+
+// What a step says of the record, without the walk behind it.
+fn found_by(x: Step) -> Found
+    ensures { λ r. ⌜ r ≡ foundBy x ⌝ }
+{
+    match x {
+        Step::InImage(start, len, _) => Found::InImage(start, len),
+        Step::Joined(len, _) => Found::Joined(len),
+        Step::Refused(number) => Found::Refused(answer(number)),
+    }
+}
+
+// The record where a walk stands, if anywhere.
+fn found_in(image: &[u8], x: Place, join: &mut [u8]) -> Found
+    ensures { λ r. ⌜ r ≡ foundIn (now (image .entry)) (length (now (join .entry))) x ⌝ }
+    ensures { λ r. ⌜ now (join .exit) ≡ leftIn (now (image .entry)) (now (join .entry)) x ⌝ }
+{
+    match x {
+        Place::Nowhere => Found::Refused(answer(13)),
+        Place::At(w) => found_by(w.step(image, join)),
+    }
+}
+
+// Record r of the file that was begun, from 1.
+fn found_from(image: &[u8], begun: Begun, r: u64, join: &mut [u8]) -> Found
+    ensures { λ f. ⌜ f ≡ foundFrom (now (image .entry)) r (length (now (join .entry))) begun ⌝ }
+    ensures { λ f. ⌜ now (join .exit) ≡ leftFrom (now (image .entry)) r (now (join .entry)) begun ⌝ }
+{
+    match begun {
+        Begun::Refused(v) => Found::Refused(v),
+        Begun::At(w) => {
+            if r == 0 {
+                return Found::Refused(answer(13));
+            }
+            found_in(image, pass(image, w, r - 1), join)
+        }
+    }
+}
+
+// Record r of file n, both from 1: the image's own number, then 13, then 10, the latter two with place 0.
+// A record of one unit is a part of the image and changes no byte of the buffer; one of several is joined into the front of the buffer.
+pub fn record(image: &[u8], file: u64, r: u64, join: &mut [u8]) -> Found
+    ensures { λ f. ⌜ f ≡ foundAt (now (image .entry)) file r (length (now (join .entry))) ⌝ }
+    ensures { λ f. ⌜ now (join .exit) ≡ leftAt (now (image .entry)) file r (now (join .entry)) ⌝ }
+{
+    found_from(image, begin(image, file), r, join)
+}
+
+// The record itself, as `record` found it: the part of the image or the front of the joining buffer; nothing with a refusal.
+pub fn record_part<'a>(image: &'a [u8], join: &'a [u8], found: Found) -> &'a [u8]
+    ensures { λ r. ⌜ now r ≡ partOf (now (image .entry)) (now (join .entry)) found ⌝ }
+{
+    match found {
+        Found::InImage(start, len) => part_of(image, start, len),
+        Found::Joined(len) => part_of(join, 0, len),
+        Found::Refused(_) => part_of(image, 0, 0),
+    }
+}
