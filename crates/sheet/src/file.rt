@@ -83,7 +83,7 @@ fn is_legal_entry(set: &[u8], entry: &[u8]) -> bool
 }
 
 // The format of an entry.
-fn format_in(entry: &[u8]) -> u8
+pub fn format_in(entry: &[u8]) -> u8
     ensures { λ r. ⌜ r ≡ formatFrom (now (entry .entry)) ⌝ }
 {
     if 35 < entry.len() {

@@ -4,6 +4,7 @@ mod file; // file.rt: the files, their entries and records
 mod reels; // reels.rt: the quota and the names
 mod sum; // sum.rt: sums of numbers that a caller gave
 
+pub use file::format_in;
 ghost use mathlib.Core.Path.{_≡_};
 ghost use Rattle.sheet.specs.Flat.{reelsNumber, sheetNumber};
 ghost use Rattle.sheet.specs.Passing.{saysFiles};

@@ -6,3 +6,11 @@ pub mod Entry
 pub mod Acts
 pub mod Laying
 pub mod RoundTrip
+pub mod Writing
+pub mod Entering
+pub mod Sources
+pub mod Filling
+pub mod Items
+pub mod Reeling
+pub mod Filing
+pub mod Answering

@@ -1,15 +1,15 @@
 -- The blocks of a legal file are cut back to segments that stand in their turns and join to the file's records. Assumes nothing.
 use mathlib.Core.Path.{_≡_, refl, sym, ap, ap₂, _∙_, subst}
 use mathlib.Core.Bool.{Bool, true, false, false≢true}
-use mathlib.Core.List.{List, [], _∷_, _++_, append-nil}
+use mathlib.Core.List.{List, [], _∷_, _++_, append-assoc, append-nil}
 use mathlib.Core.Option.{Option, none, some}
 use Prim.Native.Nat.{ℕ, zero, suc, _+_, _-_, _≤_, _<_}
 use native.Mathlib.Omega.{arith}
-use borrow.Author.Tests.{eq-eqb, ne-eqb, leb-true, le-leb}
-use lib.Dec.{eqb}
+use borrow.Author.Tests.{eqb-true, eqb-false, eq-eqb, ne-eqb, leb-true, le-leb, lt-leb}
+use lib.Dec.{eqb, leb}
 use lib.ListN.{length, take, drop, length-append, length-drop, take-append-drop}
 use lib.Seq.{take-all}
-use Rattle.base.specs.If.{ifB, if-true, if-false, and-true}
+use Rattle.base.specs.If.{ifB, if-true, if-false, if-case, and-true}
 use Rattle.base.specs.Part.{allAre}
 use Rattle.image.specs.Item.{isItem, block}
 use Rattle.label.specs.Field.{suits}
@@ -18,12 +18,13 @@ use Rattle.block.specs.Cut.{Segment, segmentOf, onto, cut, someUnits, units}
 use Rattle.block.specs.Turn.{outcome, isTurn, openAfter, turnsFrom}
 use Rattle.block.specs.declared.Unit.{Unit as Piece}
 use Rattle.block.specs.declared.Unit.the-variants.{Of, None}
+use Rattle.block.specs.declared.Outcome.{Outcome}
 use Rattle.block.proofs.Units.{unit-stands}
 use Rattle.block.proofs.Cuts.{cut-end}
 use Rattle.volume.specs.Meaning.{onFirst, joined}
 use Rattle.sheet.specs.Legal.{legalRecord, legalRecords}
-use Rattle.writer.specs.Pack.{enters, taken, indicatorOf, Left, finished, going, startOf, unitIn, fill, after, weights, weight, blocksF, blocksLeft, blocksOf}
-use Rattle.writer.proofs.Packing.{by-test, Entered, entered, segment-enters, whole-enters, segmentIn, segmentsFrom, Said, Ways, by-ways, Room, RoomLeft, after-lighter}
+use Rattle.writer.specs.Pack.{wordOf, enters, taken, indicatorOf, Left, finished, going, startOf, unitIn, fill, after, weights, weight, blocksF, blocksLeft, blocksOf, Room, RoomLeft}
+use Rattle.writer.proofs.Packing.{by-test, Entered, entered, segment-enters, whole-enters, segmentIn, segmentsFrom, Said, Ways, by-ways, after-lighter}
 use Rattle.writer.proofs.Units.{Format, isF, isD, isS, Ready, fresh, begun, both, legal-F, legal-D, legal-S, length-taken, length-unit, word-F, word-D, cut-back}
 
 -- ---- turns

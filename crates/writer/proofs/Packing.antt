@@ -5,12 +5,12 @@ use mathlib.Core.Bool.{Bool, true, false}
 use mathlib.Core.List.{List, [], _∷_, _++_}
 use Prim.Native.Nat.{ℕ, zero, suc, _+_, _-_, _≤_, _<_, min}
 use native.Mathlib.Omega.{arith}
-use borrow.Author.Tests.{eqb-true, eqb-false, eq-eqb, leb-true, le-leb}
+use borrow.Author.Tests.{eqb-true, eqb-false, eq-eqb, ne-eqb, leb-true, le-leb}
 use lib.Dec.{eqb, leb}
 use lib.ListN.{length, take, drop, length-drop}
 use Rattle.base.specs.If.{ifB, if-true, if-false}
 use Rattle.block.specs.Cut.{Segment, segmentOf}
-use Rattle.writer.specs.Pack.{wordOf, enters, taken, indicatorOf, Left, finished, going, unitIn, fill, after, weights, weight, blocksF, blocksLeft}
+use Rattle.writer.specs.Pack.{wordOf, enters, taken, indicatorOf, Left, finished, going, startOf, unitIn, fill, after, weights, weight, blocksF, blocksLeft, Room, RoomLeft}
 
 -- a proof by the two values of a test
 pub by-test {ℓ} : {A : Type ℓ} (t : Bool) → (t ≡ true → A) → (t ≡ false → A) → A
@@ -149,15 +149,6 @@ by-ways f b P w u t x (y ∷ ys) =
     (λ e. over P u t x (y ∷ ys) (if-false _ _ _ e) (if-false _ _ _ e) (if-false _ _ _ e) (w .full u t x (y ∷ ys) e))
 
 -- ---- the weight falls
-
--- every record has room in an empty block
-abbrev pub Room : ℕ → ℕ → List (List ℕ) → Type 0
-Room f b [] = Unit {0}
-Room f b (x ∷ xs) = (enters f b 0 (length x) ≡ true) × Room f b xs
-
-abbrev pub RoomLeft : ℕ → ℕ → Left → Type 0
-RoomLeft f b finished = Unit {0}
-RoomLeft f b (going t x xs) = Room f b (x ∷ xs)
 
 -- less is left behind a block that a unit enters, and it has room again
 abbrev Lighter : ℕ → ℕ → Said

@@ -47,7 +47,7 @@ pub record LegalSheet (s : Sheet) : Type 0 where
   pub few : length (s .meaning .files) ≤ 64
   pub files : legalFiles (s .meaning .set) (s .meaning .files) ≡ true
 
-legal-sheet : (s : Sheet) → legalSheet s ≡ true → LegalSheet s
+pub legal-sheet : (s : Sheet) → legalSheet s ≡ true → LegalSheet s
 unfolding legalSheet legalQuota legalNames legalMeaning
 legal-sheet s =
     both (ifB (leb 1 (s .quota)) (leb (s .quota) 999999) false) _
@@ -202,7 +202,7 @@ sheet-reads s out h = by-laid (lay s) refl
     by-laid (laid xs) e = stored-reads (s .meaning) (head ++ encode xs) out (image-means s xs h e)
     by-laid short e = refused-reads (s .meaning) 12 out (λ q. omega arith)
 
-number-legal : (x : Flat) → sheetNumber x ≡ 0 → legalSheet (sheetOf x) ≡ true
+pub number-legal : (x : Flat) → sheetNumber x ≡ 0 → legalSheet (sheetOf x) ≡ true
 unfolding sheetNumber
 number-legal x =
     if-case (λ (n : ℕ). n ≡ 0 → legalSheet (sheetOf x) ≡ true) _ 9 _ (λ _ q. absurd (omega arith))

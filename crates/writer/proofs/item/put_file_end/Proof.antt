@@ -1,0 +1,36 @@
+use Rattle.writer.proofs.Items.{together}
+use Rattle.writer.proofs.item.put_file_end.Statement.{statement}
+use Rattle.writer.proofs.item.put_file_end.Tie as tie
+
+slice-aggregate-put-trailer : tie.Need-slice-aggregate-put-trailer
+slice-aggregate-put-trailer c = search together
+
+put-trailer-requires : tie.Need-put-trailer-requires
+put-trailer-requires c κs = search together
+
+slice-aggregate-put-second : tie.Need-slice-aggregate-put-second
+slice-aggregate-put-second c = search together
+
+put-second-requires : tie.Need-put-second-requires
+put-second-requires c κs = search together
+
+put-mark-requires : tie.Need-put-mark-requires
+put-mark-requires c κs = search together
+
+same-length : tie.Need-same-length
+same-length c = search together
+
+returns : tie.Need-returns
+returns c = search together
+
+pub put-file-end-spec : {M : Type 1} → statement M
+put-file-end-spec =
+    tie.close
+    (tie.spec
+    slice-aggregate-put-trailer
+    put-trailer-requires
+    slice-aggregate-put-second
+    put-second-requires
+    put-mark-requires
+    same-length
+    returns)

@@ -1,0 +1,36 @@
+use Rattle.writer.proofs.Items.{together}
+use Rattle.writer.proofs.item.put_headers.Statement.{statement}
+use Rattle.writer.proofs.item.put_headers.Tie as tie
+
+slice-aggregate-put-first : tie.Need-slice-aggregate-put-first
+slice-aggregate-put-first c = search together
+
+put-first-requires : tie.Need-put-first-requires
+put-first-requires c κs = search together
+
+slice-aggregate-put-second : tie.Need-slice-aggregate-put-second
+slice-aggregate-put-second c = search together
+
+put-second-requires : tie.Need-put-second-requires
+put-second-requires c κs = search together
+
+put-mark-requires : tie.Need-put-mark-requires
+put-mark-requires c κs = search together
+
+same-length : tie.Need-same-length
+same-length c = search together
+
+returns : tie.Need-returns
+returns c = search together
+
+pub put-headers-spec : {M : Type 1} → statement M
+put-headers-spec =
+    tie.close
+    (tie.spec
+    slice-aggregate-put-first
+    put-first-requires
+    slice-aggregate-put-second
+    put-second-requires
+    put-mark-requires
+    same-length
+    returns)

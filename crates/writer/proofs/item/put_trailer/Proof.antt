@@ -1,0 +1,18 @@
+use Rattle.writer.proofs.Items.{together}
+use Rattle.writer.proofs.item.put_trailer.Statement.{statement}
+use Rattle.writer.proofs.item.put_trailer.Tie as tie
+
+put-mark-requires : tie.Need-put-mark-requires
+put-mark-requires c κs = search together
+
+put-first-requires : tie.Need-put-first-requires
+put-first-requires c κs = search together
+
+same-length : tie.Need-same-length
+same-length c = search together
+
+returns : tie.Need-returns
+returns c = search together
+
+pub put-trailer-spec : {M : Type 1} → statement M
+put-trailer-spec = tie.close (tie.spec put-mark-requires put-first-requires same-length returns)

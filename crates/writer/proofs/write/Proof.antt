@@ -1,0 +1,32 @@
+use Rattle.writer.proofs.Answering.{writes}
+use Rattle.writer.proofs.write.Statement.{statement}
+use Rattle.writer.proofs.write.Tie as tie
+
+sheet-number-requires : tie.Need-sheet-number-requires
+sheet-number-requires c κs = search writes
+
+refusal-requires : tie.Need-refusal-requires
+refusal-requires c κs = search writes
+
+returns : tie.Need-returns
+returns c = search writes
+
+write-legal-requires : tie.Need-write-legal-requires
+write-legal-requires c κs = search writes
+
+same-length : tie.Need-same-length
+same-length c = search writes
+
+returns-2 : tie.Need-returns-2
+returns-2 c = search writes
+
+pub write-spec : {M : Type 1} → statement M
+write-spec =
+    tie.close
+    (tie.spec
+    sheet-number-requires
+    refusal-requires
+    returns
+    write-legal-requires
+    same-length
+    returns-2)
