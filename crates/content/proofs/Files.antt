@@ -1,6 +1,6 @@
 -- Laws of the search for the beginning of a file. Assumes nothing.
-use mathlib.Core.Path.{_≡_, refl, sym, ap, ap₂, _∙_, subst}
-use mathlib.Core.Bool.{Bool, true, false, not}
+use mathlib.Core.Path.{_≡_, refl, sym, ap, ap₂, _∙_}
+use mathlib.Core.Bool.{Bool, true, false}
 use mathlib.Core.List.{List, [], _∷_}
 use Prim.Native.Nat.{ℕ, _+_, _-_, _≤_, _<_}
 use native.Mathlib.Omega.{arith}
@@ -8,20 +8,18 @@ use native.Mathlib.Decide.{decLt}
 use mir.Val.{Fits}
 use mir.Syntax.{w64}
 use borrow.Author.Needs.{needs}
-use lib.Dec.{eqb}
 use lib.ListN.{length, drop}
 use Rattle.base.specs.If.{ifB, if-true, if-false, if-case}
 use Rattle.base.specs.Part.{part}
-use Rattle.base.proofs.Rules.{ifs}
 use Rattle.base.proofs.Parts.{length-part}
 use Rattle.charset.specs.declared.Number.{Number}
 use Rattle.charset.specs.declared.Number.the-variants.{Value, Wrong as NoNumber}
-use Rattle.image.specs.Item.{Item, block, mark, reelEnd, broken, shape, decode}
+use Rattle.image.specs.Item.{Item, mark, broken, shape, decode}
 use Rattle.image.specs.Framing.{mostImage, items}
 use Rattle.image.specs.declared.Shape.{Shape}
 use Rattle.image.specs.declared.Shape.the-variants.{Block, Mark, ReelEnd, Broken}
 use Rattle.image.proofs.Items.{block-within, mark-within, reel-end-within, decode-block, decode-mark, decode-reel-end, decode-broken, decode-past}
-use Rattle.order.specs.Kind.{hdr, other, isKind}
+use Rattle.order.specs.Kind.{other, isKind}
 use Rattle.order.specs.Due.{dueAfter}
 use Rattle.order.specs.declared.Kind.{Kind}
 use Rattle.order.specs.declared.Phase.{Phase}
@@ -37,7 +35,7 @@ use Rattle.content.specs.declared.section.Seen.{Seen}
 use Rattle.content.specs.declared.section.Seen.the-variants.{Item as Of, Nothing}
 use Rattle.content.specs.declared.unit.Place.{Place}
 use Rattle.content.specs.declared.unit.Place.the-variants.{At, Nowhere}
-use Rattle.content.proofs.Sections.{Sees, sees, unseen, item-within}
+use Rattle.content.proofs.Sections.{start-fits, end-fits, sees, unseen, item-within, item-start, item-end, item-falls}
 
 pub value-some : (x : Number) (n : ℕ) → x ≡ Value n → n ≡ valueOf x
 unfolding valueOf
@@ -92,29 +90,24 @@ marking-broken s from at p c e q = by-end (decLt at (length s)) ∙ c .same
 pub mark-fits : (s : List ℕ) (from at : ℕ) (p : Shape) → Marking s from at → p ≡ shape (drop at s) → p ≡ Mark → Fits w64 (at + 3)
 mark-fits s from at p c e q = record { fits = omega (arith, mark-within s at p e q, c .room) }
 
-pub block-start : (s : List ℕ) (from at n : ℕ) (p : Shape) → Marking s from at → p ≡ shape (drop at s) → p ≡ Block n → Fits w64 (at + 3)
-block-start s from at n p c e q = record { fits = omega (arith, block-within s at n p e q, c .room) }
-
-pub block-end : (s : List ℕ) (from at n : ℕ) (p : Shape) → Marking s from at → p ≡ shape (drop at s) → p ≡ Block n → Fits w64 (at + 3 + n)
-block-end s from at n p c e q = record { fits = omega (arith, block-within s at n p e q, c .room) }
-
 pub block-falls : (s : List ℕ) (at n : ℕ) (p : Shape) → p ≡ shape (drop at s) → p ≡ Block n → length s - (at + 3 + n) < length s - at
 block-falls s at n p e q = omega (arith, block-within s at n p e q)
 
 pub ruleset markings =
-    (marking-none, marking-block, marking-mark, marking-reel-end, marking-broken, mark-fits, block-start, block-end, block-falls, needs)
+    (marking-none, marking-block, marking-mark, marking-reel-end, marking-broken, mark-fits, start-fits, end-fits, block-falls, needs)
 
 -- ---- up to the file
 
 -- what is left from a place answers as the whole; each file begun before it took an item
 pub record Seeking (s : List ℕ) (n files : ℕ) (goesOn : Bool) (p : Phase) (at : ℕ) : Type 0 where
   pub short : length s ≤ mostImage
+  pub room : length s < 18446744073709551616
   pub few : files ≤ at
   pub same : fileFrom n files goesOn p at (decode (drop at s)) ≡ fileFrom n 0 false Reel 5 (items s)
 
 pub seeking-none : (s : List ℕ) (n : ℕ) → length s ≤ mostImage → Seeking s n 0 false Reel 5
 unfolding items
-seeking-none s n h = record { short = h; few = omega arith; same = refl }
+seeking-none s n h = record { short = h; room = omega arith; few = omega arith; same = refl }
 
 -- an item, as the code sees it
 file-item : (s : List ℕ) (n files : ℕ) (g : Bool) (p : Phase) (at len : ℕ) (k : Kind) (x : Seen) → x ≡ seenAt s p at → x ≡ Of k len
@@ -158,6 +151,7 @@ seeking-more s n files g p r at len k x b d files′ g′ c e q h t u w i j =
     let few = files-few files g k at (c .few) in
     record {
       short = c .short;
+      room = c .room;
       few = omega arith;
       same = ap₂ (λ (m : ℕ) (y : Bool). fileFrom n m y r (at + 3 + len) (decode (drop (at + 3 + len) s))) i j
           ∙ ap (λ (y : Due). onward y (λ r. fileFrom n (filesBehind files g k) (goesOnBehind g k) r (at + 3 + len) (decode (drop (at + 3 + len) s)))) (sym w ∙ u)
@@ -186,17 +180,6 @@ seeking-nothing s n files g p at x c e q =
 pub few-files : (s : List ℕ) (n files : ℕ) (g : Bool) (p : Phase) (at len : ℕ) (k : Kind) (x : Seen) → Seeking s n files g p at → x ≡ seenAt s p at → x ≡ Of k len
     → files < 4294967296
 few-files s n files g p at len k x c e q = omega (arith, item-within s p at len k x e q, c .few, c .short)
-
-pub item-start : (s : List ℕ) (n files : ℕ) (g : Bool) (p : Phase) (at len : ℕ) (k : Kind) (x : Seen) → Seeking s n files g p at → x ≡ seenAt s p at → x ≡ Of k len
-    → Fits w64 (at + 3)
-item-start s n files g p at len k x c e q = record { fits = omega (arith, item-within s p at len k x e q, c .short) }
-
-pub item-end : (s : List ℕ) (n files : ℕ) (g : Bool) (p : Phase) (at len : ℕ) (k : Kind) (x : Seen) → Seeking s n files g p at → x ≡ seenAt s p at → x ≡ Of k len
-    → Fits w64 (at + 3 + len)
-item-end s n files g p at len k x c e q = record { fits = omega (arith, item-within s p at len k x e q, c .short) }
-
-pub item-falls : (s : List ℕ) (p : Phase) (at len : ℕ) (k : Kind) (x : Seen) → x ≡ seenAt s p at → x ≡ Of k len → length s - (at + 3 + len) < length s - at
-item-falls s p at len k x e q = omega (arith, item-within s p at len k x e q)
 
 pub ruleset seekings =
     (seeking-none, seeking-found, seeking-wrong, seeking-more, seeking-nothing, few-files, item-start, item-end, item-falls, item-within, needs)

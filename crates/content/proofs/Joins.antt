@@ -1,8 +1,8 @@
 -- Laws of joining: bytes copied one by one, segments one by one. Assumes nothing.
-use mathlib.Core.Path.{_≡_, refl, sym, ap, ap₂, _∙_, subst}
+use mathlib.Core.Path.{_≡_, refl, sym, ap, ap₂, _∙_}
 use mathlib.Core.Bool.{Bool, true, false, false≢true}
-use mathlib.Core.List.{List, [], _∷_, _++_}
-use Prim.Native.Nat.{ℕ, zero, suc, _+_, _-_, _≤_, _<_}
+use mathlib.Core.List.{List, _++_}
+use Prim.Native.Nat.{ℕ, suc, _+_, _-_, _≤_, _<_}
 use native.Mathlib.Omega.{arith}
 use native.Mathlib.Numerals.{add-one}
 use mir.Val.{Fits}
@@ -12,7 +12,7 @@ use borrow.Author.Tests.{leb-true, eqb-true, eqb-false}
 use lib.Dec.{leb, eqb}
 use lib.ListN.{length, drop, getD, set, length-set, length-append, drop-of-length-le}
 use lib.Seq.{drop-cons}
-use Rattle.base.specs.If.{ifB, if-case}
+use Rattle.base.specs.If.{if-case}
 use Rattle.base.specs.Part.{part, putAt}
 use Rattle.base.proofs.Parts.{length-part, length-put, put-none, put-put}
 use Rattle.label.proofs.Put.{put-first}
@@ -22,7 +22,8 @@ use Rattle.content.specs.declared.Walk.{Walk}
 use Rattle.content.specs.declared.unit.Taken.{Taken}
 use Rattle.content.specs.declared.unit.Taken.the-variants.{One, Nothing}
 use Rattle.content.proofs.Units.{inside-true}
-use Rattle.content.proofs.Rests.{Behind, next-behind, from-behind, rest-at, rest-roomy}
+use Rattle.content.proofs.Rests.{Behind, next-behind, from-behind, rest-at, ended-before, rest-roomy}
+use Rattle.content.proofs.Measures.{unit-falls}
 
 -- ---- bytes copied one by one: what is left put behind what was copied makes the whole
 
@@ -69,11 +70,6 @@ bytes-before : (bs : List ℕ) (x : Rest) → isEnded x ≡ true → restBytes (
 unfolding restBytes before isEnded
 bytes-before bs (ends cs v) h = refl
 bytes-before bs fails h = absurd (false≢true h)
-
-ended-before : (bs : List ℕ) (x : Rest) → isEnded (before bs x) ≡ true → isEnded x ≡ true
-unfolding isEnded before
-ended-before bs (ends cs v) h = refl
-ended-before bs fails h = h
 
 -- what ended in what room was left ends in the record length
 ended-roomy : (s : List ℕ) (room : ℕ) (v : Walk) → room ≤ v .size → isEnded (restAt s room v) ≡ true
@@ -209,18 +205,11 @@ joining-fits s old place from out at w i start n v t c e q h =
     let l = c .long in
     omega arith
 
-pub joining-falls : (s : List ℕ) (w : Walk) (i start n : ℕ) (v : Walk) (t : Taken) → t ≡ unitNext s w → t ≡ One i start n v → length s - v .at < length s - w .at
-joining-falls s w i start n v t e q =
-    let b = next-behind s w i start n v (sym e ∙ q) in
-    let on = b .onward in
-    let in' = b .inside in
-    omega arith
-
 -- the buffer keeps its length
 pub joining-length : (s old : List ℕ) (place : ℕ) (from : Walk) (out : List ℕ) (at : ℕ) (w : Walk) → Joining s old place from out at w → length out ≡ length old
 joining-length s old place from out at w c = c .long
 
-pub ruleset joinings = (joining-none, joining-nothing, segment-room, joining-last, joining-more, joining-fits, joining-falls, joining-length, needs)
+pub ruleset joinings = (joining-none, joining-nothing, segment-room, joining-last, joining-more, joining-fits, unit-falls, joining-length, needs)
 
 -- ---- the whole record
 

@@ -6,3 +6,7 @@ pub mod Joins
 pub mod Steps
 pub mod Files
 pub mod Founds
+pub mod Blocks
+pub mod Phases
+pub mod Walked
+pub mod Handed

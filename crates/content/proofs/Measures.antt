@@ -1,29 +1,27 @@
 -- Laws of the record at a walk's place, by its numbers. Assumes nothing.
-use mathlib.Core.Path.{_≡_, refl, sym, ap, ap₂, _∙_, subst}
+use mathlib.Core.Path.{_≡_, refl, sym, ap, ap₂, _∙_}
 use mathlib.Core.Bool.{Bool, true, false, not}
-use mathlib.Core.List.{List, [], _∷_, _++_}
-use Prim.Native.Nat.{ℕ, zero, suc, _+_, _-_, _≤_, _<_}
+use mathlib.Core.List.{List, _++_}
+use Prim.Native.Nat.{ℕ, _+_, _-_, _≤_, _<_}
 use native.Mathlib.Omega.{arith}
 use mir.Val.{Fits}
 use mir.Syntax.{w64}
 use borrow.Author.Needs.{needs}
 use borrow.Author.Tests.{le-leb, lt-leb, eq-eqb, ne-eqb, not-true, not-false}
-use lib.Dec.{leb, eqb}
 use lib.ListN.{length, length-append}
-use Rattle.base.specs.If.{ifB, if-true, if-false}
+use Rattle.base.specs.If.{if-true, if-false}
 use Rattle.base.specs.Part.{part}
 use Rattle.base.proofs.Parts.{length-part}
-use Rattle.content.specs.Walk.{Inside, isInside, unitNext, unitFrom, Rest, ends, fails, before, restBy, restAt, Record, whole, split, nothing, splitBy, begunBy, recordAt}
+use Rattle.content.specs.Walk.{Inside, isInside, unitNext, unitFrom, Rest, ends, fails, before, restBy, restAt, whole, nothing, splitBy, begunBy, recordAt}
 use Rattle.content.specs.Measure.{tailBy, longer, measuredBy}
 use Rattle.content.specs.declared.Walk.{Walk}
 use Rattle.content.specs.declared.unit.Taken.{Taken}
 use Rattle.content.specs.declared.unit.Taken.the-variants.{One, Nothing}
 use Rattle.content.specs.declared.measure.Tail.{Tail}
 use Rattle.content.specs.declared.measure.Tail.the-variants.{Ends, Fails}
-use Rattle.content.specs.declared.measure.Measured.{Measured}
 use Rattle.content.specs.declared.measure.Measured.the-variants.{Whole, Split, Nothing as None}
 use Rattle.content.proofs.Units.{inside-true}
-use Rattle.content.proofs.Rests.{Behind, next-behind, from-behind, rest-at, rest-most}
+use Rattle.content.proofs.Rests.{next-behind, from-behind, rest-at, rest-most}
 
 -- ---- the rest of a record, segment by segment
 

@@ -1,12 +1,12 @@
 -- What holds of the next unit of a file, and the equation of `restAt` without the number that it counts down. Assumes nothing.
-use mathlib.Core.Path.{_≡_, refl, sym, ap, _∙_, subst}
-use mathlib.Core.Bool.{Bool, true, false, false≢true}
-use mathlib.Core.List.{List, [], _∷_, _++_}
+use mathlib.Core.Path.{_≡_, refl, ap, _∙_, subst}
+use mathlib.Core.Bool.{true, false, false≢true}
+use mathlib.Core.List.{List}
 use Prim.Native.Nat.{ℕ, zero, suc, _+_, _-_, _≤_, _<_}
 use native.Mathlib.Omega.{arith}
 use borrow.Author.Tests.{leb-true, le-leb}
 use lib.Dec.{leb, eqb}
-use lib.ListN.{length, take, drop, length-take, length-append}
+use lib.ListN.{length, drop, length-take, length-append}
 use Rattle.base.specs.If.{ifB, if-true, if-false, if-case}
 use Rattle.base.specs.Part.{part, allAre}
 use Rattle.image.specs.Item.{decode}
@@ -178,7 +178,7 @@ rest-most s room w bs v e = subst (Most room) e (most-fuel (suc (length s)) s ro
 
 -- ---- what ended in some room ends so in more
 
-ended-before : (bs : List ℕ) (x : Rest) → isEnded (before bs x) ≡ true → isEnded x ≡ true
+pub ended-before : (bs : List ℕ) (x : Rest) → isEnded (before bs x) ≡ true → isEnded x ≡ true
 unfolding isEnded before
 ended-before bs (ends cs v) h = refl
 ended-before bs fails h = h

@@ -224,11 +224,11 @@ data-nothing s from at p x c e q =
 pub item-within : (s : List ℕ) (p : Phase) (at n : ℕ) (k : Kind) (x : Seen) → x ≡ seenAt s p at → x ≡ Of k n → at + 3 + n ≤ length s
 item-within s p at n k x e q = sees s p at n k x e q .within
 
-pub item-start : (s : List ℕ) (p : Phase) (from at n : ℕ) (k : Kind) (x : Seen) → Passing s from at p → x ≡ seenAt s p at → x ≡ Of k n → Fits w64 (at + 3)
-item-start s p from at n k x c e q = record { fits = omega (arith, item-within s p at n k x e q, c .room) }
+pub item-start : (s : List ℕ) (p : Phase) (at n : ℕ) (k : Kind) (x : Seen) → length s < 18446744073709551616 → x ≡ seenAt s p at → x ≡ Of k n → Fits w64 (at + 3)
+item-start s p at n k x h e q = record { fits = omega (arith, item-within s p at n k x e q) }
 
-pub item-end : (s : List ℕ) (p : Phase) (from at n : ℕ) (k : Kind) (x : Seen) → Passing s from at p → x ≡ seenAt s p at → x ≡ Of k n → Fits w64 (at + 3 + n)
-item-end s p from at n k x c e q = record { fits = omega (arith, item-within s p at n k x e q, c .room) }
+pub item-end : (s : List ℕ) (p : Phase) (at n : ℕ) (k : Kind) (x : Seen) → length s < 18446744073709551616 → x ≡ seenAt s p at → x ≡ Of k n → Fits w64 (at + 3 + n)
+item-end s p at n k x h e q = record { fits = omega (arith, item-within s p at n k x e q) }
 
 pub item-falls : (s : List ℕ) (p : Phase) (at n : ℕ) (k : Kind) (x : Seen) → x ≡ seenAt s p at → x ≡ Of k n → length s - (at + 3 + n) < length s - at
 item-falls s p at n k x e q = omega (arith, item-within s p at n k x e q)

@@ -1,6 +1,6 @@
 -- Laws of the step: what each kind of record makes of the answer and of the joining buffer. Assumes nothing.
 use mathlib.Core.Path.{_≡_, refl, sym, ap, ap₂, _∙_}
-use mathlib.Core.Bool.{Bool, true, false}
+use mathlib.Core.Bool.{true}
 use mathlib.Core.List.{List}
 use Prim.Native.Nat.{ℕ, _≤_, _<_}
 use native.Mathlib.Omega.{arith}
@@ -13,7 +13,6 @@ use Rattle.base.specs.Part.{putAt}
 use Rattle.content.specs.Walk.{Record, whole, split, nothing, recordAt, stepBy, joinBy, stepAt, joinAt}
 use Rattle.content.specs.Measure.{measuredBy, recordBytes, isSplit, SplitAt}
 use Rattle.content.specs.declared.Walk.{Walk}
-use Rattle.content.specs.declared.Step.{Step}
 use Rattle.content.specs.declared.Step.the-variants.{InImage, Joined, Refused}
 use Rattle.content.specs.declared.measure.Measured.{Measured}
 use Rattle.content.specs.declared.measure.Measured.the-variants.{Whole, Split, Nothing}

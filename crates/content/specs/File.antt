@@ -4,7 +4,6 @@ use mathlib.Core.Bool.{Bool, true, false, not}
 use mathlib.Core.List.{List, [], _∷_}
 use Prim.Native.Nat.{ℕ, _+_}
 use lib.Dec.{eqb}
-use lib.ListN.{length}
 use Rattle.base.specs.If.{ifB}
 use Rattle.base.specs.Answer.{verdict}
 use Rattle.image.specs.Item.{Item, block, mark, reelEnd, broken}

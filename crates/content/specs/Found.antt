@@ -2,11 +2,9 @@
 use mathlib.Core.List.{List, []}
 use Prim.Native.Nat.{ℕ, zero, suc, _-_}
 use lib.Dec.{eqb}
-use lib.ListN.{length}
 use Rattle.base.specs.If.{ifB}
 use Rattle.base.specs.Part.{part}
 use Rattle.base.specs.Answer.{verdict}
-use Rattle.base.specs.declared.Verdict.{Verdict}
 use Rattle.content.specs.Walk.{Record, whole, split, nothing, recordAt, stepAt, joinAt}
 use Rattle.content.specs.File.{begunAt}
 use Rattle.content.specs.declared.Walk.{Walk}

@@ -3,3 +3,4 @@ pub mod Walk
 pub mod Measure
 pub mod File
 pub mod Found
+pub mod Walked

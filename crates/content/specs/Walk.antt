@@ -5,8 +5,8 @@
 -- many bytes of it are left; with none left the place is that of the next item.
 -- Read first: `recordAt`, the record that stands there: whole, a part of the image; or split, the bytes of its segments; and the walk behind it.
 -- `restAt` counts down a number that is large enough; `rest-at` (proofs/Rests.antt) is its equation.
-use mathlib.Core.Bool.{Bool, true, false}
-use mathlib.Core.List.{List, [], _∷_, _++_}
+use mathlib.Core.Bool.{Bool, false}
+use mathlib.Core.List.{List, _++_}
 use Prim.Native.Nat.{ℕ, zero, suc, _+_, _-_, _≤_}
 use lib.Dec.{leb, eqb}
 use lib.ListN.{length, drop}

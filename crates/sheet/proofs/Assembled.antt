@@ -190,11 +190,11 @@ Owed f r zero rs = legalRecords f r rs ≡ true
 Owed f r (suc n) [] = ⊥
 Owed f r (suc n) (y ∷ ys) = (n + length y ≤ r) × (legalRecords f r ys ≡ true)
 
-data InTurn (r o i n : ℕ) : Type 0 where
+pub data InTurn (r o i n : ℕ) : Type 0 where
   starts : i ≤ 1 → o ≡ 0 → n ≤ r → InTurn r o i n
   follows : 2 ≤ i → 1 ≤ o → o - 1 + n ≤ r → InTurn r o i n
 
-in-turn : (r o : ℕ) (head : Bool) (i n : ℕ) → isTurn r o head i n ≡ true → InTurn r o i n
+pub in-turn : (r o : ℕ) (head : Bool) (i n : ℕ) → isTurn r o head i n ≡ true → InTurn r o i n
 unfolding isTurn
 in-turn r o head i n =
     if-case (λ (t : Bool). t ≡ true → InTurn r o i n) (leb i 1) _ _

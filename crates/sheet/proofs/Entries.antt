@@ -58,7 +58,7 @@ field-none : (w : ℕ) (f : Fault) → fieldFault w f .number ≡ 0 → w ≡ 0
 unfolding fieldFault fault
 field-none w f = if-case (λ (g : Fault). g .number ≡ 0 → w ≡ 0) (eqb w 0) f (fault 4 w) (λ e _. eqb-true w 0 e) (λ _ q. absurd (eqb-false 4 0 refl q))
 
-label-rows : (k : Kind) (l : List ℕ) → labelFault k l .number ≡ 0 → Rows (goodAt l) 0 (fieldsOf k)
+pub label-rows : (k : Kind) (l : List ℕ) → labelFault k l .number ≡ 0 → Rows (goodAt l) 0 (fieldsOf k)
 unfolding labelFault
 label-rows k l h = bad-rows (goodAt l) 0 (fieldsOf k) (field-none (firstBad (goodAt l) 0 (fieldsOf k)) (accessAt (accessOf k) l) h)
 

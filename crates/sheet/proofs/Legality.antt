@@ -31,7 +31,7 @@ use Rattle.sheet.proofs.Steps.{step-holds, step-promise}
 -- ---- what an item is
 
 -- a header label is a block of 80 bytes
-header-long : (p : Phase) (x : Item) → kindIn p x .family ≡ 3 → length (bytesIn x) ≡ 80
+pub header-long : (p : Phase) (x : Item) → kindIn p x .family ≡ 3 → length (bytesIn x) ≡ 80
 unfolding kindIn bytesIn kindOf
 header-long p (block l) =
     if-case (λ (k : Kind). k .family ≡ 3 → length l ≡ 80) (isDue (dueAfter p dataBlock)) dataBlock (ifB (eqb (length l) 80) (namedKind l) other)
@@ -59,7 +59,7 @@ end-stage eof1 e = absurd (eqb-false 5 11 refl (ap (λ (k : Kind). k .family) e)
 end-stage eov1 e = absurd (eqb-false 6 11 refl (ap (λ (k : Kind). k .family) e))
 end-stage finish e = refl
 
-image-end : (p : Phase) → Numbered p → isDue (dueAfter p endOfImage) ≡ true → stage p ≡ fileOver
+pub image-end : (p : Phase) → Numbered p → isDue (dueAfter p endOfImage) ≡ true → stage p ≡ fileOver
 unfolding isDue
 image-end p n = by-due (dueAfter p endOfImage) refl
   where
@@ -74,12 +74,12 @@ pub record Kept (s : State) : Type 0 where
   pub numbered : Numbered (s .phase)
   pub holds : Holds (stage (s .phase)) (view s)
 
-kept-start : Kept start
+pub kept-start : Kept start
 unfolding start
 kept-start =
     record { numbered = tt; holds = record { few = omega arith; idle = λ _. refl; some = λ on. absurd (false≢true on) } }
 
-kept-step : (s : State) (x : Item) (p : Phase) → Kept s → Faultless s x p → Kept (behind s x p)
+pub kept-step : (s : State) (x : Item) (p : Phase) → Kept s → Faultless s x p → Kept (behind s x p)
 unfolding stateAfter
 kept-step s x p h f =
     record {

@@ -157,11 +157,11 @@ quiet-reel = quiet-family 10 0 refl refl refl refl refl
 
 -- ---- what is due, phase by phase
 
-abbrev Each : (Kind → Phase → Type 0) → List Turn → Type 0
+abbrev pub Each : (Kind → Phase → Type 0) → List Turn → Type 0
 Each P [] = Unit {0}
 Each P (t ∷ ts) = P (t .item) (t .phase) × Each P ts
 
-nine : (P : Kind → Phase → Type 0) (n : ℕ) (t : Turn) (ts : List Turn) → P (t .item) (t .phase) → Each P ts → Each P (upToNine n t ts)
+pub nine : (P : Kind → Phase → Type 0) (n : ℕ) (t : Turn) (ts : List Turn) → P (t .item) (t .phase) → Each P ts → Each P (upToNine n t ts)
 unfolding upToNine
 nine P n t ts h k = if-case (Each P) (ltb n 9) (t ∷ ts) ts (λ _. (h, k)) (λ _. k)
 
@@ -201,7 +201,7 @@ moves Over h = (record { move = finish; numbered = tt }, tt)
 moves Accepted h = tt
 
 -- what holds of every turn that is due holds of the one that is taken
-chosen : (P : Kind → Phase → Type 0) (ts : List Turn) (k : Kind) (q : Phase) → Each P ts → choose ts k ≡ To q → P k q
+pub chosen : (P : Kind → Phase → Type 0) (ts : List Turn) (k : Kind) (q : Phase) → Each P ts → choose ts k ≡ To q → P k q
 unfolding choose
 chosen P [] k q each e = let z : _≡_ {A = ℕ} 0 1 = cc in absurd (omega arith)
 chosen P (t ∷ ts) k q (here, later) e =

@@ -158,12 +158,14 @@ first-room n f l h =
     if-case (λ (x : Fault). x .number ≡ 0 → n < 64) (leb 64 n) (fault 9 0) (fault 0 0) (λ _ q. absurd (eqb-false 9 0 refl q)) (λ e _. leb-false 64 n e)
     (or-second (crossed (newFilePlace n f l)) (fileFault n) (ap (λ (x : Fault). x .number) (sym (if-false _ _ _ refl)) ∙ h))
 
--- HDR2 of a later section: format and record length are those of the section before
-second-same : (f l : List ℕ) → secondHeaderFault true f l .number ≡ 0 → (formatOf f ≡ formatOf l) × (recordLengthOf f ≡ recordLengthOf l)
-unfolding secondHeaderFault formatOf recordLengthOf agreeAt ifB
+-- HDR2 of a later section: format, record length and offset length are those of the section before
+pub second-same : (f l : List ℕ) → secondHeaderFault true f l .number ≡ 0
+    → (formatOf f ≡ formatOf l) × (recordLengthOf f ≡ recordLengthOf l) × (offsetOf f ≡ offsetOf l)
+unfolding secondHeaderFault formatOf recordLengthOf offsetOf agreeAt ifB
 second-same f l h = (
   byte-part 4 f ∙ ap (λ (x : List ℕ). getD x 0 0) (same-true (part 4 1 f) (part 4 1 l) (rows .1 .0)) ∙ sym (byte-part 4 l),
   ap numberIn (same-true (part 10 5 f) (part 10 5 l) (rows .1 .1 .1 .0)),
+  ap numberIn (same-true (part 50 2 f) (part 50 2 l) (rows .1 .1 .1 .1 .1 .0)),
 )
   where
     rows : Rows (agreeAt f l) 0 sectionSecond

@@ -18,7 +18,7 @@ use Rattle.sheet.proofs.Stages.{View, view, viewOf, Holds, Promised, Ou
 
 -- ---- a quiet item changes nothing that the meaning hangs on, and hands out nothing
 
-view-quiet : (s : State) (q : Phase) (k : Kind) (l : List ℕ) → Quiet k → view (stateAfter s q k l) ≡ view s
+pub view-quiet : (s : State) (q : Phase) (k : Kind) (l : List ℕ) → Quiet k → view (stateAfter s q k l) ≡ view s
 unfolding stateAfter filesAfter goesOnAfter firstAfter secondAfter pendingAfter
 view-quiet s q k l c =
     let files : filesAfter s k ≡ s .files = if-false _ _ _ (c .second) in
@@ -28,17 +28,17 @@ view-quiet s q k l c =
     let pending : pendingAfter s k l ≡ s .pending = if-false _ _ _ (c .datum) in
     λ i. viewOf (files i) (goes-on i) (first i) (second i) (pending i)
 
-events-quiet : (s : State) (k : Kind) (l : List ℕ) → Quiet k → eventsOf s k l ≡ []
+pub events-quiet : (s : State) (k : Kind) (l : List ℕ) → Quiet k → eventsOf s k l ≡ []
 unfolding eventsOf
 events-quiet s k l c = if-false _ _ _ (c .datum) ∙ if-false _ _ _ (c .second)
 
 -- ---- an item without fault has no fault by itself, and none against what was read before it
 
-label-none : (s : State) (k : Kind) (l : List ℕ) → itemFault s k l .number ≡ 0 → labelFault k l .number ≡ 0
+pub label-none : (s : State) (k : Kind) (l : List ℕ) → itemFault s k l .number ≡ 0 → labelFault k l .number ≡ 0
 unfolding itemFault
 label-none s k l h = or-first (labelFault k l) (contextFault s k l) h
 
-context-none : (s : State) (k : Kind) (l : List ℕ) → itemFault s k l .number ≡ 0 → contextFault s k l .number ≡ 0
+pub context-none : (s : State) (k : Kind) (l : List ℕ) → itemFault s k l .number ≡ 0 → contextFault s k l .number ≡ 0
 unfolding itemFault
 context-none s k l h = or-second (labelFault k l) (contextFault s k l) h
 
