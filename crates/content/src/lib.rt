@@ -23,6 +23,7 @@ use volume::check;
 
 // A walk over the records of one file: the format, the record length and the offset length of the file, the place of what is left of the
 // current block, and how many bytes of it are left. With none left the place is that of the next item.
+#[repr(C)]
 pub struct Walk {
     pub format: u8,
     pub size: u32,
