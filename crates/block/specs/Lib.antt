@@ -1,4 +1,3 @@
 pub mod Unit
 pub mod Cut
 pub mod Turn
-pub mod Examples

@@ -1,3 +1,4 @@
 pub mod Rewrite
 pub mod Normal
+pub mod Examples
 pub mod Demands

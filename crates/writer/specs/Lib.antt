@@ -6,4 +6,3 @@ pub mod Source
 pub mod Fills
 pub mod Reels
 pub mod Sets
-pub mod Examples
