@@ -20,7 +20,8 @@ use Rattle.sheet.specs.Legal.{Sheet, legalSheet, legalQuota, legalNames}
 use Rattle.sheet.specs.Flat.{Flat, inParts, reelsNumber, sheetOf, sheetNumber}
 use Rattle.sheet.proofs.Legality.{accepted-sheet}
 use Rattle.writer.specs.Lay.{Laid, laid, short, lay}
-use Rattle.writer.specs.Write.{Written, refused, stored, storedLaid, writeSheet, write}
+use Rattle.output.specs.Output.{Written, refused}
+use Rattle.writer.specs.Write.{stored, storedLaid, writeSheet, write}
 use Rattle.writer.proofs.RoundTrip.{Means, image-means}
 use Rattle.normal.specs.Rewrite.{Rewritten, placed, refusedWith, sheetFrom, rewrite, imageIn}
 

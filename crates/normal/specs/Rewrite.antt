@@ -11,7 +11,8 @@ use Rattle.volume.specs.Run.{imageVerdict}
 use Rattle.volume.specs.Meaning.{content}
 use Rattle.sheet.specs.Legal.{Sheet}
 use Rattle.sheet.specs.Flat.{inParts, reelsNumber}
-use Rattle.writer.specs.Write.{Written, writeSheet}
+use Rattle.output.specs.Output.{Written}
+use Rattle.writer.specs.Write.{writeSheet}
 
 -- what rewriting gives: the answer, the length of the image (0 with a refusal), and what the lent buffer then holds
 pub record Rewritten : Type 0 where

@@ -2,12 +2,13 @@
 ghost use mathlib.Core.Path.{_≡_};
 ghost use lib.ListN.{length};
 ghost use Rattle.base.specs.Answer.{verdict};
+ghost use Rattle.output.specs.Output.{Answers};
 ghost use Rattle.volume.specs.Run.{imageVerdict};
 ghost use Rattle.content.specs.File.{begunAt};
 ghost use Rattle.content.specs.Found.{foundAt, leftAt};
 ghost use Rattle.content.specs.Walk.{stepAt, joinAt};
 ghost use Rattle.writer.specs.Write.{write};
-ghost use Rattle.writer.specs.Sets.{flat, Answers};
+ghost use Rattle.writer.specs.Sets.{flat};
 ghost use Rattle.tardorelga.specs.Numbers.{recordOf, beginningOf, steppedOf};
 use base::Verdict;
 use content::Begun;
@@ -16,7 +17,7 @@ use content::Step;
 use content::Walk;
 use content::begin;
 use content::record;
-use writer::Written;
+use output::Written;
 
 // Where a record is: with `joined` 0 that part of the image, with 1 the front of the joining buffer.
 #[repr(C)]

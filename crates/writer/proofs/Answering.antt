@@ -15,17 +15,15 @@ use Rattle.image.specs.Item.{Item, encode}
 use Rattle.image.specs.Framing.{head, mostImage}
 use Rattle.sheet.specs.Legal.{Sheet}
 use Rattle.sheet.specs.Flat.{Flat, sheetNumber, sheetOf}
-use Rattle.writer.specs.declared.Written.{Written as Answer}
+use Rattle.output.specs.declared.Written.{Written as Answer}
+use Rattle.output.specs.Output.{Written, refused, refusalOf, writtenOf, Answers}
+use Rattle.output.proofs.Writing.{answers-refused}
 use Rattle.writer.specs.Lay.{Laid, laid, short, lay}
-use Rattle.writer.specs.Write.{Written, refused, stored, storedLaid, writeSheet, write}
+use Rattle.writer.specs.Write.{stored, storedLaid, writeSheet, write}
 use Rattle.writer.specs.Output.{Wrote, overLong}
-use Rattle.writer.specs.Sets.{Sheeted, refusalOf, writtenOf, Answers}
+use Rattle.writer.specs.Sets.{Sheeted}
 
 -- ---- a refusal, and an image written
-
-answers-refused : (n : ℕ) (out : List ℕ) → Answers (refused n out) (refusalOf n) out
-unfolding refused refusalOf
-answers-refused n out = record { said = refl; len = refl; out = refl }
 
 -- by what is laid
 laid-by : {A : Type 0} (l : Laid) → ((xs : List Item) → l ≡ laid xs → A) → (l ≡ short → A) → A

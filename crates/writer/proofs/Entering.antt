@@ -12,7 +12,7 @@ use Rattle.base.specs.If.{ifB, if-true, if-false}
 use Rattle.base.specs.Digits.{digits}
 use Rattle.writer.specs.Pack.{wordOf, enters, taken, indicatorOf, controlWord}
 use Rattle.writer.specs.Output.{Wrote, overLong}
-use Rattle.writer.proofs.Writing.{wrote-wrote}
+use Rattle.output.proofs.Writing.{wrote-wrote}
 
 -- ---- room
 

@@ -40,7 +40,7 @@ use Rattle.writer.proofs.Packed.{Suited, legal-room}
 use Rattle.writer.proofs.Entry.{legal-second, suited}
 use Rattle.writer.proofs.Laying.{legal-file}
 use Rattle.writer.proofs.RoundTrip.{LegalSheet, legal-sheet, number-legal}
-use Rattle.writer.proofs.Writing.{wrote-wrote, wrote-same}
+use Rattle.output.proofs.Writing.{wrote-wrote, wrote-same}
 use Rattle.writer.proofs.Reeling.{lays-put, lays-same, lays-short, names-some}
 
 abbrev place : ℕ → ℕ → ℕ → Place

@@ -24,7 +24,7 @@ use Rattle.writer.specs.Source.{bytesAt, laterAt, endAt, leftAt, Good, H
 use Rattle.writer.specs.Fills.{unitOf, UnitPut, fillAt, afterAt, Fillable, Turned, Turning, Filled, BlockPut}
 use Rattle.writer.proofs.Packing.{Entered, entered, by-test}
 use Rattle.writer.proofs.Units.{length-unit}
-use Rattle.writer.proofs.Writing.{wrote-wrote}
+use Rattle.output.proofs.Writing.{wrote-wrote}
 use Rattle.writer.proofs.Sources.{good-inside, good-length, length-bytes}
 
 -- ---- the equations of `fill` and `after`

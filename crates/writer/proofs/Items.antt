@@ -12,7 +12,7 @@ use Rattle.label.specs.Name.{HDR1, HDR2, EOV1, EOV2, EOF1, EOF2}
 use Rattle.label.specs.Made.{madeVolume, madeFirst, madeSecond}
 use Rattle.writer.specs.Lay.{headers, fileEnd, volumeEnd}
 use Rattle.writer.specs.Output.{Wrote, overLong}
-use Rattle.writer.proofs.Writing.{wrote-wrote, wrote-same}
+use Rattle.output.proofs.Writing.{wrote-wrote, wrote-same}
 
 pub wrote-items : (o : List ℕ) (a : ℕ) (xs : List Item) (p : List ℕ) (r : ℕ) (ys : List Item) (q : List ℕ) (s : ℕ) → Wrote o a (encode xs) p r
     → Wrote p r (encode ys) q s → Wrote o a (encode (xs ++ ys)) q s

@@ -6,7 +6,6 @@ pub mod Entry
 pub mod Acts
 pub mod Laying
 pub mod RoundTrip
-pub mod Writing
 pub mod Entering
 pub mod Sources
 pub mod Filling

@@ -32,7 +32,7 @@ use Rattle.writer.specs.Source.{bytesAt, laterAt, endAt, leftAt, Good}
 use Rattle.writer.specs.Fills.{fillAt, afterAt, Fillable, BlockPut}
 use Rattle.writer.specs.Reels.{Lays, Next, namesAt, Sound, restAt, nextAt, Roomed, Ready, oneMore, LaidHere, Passed, Passing, Spent, Layable, Ended, FilePut}
 use Rattle.writer.proofs.Packing.{by-test, blocks-finished, blocks-going, after-room}
-use Rattle.writer.proofs.Writing.{wrote-wrote, wrote-same}
+use Rattle.output.proofs.Writing.{wrote-wrote, wrote-same}
 use Rattle.writer.proofs.Items.{wrote-items}
 
 abbrev reel : ℕ → ℕ → ℕ → ℕ → ℕ → Bool → Reel

@@ -28,7 +28,8 @@ use Rattle.volume.specs.Meaning.{File, Meaning, joined, Collected, fieldsFrom, 
 use Rattle.sheet.specs.Legal.{Sheet, formatFrom, blockLengthFrom, recordLengthFrom, freshNames, legalFiles, legalMeaning, legalNames, legalQuota, legalSheet}
 use Rattle.sheet.specs.Flat.{Flat, addsUp, sheetOf, sheetNumber}
 use Rattle.writer.specs.Lay.{Laid, laid, short, layFiles, layOn, lay}
-use Rattle.writer.specs.Write.{Written, refused, stored, storedLaid, writeSheet, write}
+use Rattle.output.specs.Output.{Written, refused}
+use Rattle.writer.specs.Write.{stored, storedLaid, writeSheet, write}
 use Rattle.writer.proofs.Units.{both}
 use Rattle.writer.proofs.Packed.{held, flat, file-records}
 use Rattle.writer.proofs.Labels.{length-volume, set-back}

@@ -7,7 +7,6 @@ use lib.Dec.{ltb}
 use lib.ListN.{length, drop}
 use Rattle.base.specs.If.{ifB}
 use Rattle.base.specs.Part.{part}
-use Rattle.base.specs.Answer.{verdict}
 use Rattle.image.specs.Item.{Item, mark, reelEnd, encode}
 use Rattle.image.specs.Framing.{head}
 use Rattle.volume.specs.Meaning.{File}
@@ -18,10 +17,8 @@ use Rattle.writer.specs.declared.reel.Reel.{Reel}
 use Rattle.writer.specs.declared.reel.Laying.{Laying}
 use Rattle.writer.specs.declared.set.Place.{Place}
 use Rattle.writer.specs.declared.set.Filing.{Filing}
-use Rattle.writer.specs.declared.Written.{Written as Answer}
 use Rattle.writer.specs.Pack.{startOf}
 use Rattle.writer.specs.Lay.{Laid, laid, short, layFiles}
-use Rattle.writer.specs.Write.{Written}
 use Rattle.writer.specs.Output.{Wrote}
 use Rattle.writer.specs.Source.{endAt, leftAt, Good}
 use Rattle.writer.specs.Reels.{Lays, namesAt, Sound}
@@ -99,16 +96,3 @@ pub record Sheeted (l : Laid) (o p : List ℕ) (r : ℕ) (z : Bool) : Type 0 whe
   pub whole : (xs : List Item) → l ≡ laid xs → Wrote o 0 (head ++ encode xs) p r
   pub given : (xs : List Item) → l ≡ laid xs → z ≡ false
   pub lacks : l ≡ short → z ≡ true
-
--- a refusal, and an image of that length
-unfoldable pub refusalOf : ℕ → Answer
-refusalOf n = record { verdict = verdict n 0 0; len = 0 }
-
-unfoldable pub writtenOf : ℕ → Answer
-writtenOf n = record { verdict = verdict 0 0 0; len = n }
-
--- what the code answers, and the buffer behind it, are what writing gives
-pub record Answers (w : Written) (r : Answer) (p : List ℕ) : Type 0 where
-  pub said : r .verdict ≡ verdict (w .number) 0 0
-  pub len : r .len ≡ w .len
-  pub out : p ≡ w .out

@@ -3,29 +3,18 @@
 use mathlib.Core.List.{List, [], _++_}
 use Prim.Native.Nat.{ℕ}
 use lib.Dec.{eqb, leb}
-use lib.ListN.{length, drop}
+use lib.ListN.{length}
 use Rattle.base.specs.If.{ifB}
+use Rattle.output.specs.Output.{Written, refused, fitted}
 use Rattle.image.specs.Item.{encode}
 use Rattle.image.specs.Framing.{head, mostImage}
 use Rattle.sheet.specs.Legal.{Sheet}
 use Rattle.sheet.specs.Flat.{Flat, sheetOf, sheetNumber}
 use Rattle.writer.specs.Lay.{Laid, laid, short, lay}
 
--- what writing gives: the number, the length of the image (0 with a refusal), and what the lent buffer then holds
-pub record Written : Type 0 where
-  pub number : ℕ
-  pub len : ℕ
-  pub out : List ℕ
-
-unfoldable pub refused : ℕ → List ℕ → Written
-refused n out = record { number = n; len = 0; out = out }
-
 -- an image into a lent buffer: 14 where it is over the limit, 10 where the buffer is too short
 unfoldable pub stored : List ℕ → List ℕ → Written
-stored image out =
-    ifB (leb (length image) mostImage)
-    (ifB (leb (length image) (length out)) (record { number = 0; len = length image; out = image ++ drop (length image) out }) (refused 10 out))
-    (refused 14 out)
+stored image out = ifB (leb (length image) mostImage) (fitted image out) (refused 14 out)
 
 unfoldable pub storedLaid : Laid → List ℕ → Written
 storedLaid (laid xs) out = stored (head ++ encode xs) out

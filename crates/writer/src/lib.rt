@@ -10,46 +10,14 @@ mod unit; // unit.rt: units and control words
 ghost use mathlib.Core.Path.{_≡_};
 ghost use Rattle.sheet.specs.Flat.{sheetNumber, sheetOf};
 ghost use Rattle.writer.specs.Write.{writeSheet, write as writing};
-ghost use Rattle.writer.specs.Sets.{flat, refusalOf, writtenOf, Answers};
-use base::Verdict;
+ghost use Rattle.output.specs.Output.{Answers};
+ghost use Rattle.writer.specs.Sets.{flat};
 use out::OVER_LONG;
+use output::Written;
+use output::done;
+use output::refusal;
 use set::lay_sheet;
 use sheet::sheet_number;
-
-// What writing answers: the number given back, with place 0, and the length of the image, 0 with a refusal.
-#[repr(C)]
-pub struct Written {
-    pub verdict: Verdict,
-    pub len: u64,
-}
-
-// A refusal.
-fn refusal(number: u32) -> Written
-    ensures { λ r. ⌜ r ≡ refusalOf number ⌝ }
-{
-    Written {
-        verdict: Verdict {
-            number,
-            item: 0,
-            byte: 0,
-        },
-        len: 0,
-    }
-}
-
-// An image of that length is written.
-fn done(len: usize) -> Written
-    ensures { λ r. ⌜ r ≡ writtenOf len ⌝ }
-{
-    Written {
-        verdict: Verdict {
-            number: 0,
-            item: 0,
-            byte: 0,
-        },
-        len: len as u64,
-    }
-}
 
 // Writes a legal sheet. Its reels and its length are found in a buffer in which nothing has room, before the first byte is written.
 fn write_legal(

@@ -1,4 +1,4 @@
-use Rattle.writer.proofs.Writing.{sames}
+use Rattle.output.proofs.Writing.{sames}
 use Rattle.writer.proofs.out.put_word.Statement.{statement}
 use Rattle.writer.proofs.out.put_word.Tie as tie
 

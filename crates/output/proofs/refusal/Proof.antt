@@ -1,8 +1,8 @@
 use borrow.Author.Needs.{needs}
-use Rattle.writer.specs.Sets.{refusalOf}
+use Rattle.output.specs.Output.{refusalOf}
 use Rattle.base.specs.Answer.{verdict}
-use Rattle.writer.proofs.refusal.Statement.{statement}
-use Rattle.writer.proofs.refusal.Tie as tie
+use Rattle.output.proofs.refusal.Statement.{statement}
+use Rattle.output.proofs.refusal.Tie as tie
 
 returns : tie.Need-returns
 unfolding refusalOf verdict

@@ -1,8 +1,8 @@
 use borrow.Author.Needs.{needs}
-use Rattle.writer.specs.Sets.{writtenOf}
+use Rattle.output.specs.Output.{writtenOf}
 use Rattle.base.specs.Answer.{verdict}
-use Rattle.writer.proofs.done.Statement.{statement}
-use Rattle.writer.proofs.done.Tie as tie
+use Rattle.output.proofs.done.Statement.{statement}
+use Rattle.output.proofs.done.Tie as tie
 
 returns : tie.Need-returns
 unfolding writtenOf verdict

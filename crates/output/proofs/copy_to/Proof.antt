@@ -1,9 +1,9 @@
-use Rattle.writer.proofs.Writing.{copying}
+use Rattle.output.proofs.Writing.{copying}
 use Prim.Native.Nat.{_-_}
 use lib.ListN.{length}
-use Rattle.writer.proofs.Writing.{Copying}
-use Rattle.writer.proofs.out.copy_to.Statement.{statement}
-use Rattle.writer.proofs.out.copy_to.Tie as tie
+use Rattle.output.proofs.Writing.{Copying}
+use Rattle.output.proofs.copy_to.Statement.{statement}
+use Rattle.output.proofs.copy_to.Tie as tie
 
 abbrev Inv-loop : tie.InvT-loop
 Inv-loop out₀ at s i₀ out i = Copying out₀ at s out i

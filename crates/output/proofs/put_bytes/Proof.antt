@@ -1,6 +1,6 @@
-use Rattle.writer.proofs.Writing.{writing}
-use Rattle.writer.proofs.out.put_bytes.Statement.{statement}
-use Rattle.writer.proofs.out.put_bytes.Tie as tie
+use Rattle.output.proofs.Writing.{writing}
+use Rattle.output.proofs.put_bytes.Statement.{statement}
+use Rattle.output.proofs.put_bytes.Tie as tie
 
 behind-requires : tie.Need-behind-requires
 behind-requires c κs = search writing

@@ -10,7 +10,7 @@ use lib.Seq.{drop-cons}
 use Rattle.base.specs.Part.{putAt}
 use Rattle.base.proofs.Parts.{length-put, put-none, put-put}
 use Rattle.label.proofs.Put.{put-first}
-use Rattle.writer.specs.Output.{Wrote, overLong}
+use Rattle.output.specs.Output.{Wrote, Written, refused, refusalOf, Answers}
 
 -- ---- copying: what is left to put from here makes the whole
 
@@ -49,30 +49,30 @@ pub ruleset copying = (copying-none, copying-more, copying-all, needs)
 
 -- ---- a write
 
-pub wrote-over : (o : List ℕ) (a : ℕ) (bs : List ℕ) (r : ℕ) → r ≡ min (a + length bs) overLong → overLong ≤ r → Wrote o a bs o r
+pub wrote-over : {most : ℕ} (o : List ℕ) (a : ℕ) (bs : List ℕ) (r : ℕ) → r ≡ min (a + length bs) most → most ≤ r → Wrote most o a bs o r
 wrote-over o a bs r e h = record { kept = refl; place = e; done = λ l k. absurd (omega arith) }
 
-pub wrote-short : (o : List ℕ) (a : ℕ) (bs : List ℕ) (r : ℕ) → r ≡ min (a + length bs) overLong → length o < r → Wrote o a bs o r
+pub wrote-short : {most : ℕ} (o : List ℕ) (a : ℕ) (bs : List ℕ) (r : ℕ) → r ≡ min (a + length bs) most → length o < r → Wrote most o a bs o r
 wrote-short o a bs r e h = record { kept = refl; place = e; done = λ l k. absurd (omega arith) }
 
-pub wrote-put : (o : List ℕ) (a : ℕ) (bs p : List ℕ) (r : ℕ) → r ≡ min (a + length bs) overLong → r < overLong → r ≤ length o → p ≡ putAt o a bs
-    → Wrote o a bs p r
+pub wrote-put : {most : ℕ} (o : List ℕ) (a : ℕ) (bs p : List ℕ) (r : ℕ) → r ≡ min (a + length bs) most → r < most → r ≤ length o → p ≡ putAt o a bs
+    → Wrote most o a bs p r
 wrote-put o a bs p r e l h q =
     let room : a + length bs ≤ length o = omega arith in
     record { kept = ap length q ∙ length-put o a bs room; place = e; done = λ _ _. q }
 
-pub has-room : (o : List ℕ) (a : ℕ) (bs : List ℕ) (r : ℕ) → r ≡ min (a + length bs) overLong → r < overLong → r ≤ length o → a + length bs ≤ length o
+pub has-room : {most : ℕ} (o : List ℕ) (a : ℕ) (bs : List ℕ) (r : ℕ) → r ≡ min (a + length bs) most → r < most → r ≤ length o → a + length bs ≤ length o
 has-room o a bs r e l h = omega arith
 
 pub ruleset writing = (wrote-over, wrote-short, wrote-put, has-room, needs)
 
 -- two writes, the second right behind the first, are one
-pub wrote-wrote : (o : List ℕ) (a : ℕ) (xs p : List ℕ) (r : ℕ) (ys q : List ℕ) (s : ℕ) → Wrote o a xs p r → Wrote p r ys q s → Wrote o a (xs ++ ys) q s
-wrote-wrote o a xs p r ys q s w v =
+pub wrote-wrote : {most : ℕ} (o : List ℕ) (a : ℕ) (xs p : List ℕ) (r : ℕ) (ys q : List ℕ) (s : ℕ) → Wrote most o a xs p r → Wrote most p r ys q s → Wrote most o a (xs ++ ys) q s
+wrote-wrote {most = most} o a xs p r ys q s w v =
     let long : length (xs ++ ys) ≡ length xs + length ys = length-append xs ys in
     record {
       kept = v .kept ∙ w .kept;
-      place = subst (λ (n : ℕ). s ≡ min (a + n) overLong) (sym long) (omega (arith, w .place, v .place));
+      place = subst (λ (n : ℕ). s ≡ min (a + n) most) (sym long) (omega (arith, w .place, v .place));
       done =
           λ l h.
           let before : r ≡ a + length xs = omega (arith, w .place, v .place) in
@@ -84,7 +84,13 @@ wrote-wrote o a xs p r ys q s w v =
     }
 
 -- the same bytes
-pub wrote-same : (o : List ℕ) (a : ℕ) (bs cs p : List ℕ) (r : ℕ) → bs ≡ cs → Wrote o a bs p r → Wrote o a cs p r
-wrote-same o a bs cs p r e w = subst (λ (s : List ℕ). Wrote o a s p r) e w
+pub wrote-same : {most : ℕ} (o : List ℕ) (a : ℕ) (bs cs p : List ℕ) (r : ℕ) → bs ≡ cs → Wrote most o a bs p r → Wrote most o a cs p r
+wrote-same {most = most} o a bs cs p r e w = subst (λ (s : List ℕ). Wrote most o a s p r) e w
 
 pub ruleset sames = (wrote-same, needs)
+
+-- ---- a refusal
+
+pub answers-refused : (n : ℕ) (out : List ℕ) → Answers (refused n out) (refusalOf n) out
+unfolding refused refusalOf
+answers-refused n out = record { said = refl; len = refl; out = refl }

@@ -1,7 +1,7 @@
 use borrow.Author.Needs.{needs}
 use Rattle.base.specs.Digits.{digits}
-use Rattle.writer.proofs.out.four_digits.Statement.{statement}
-use Rattle.writer.proofs.out.four_digits.Tie as tie
+use Rattle.output.proofs.four_digits.Statement.{statement}
+use Rattle.output.proofs.four_digits.Tie as tie
 
 cast-t6 : tie.Need-cast-t6
 cast-t6 c = search needs

@@ -1,0 +1,46 @@
+-- What writing into a lent buffer does, and what is answered. Each write gives the place behind it, counted up to a most: bytes are written where all
+-- of them have room; nothing is said of a buffer that was too short but its length. Document 01, "Numbers given back": 10 where the buffer is too
+-- short; bytes behind what is written stay; a refusal changes no lent byte.
+use mathlib.Core.Path.{_≡_}
+use mathlib.Core.List.{List, _++_}
+use Prim.Native.Nat.{ℕ, _+_, _≤_, _<_, min}
+use lib.Dec.{leb}
+use lib.ListN.{length, drop}
+use Rattle.base.specs.If.{ifB}
+use Rattle.base.specs.Part.{putAt}
+use Rattle.base.specs.Answer.{verdict}
+use Rattle.output.specs.declared.Written.{Written as Answer}
+
+-- buffer o with bs written at place a became p, and r is the place behind, or `most`
+pub record Wrote (most : ℕ) (o : List ℕ) (a : ℕ) (bs p : List ℕ) (r : ℕ) : Type 0 where
+  pub kept : length p ≡ length o
+  pub place : r ≡ min (a + length bs) most
+  pub done : r < most → r ≤ length o → p ≡ putAt o a bs
+
+-- what writing gives: the number, the length of what was written (0 with a refusal), and what the lent buffer then holds
+pub record Written : Type 0 where
+  pub number : ℕ
+  pub len : ℕ
+  pub out : List ℕ
+
+unfoldable pub refused : ℕ → List ℕ → Written
+refused n out = record { number = n; len = 0; out = out }
+
+-- bytes at the front of a lent buffer: 10 where it is too short
+abbrev pub fitted : List ℕ → List ℕ → Written
+fitted s out = ifB (leb (length s) (length out)) (record { number = 0; len = length s; out = s ++ drop (length s) out }) (refused 10 out)
+
+-- ---- the answer of the code
+
+-- a refusal, and so many bytes written
+unfoldable pub refusalOf : ℕ → Answer
+refusalOf n = record { verdict = verdict n 0 0; len = 0 }
+
+unfoldable pub writtenOf : ℕ → Answer
+writtenOf n = record { verdict = verdict 0 0 0; len = n }
+
+-- what the code answers, and the buffer behind it, are what writing gives
+pub record Answers (w : Written) (r : Answer) (p : List ℕ) : Type 0 where
+  pub said : r .verdict ≡ verdict (w .number) 0 0
+  pub len : r .len ≡ w .len
+  pub out : p ≡ w .out

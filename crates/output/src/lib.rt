@@ -1,0 +1,98 @@
+// The lent output buffer: bytes written at a place, where they have room, and the answer on what was written. It knows nothing of what the bytes are.
+ghost use mathlib.Core.Path.{_≡_};
+ghost use Prim.Native.Nat.{_+_, _≤_, min};
+ghost use lib.ListN.{length};
+ghost use Rattle.base.specs.Part.{putAt};
+ghost use Rattle.base.specs.Digits.{digits};
+ghost use Rattle.output.specs.Output.{Wrote, refusalOf, writtenOf};
+use base::Verdict;
+
+// What writing answers: the number given back, with its place, and the length of what was written, 0 with a refusal.
+#[repr(C)]
+pub struct Written {
+    pub verdict: Verdict,
+    pub len: u64,
+}
+
+// A refusal.
+pub fn refusal(number: u32) -> Written
+    ensures { λ r. ⌜ r ≡ refusalOf number ⌝ }
+{
+    Written {
+        verdict: Verdict {
+            number,
+            item: 0,
+            byte: 0,
+        },
+        len: 0,
+    }
+}
+
+// So many bytes are written.
+pub fn done(len: usize) -> Written
+    ensures { λ r. ⌜ r ≡ writtenOf len ⌝ }
+{
+    Written {
+        verdict: Verdict {
+            number: 0,
+            item: 0,
+            byte: 0,
+        },
+        len: len as u64,
+    }
+}
+
+// The place behind n bytes; places are counted up to `most`.
+fn behind(at: usize, n: usize, most: usize) -> usize
+    ensures { λ r. ⌜ r ≡ min (at + n) most ⌝ }
+{
+    if most <= at {
+        return most;
+    }
+    if most - at <= n {
+        return most;
+    }
+    at + n
+}
+
+// Writes s at a place where it has room.
+fn copy_to(out: &mut [u8], at: usize, s: &[u8])
+    requires { ⌜ at + length (now s) ≤ length (now out) ⌝ }
+    ensures { λ _. ⌜ now (out .exit) ≡ putAt (now (out .entry)) at (now (s .entry)) ⌝ }
+{
+    let mut i = 0;
+    while i < s.len() {
+        out[at + i] = s[i];
+        i += 1;
+    }
+}
+
+// Writes s at a place if it has room there before place `most`, and gives the place behind.
+pub fn put_bytes(out: &mut [u8], at: usize, s: &[u8], most: usize) -> usize
+    ensures { λ r. ⌜ Wrote most (now (out .entry)) at (now (s .entry)) (now (out .exit)) r ⌝ }
+{
+    let end = behind(at, s.len(), most);
+    if most <= end {
+        return end;
+    }
+    if out.len() < end {
+        return end;
+    }
+    copy_to(out, at, s);
+    end
+}
+
+// The last four digits of a number.
+pub fn four_digits(n: usize) -> [u8; 4]
+    ensures { λ r. ⌜ r ≡ digits 4 n ⌝ }
+{
+    let tens = n / 10;
+    let hundreds = tens / 10;
+    let thousands = hundreds / 10;
+    [
+        b'0' + (thousands % 10) as u8,
+        b'0' + (hundreds % 10) as u8,
+        b'0' + (tens % 10) as u8,
+        b'0' + (n % 10) as u8,
+    ]
+}
