@@ -10,3 +10,4 @@ pub mod Blocks
 pub mod Phases
 pub mod Walked
 pub mod Handed
+pub mod Refusals

@@ -1,16 +1,28 @@
 -- The owner's three demands, over the definitions that the public contracts cite. Each proof cites the file below it. Assumes nothing.
 use mathlib.Core.Path.{_≡_}
 use mathlib.Core.Logic.{_↔_}
-use mathlib.Core.List.{List}
-use Prim.Native.Nat.{ℕ, _≤_}
+use mathlib.Core.List.{List, [], _∷_, _++_}
+use Prim.Native.Nat.{ℕ, _+_, _≤_, _<_}
 use lib.ListN.{length, take}
 use Rattle.base.specs.Answer.{verdict}
+use Rattle.base.specs.declared.Verdict.{Verdict}
 use Rattle.image.specs.Framing.{framing, items}
 use Rattle.volume.specs.State.{start}
 use Rattle.volume.specs.Run.{imageVerdict}
 use Rattle.volume.specs.Accepted.{Accepted, FirstWrong}
-use Rattle.volume.specs.Meaning.{content}
+use Rattle.volume.specs.Meaning.{File, content}
 use Rattle.volume.proofs.Accepted.{accepted-iff, refused-first}
+use Rattle.content.specs.Walk.{stepAt, joinAt}
+use Rattle.content.specs.File.{begunAt}
+use Rattle.content.specs.Found.{foundAt, leftAt, partOf}
+use Rattle.content.specs.Walked.{Walks}
+use Rattle.content.specs.declared.Walk.{Walk}
+use Rattle.content.specs.declared.Step.the-variants.{Refused as NoStep}
+use Rattle.content.specs.declared.Found.the-variants.{Refused as NotFound}
+use Rattle.content.specs.declared.Begun.the-variants.{At as Begun}
+use Rattle.content.proofs.Refusals.{step-kept, record-kept}
+use Rattle.content.proofs.Walked.{walk-records}
+use Rattle.content.proofs.Handed.{record-asked, record-none}
 use Rattle.sheet.specs.Flat.{Flat, sheetOf}
 use Rattle.writer.specs.Write.{write}
 use Rattle.writer.proofs.RoundTrip.{Means, write-reads-back}
@@ -27,6 +39,12 @@ pub rewriting-refusal-changes-nothing : (s : List ℕ) (quota : ℕ) (names out 
     → Kept (rewrite s quota names out .verdict .number) (rewrite s quota names out .len) out (rewrite s quota names out .out)
 rewriting-refusal-changes-nothing = rewrite-kept
 
+pub step-refusal-changes-nothing : (s old : List ℕ) (w : Walk) (k : ℕ) → stepAt s (length old) w ≡ NoStep k → joinAt s old w ≡ old
+step-refusal-changes-nothing = step-kept
+
+pub record-refusal-changes-nothing : (s old : List ℕ) (n r : ℕ) (v : Verdict) → foundAt s n r (length old) ≡ NotFound v → leftAt s n r old ≡ old
+record-refusal-changes-nothing = record-kept
+
 -- "2. A set is accepted exactly when its image, labels, marks, blocks and cross-checks follow ECMA-13, fourth edition, as cut down in document 01;"
 -- Ruled out: a checker that refuses all sets, or accepts all, or names a later fault.
 pub accepted-exactly : (s : List ℕ) → imageVerdict s .number ≡ 0 ↔ Accepted s
@@ -34,6 +52,22 @@ accepted-exactly = accepted-iff
 
 pub refused-at-the-first : (s : List ℕ) (k i b : ℕ) → framing s .number ≡ 0 → (k ≡ 0 → ⊥) → imageVerdict s ≡ verdict k i b → FirstWrong start (items s) k i b
 refused-at-the-first = refused-first
+
+-- "the records handed out are exactly those it holds, in order."
+-- Over a file, from the beginning: step after step hands out its records of the meaning, and the step behind the last is 13. By number: the record
+-- that the meaning has there; and 13 past the last. Ruled out: a walk right only in its first step, a record of the file before or behind.
+pub walked-in-order : (s : List ℕ) (ds : List File) (d : File) (es : List File) → imageVerdict s .number ≡ 0 → content s .files ≡ ds ++ (d ∷ es)
+    → (w : Walk) × (begunAt s (length ds + 1) ≡ Begun w) × Walks s w (d .records)
+walked-in-order = walk-records
+
+pub asked-by-number : (s old : List ℕ) (ds : List File) (d : File) (es : List File) (rs : List (List ℕ)) (r : List ℕ) (ts : List (List ℕ)) → imageVerdict s .number ≡ 0
+    → content s .files ≡ ds ++ (d ∷ es) → d .records ≡ rs ++ (r ∷ ts) → length r ≤ length old
+    → partOf s (leftAt s (length ds + 1) (length rs + 1) old) (foundAt s (length ds + 1) (length rs + 1) (length old)) ≡ r
+asked-by-number = record-asked
+
+pub none-past-the-last : (s old : List ℕ) (ds : List File) (d : File) (es : List File) (n : ℕ) → imageVerdict s .number ≡ 0 → content s .files ≡ ds ++ (d ∷ es)
+    → length (d .records) < n → (foundAt s (length ds + 1) n (length old) ≡ NotFound (verdict 13 0 0)) × (leftAt s (length ds + 1) n old ≡ old)
+none-past-the-last = record-none
 
 -- "The reel writer turns any order sheet that it doesn't refuse into the image fixed there, which reads back as an accepted set with that sheet's
 -- meaning." Ruled out: an idle writer, a made-up trailer count.
