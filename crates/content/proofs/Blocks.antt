@@ -28,7 +28,7 @@ use Rattle.volume.specs.Meaning.{onFirst, joined}
 use Rattle.volume.specs.Step.{segmentsOf}
 use Rattle.sheet.proofs.Assembled.{InTurn, starts, follows, in-turn}
 use Rattle.content.specs.Section.{dataFrom}
-use Rattle.content.specs.Walk.{moved, leftOf, Inside, isInside, taken, unitHere, opened, blockNext, unitIn, unitNext, orNext, unitFrom, Rest, ends, fails, before, restBy, restAt, Record, whole, nothing, splitBy, begunBy, recordAt}
+use Rattle.content.specs.Walk.{moved, leftOf, Inside, taken, unitHere, opened, blockNext, unitIn, unitNext, orNext, unitFrom, Rest, ends, fails, before, restBy, restAt, Record, splitBy, begunBy, recordAt}
 use Rattle.content.specs.Walked.{handed, Walks}
 use Rattle.content.specs.declared.Walk.{Walk}
 use Rattle.content.specs.declared.section.Extent.{Extent}
@@ -37,7 +37,7 @@ use Rattle.content.specs.declared.unit.Place.{Place}
 use Rattle.content.specs.declared.unit.Place.the-variants.{At, Nowhere as Off}
 use Rattle.content.specs.declared.unit.Taken.{Taken}
 use Rattle.content.specs.declared.unit.Taken.the-variants.{One}
-use Rattle.content.proofs.Units.{unit-at, inside-true}
+use Rattle.content.proofs.Units.{unit-at, inside-true, inside-is}
 use Rattle.content.proofs.Rests.{rest-at}
 use Rattle.content.proofs.Measures.{Good, record-begun}
 
@@ -70,10 +70,6 @@ gives-by s w (r ∷ rs) h = h
 
 abbrev behind : Walk → ℕ → ℕ → Walk
 behind v c n = moved v (v .at + c + n) (v .left - (c + n))
-
-inside-is : (s : List ℕ) (w : Walk) → Inside s w → isInside s w ≡ true
-unfolding isInside
-inside-is s w h = if-true _ _ _ (le-leb (w .at) (length s) (omega arith)) ∙ le-leb (w .left) (length s - w .at) (omega arith)
 
 good-in : (s : List ℕ) (w : Walk) → Good s w → Inside s w
 good-in s w g = inside-true s w true (sym (g .inside)) refl

@@ -29,8 +29,8 @@ use Rattle.content.specs.declared.Found.{Found}
 use Rattle.content.specs.declared.Found.the-variants.{InImage as There, Joined as Here, Refused as No}
 use Rattle.content.specs.declared.unit.Place.{Place}
 use Rattle.content.specs.declared.unit.Place.the-variants.{At as Behind, Nowhere}
-use Rattle.content.specs.declared.measure.Measured.{Measured}
-use Rattle.content.specs.declared.measure.Measured.the-variants.{Whole, Split, Nothing}
+use Rattle.content.specs.declared.measuring.Measured.{Measured}
+use Rattle.content.specs.declared.measuring.Measured.the-variants.{Whole, Split, Nothing}
 
 -- ---- a walk begun
 

@@ -138,7 +138,7 @@ going s w at m i start n v t c e q = record {
     some : n ≤ length (restBytes (restAt s (w .size) w))
     some = by-flag (eqb i 3) refl
 
-not-nothing : (s : List ℕ) (w : Walk) (at m : ℕ) (t : Taken) → GoesOn s w at m → t ≡ unitNext s w → t ≡ Nothing → ⊥
+pub not-nothing : (s : List ℕ) (w : Walk) (at m : ℕ) (t : Taken) → GoesOn s w at m → t ≡ unitNext s w → t ≡ Nothing → ⊥
 unfolding isEnded restBy
 not-nothing s w at m t c e q =
     false≢true (ap isEnded (sym (rest-at s (w .size) w ∙ ap (λ (x : Taken). restBy s (w .size) x (λ r u. restAt s r u)) (sym e ∙ q))) ∙ c .ended)
@@ -281,7 +281,7 @@ splitting s w m i start n v t c e q = record {
     ways : Begins s start n v (begunBy s (w .size) (One i start n v))
     ways = begins-by s (w .size) i start n v (omega (arith, b .size)) (ap isSplit (sym k) ∙ c .is)
 
-split-not-nothing : (s : List ℕ) (w : Walk) (m : ℕ) (t : Taken) → SplitAt s w m → t ≡ unitFrom s w → t ≡ Nothing → ⊥
+pub split-not-nothing : (s : List ℕ) (w : Walk) (m : ℕ) (t : Taken) → SplitAt s w m → t ≡ unitFrom s w → t ≡ Nothing → ⊥
 unfolding begunBy isSplit
 split-not-nothing s w m t c e q = false≢true (ap isSplit (sym (begun-split s w (c .is) .1 ∙ ap (begunBy s (w .size)) (sym e ∙ q))) ∙ c .is)
 

@@ -11,3 +11,4 @@ pub mod Phases
 pub mod Walked
 pub mod Handed
 pub mod Refusals
+pub mod Records

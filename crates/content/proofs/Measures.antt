@@ -17,9 +17,9 @@ use Rattle.content.specs.Measure.{tailBy, longer, measuredBy}
 use Rattle.content.specs.declared.Walk.{Walk}
 use Rattle.content.specs.declared.unit.Taken.{Taken}
 use Rattle.content.specs.declared.unit.Taken.the-variants.{One, Nothing}
-use Rattle.content.specs.declared.measure.Tail.{Tail}
-use Rattle.content.specs.declared.measure.Tail.the-variants.{Ends, Fails}
-use Rattle.content.specs.declared.measure.Measured.the-variants.{Whole, Split, Nothing as None}
+use Rattle.content.specs.declared.measuring.Tail.{Tail}
+use Rattle.content.specs.declared.measuring.Tail.the-variants.{Ends, Fails}
+use Rattle.content.specs.declared.measuring.Measured.the-variants.{Whole, Split, Nothing as None}
 use Rattle.content.proofs.Units.{inside-true}
 use Rattle.content.proofs.Rests.{next-behind, from-behind, rest-at, rest-most}
 

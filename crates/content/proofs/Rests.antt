@@ -31,6 +31,7 @@ use Rattle.content.proofs.Units.{unit-at}
 
 pub record Behind (s : List ℕ) (w : Walk) (start n : ℕ) (v : Walk) : Type 0 where
   pub onward : w .at < v .at
+  pub bytes : w .at + n ≤ v .at
   pub inside : Inside s v
   pub within : start + n ≤ length s
   pub format : v .format ≡ w .format
@@ -48,7 +49,7 @@ here-behind s w (Of i c n) h e =
     let some = k .some in
     let within = k .within in
     let left = k .left in
-    record { onward = omega arith; inside = omega arith; within = within; format = refl; size = refl; offset = refl }
+    record { onward = omega arith; bytes = omega arith; inside = omega arith; within = within; format = refl; size = refl; offset = refl }
 here-behind s w None h e = refl
 
 -- the next block, behind its offset
@@ -81,6 +82,7 @@ behind-opened : (s : List ℕ) (w v : Walk) (t : Taken) → Opened s w v → If-
 behind-opened s w v (One i start n u) o b =
     record {
       onward = omega (arith, o .onward, b .onward);
+      bytes = omega (arith, o .onward, b .bytes);
       inside = b .inside;
       within = b .within;
       format = b .format ∙ o .format;

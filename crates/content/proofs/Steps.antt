@@ -14,8 +14,8 @@ use Rattle.content.specs.Walk.{Record, whole, split, nothing, recordAt, 
 use Rattle.content.specs.Measure.{measuredBy, recordBytes, isSplit, SplitAt}
 use Rattle.content.specs.declared.Walk.{Walk}
 use Rattle.content.specs.declared.Step.the-variants.{InImage, Joined, Refused}
-use Rattle.content.specs.declared.measure.Measured.{Measured}
-use Rattle.content.specs.declared.measure.Measured.the-variants.{Whole, Split, Nothing}
+use Rattle.content.specs.declared.measuring.Measured.{Measured}
+use Rattle.content.specs.declared.measuring.Measured.the-variants.{Whole, Split, Nothing}
 use Rattle.content.proofs.Joins.{split-inside}
 
 -- a record by its measure

@@ -19,7 +19,7 @@ use Rattle.block.specs.declared.Unit.{Unit}
 use Rattle.block.specs.declared.Unit.the-variants.{Of, None}
 use Rattle.block.proofs.Units.{unit-stands}
 use Rattle.content.specs.Section.{dataFrom}
-use Rattle.content.specs.Walk.{moved, leftOf, Inside, isInside, taken, unitHere, opened, blockNext, unitIn, unitNext, orNext, unitFrom}
+use Rattle.content.specs.Walk.{moved, leftOf, Inside, isInside, taken, unitHere, opened, blockNext, unitIn, unitNext, orNext, unitFrom, firstSegment, nextSegment}
 use Rattle.content.specs.declared.Walk.{Walk}
 use Rattle.content.specs.declared.section.Extent.{Extent}
 use Rattle.content.specs.declared.section.Extent.the-variants.{At as Block, Nowhere}
@@ -47,6 +47,10 @@ inside-true s w b e t =
     if-case (λ (x : Bool). x ≡ true → w .at + w .left ≤ length s) (leb (w .at) (length s)) (leb (w .left) (length s - w .at)) false
     (λ p q. let k = leb-true (w .at) (length s) p in let m = leb-true (w .left) (length s - w .at) q in omega arith)
     (λ p q. absurd (mathlib.Core.Bool.false≢true q)) (sym e ∙ t)
+
+pub inside-is : (s : List ℕ) (w : Walk) → Inside s w → isInside s w ≡ true
+unfolding isInside
+inside-is s w h = if-true _ _ _ (le-leb (w .at) (length s) (omega arith)) ∙ le-leb (w .left) (length s - w .at) (omega arith)
 
 -- ---- the unit at the head of what is left
 
@@ -152,3 +156,23 @@ unfolding unitFrom orNext
 from-next s w t u e q h = h ∙ ap (λ (x : Taken). orNext x (unitNext s w)) (sym q ∙ e)
 
 pub ruleset froms = (next-nothing, next-unit, from-here, from-next, needs)
+
+-- ---- segments from any walk whatever
+
+pub first-inside : (s : List ℕ) (w : Walk) (b : Bool) (t : Taken) → b ≡ isInside s w → b ≡ true → t ≡ unitFrom s w → t ≡ firstSegment s w
+unfolding firstSegment
+first-inside s w b t e h k = k ∙ sym (if-true _ _ _ (sym e ∙ h))
+
+pub first-outside : (s : List ℕ) (w : Walk) (b : Bool) → b ≡ isInside s w → b ≡ false → Nothing ≡ firstSegment s w
+unfolding firstSegment
+first-outside s w b e h = sym (if-false _ _ _ (sym e ∙ h))
+
+pub next-inside : (s : List ℕ) (w : Walk) (b : Bool) (t : Taken) → b ≡ isInside s w → b ≡ true → t ≡ unitNext s w → t ≡ nextSegment s w
+unfolding nextSegment
+next-inside s w b t e h k = k ∙ sym (if-true _ _ _ (sym e ∙ h))
+
+pub next-outside : (s : List ℕ) (w : Walk) (b : Bool) → b ≡ isInside s w → b ≡ false → Nothing ≡ nextSegment s w
+unfolding nextSegment
+next-outside s w b e h = sym (if-false _ _ _ (sym e ∙ h))
+
+pub ruleset segments = (first-inside, first-outside, next-inside, next-outside, inside-true, needs)

@@ -4,3 +4,4 @@ pub mod Measure
 pub mod File
 pub mod Found
 pub mod Walked
+pub mod Records

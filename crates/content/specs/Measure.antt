@@ -6,10 +6,10 @@ use Prim.Native.Nat.{ℕ, _+_, _≤_}
 use lib.ListN.{length}
 use Rattle.content.specs.Walk.{Inside, Rest, ends, fails, restAt, Record, whole, split, nothing, recordAt}
 use Rattle.content.specs.declared.Walk.{Walk}
-use Rattle.content.specs.declared.measure.Tail.{Tail}
-use Rattle.content.specs.declared.measure.Tail.the-variants.{Ends, Fails}
-use Rattle.content.specs.declared.measure.Measured.{Measured}
-use Rattle.content.specs.declared.measure.Measured.the-variants.{Whole, Split, Nothing}
+use Rattle.content.specs.declared.measuring.Tail.{Tail}
+use Rattle.content.specs.declared.measuring.Tail.the-variants.{Ends, Fails}
+use Rattle.content.specs.declared.measuring.Measured.{Measured}
+use Rattle.content.specs.declared.measuring.Measured.the-variants.{Whole, Split, Nothing}
 
 -- ---- the rest of a record
 

@@ -79,6 +79,13 @@ orNext Nothing t = t
 unfoldable pub unitFrom : List ℕ → Walk → Taken
 unitFrom s w = orNext (unitHere s w) (unitNext s w)
 
+-- the first segment of the record at a walk's place, and the segment with which a record goes on, from any walk whatever
+unfoldable pub firstSegment : List ℕ → Walk → Taken
+firstSegment s w = ifB (isInside s w) (unitFrom s w) Nothing
+
+unfoldable pub nextSegment : List ℕ → Walk → Taken
+nextSegment s w = ifB (isInside s w) (unitNext s w) Nothing
+
 -- ---- records
 
 -- the rest of a record that was begun: its bytes and the walk behind it

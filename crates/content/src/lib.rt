@@ -1,11 +1,20 @@
 // Records handed out: by number, and by a walk over one file. It knows where a record stands and how its segments are joined; what is right in a
 // set it leaves to the layers below.
+mod counting; // counting.rt: how many records, and how long
 mod file; // file.rt: where the walk over a file begins
 mod join; // join.rt: segments joined in a buffer
-mod measure; // measure.rt: the record at a place, by its numbers
+mod measuring; // measuring.rt: the record at a place, by its numbers
 mod section; // section.rt: the next data block of a file
+mod segment; // segment.rt: a record segment by segment
 mod unit; // unit.rt: the next unit of a file
 
+pub use counting::Facts;
+pub use counting::file_facts;
+pub use measuring::Measured;
+pub use measuring::measure;
+pub use segment::first_segment;
+pub use segment::next_segment;
+pub use unit::Taken;
 ghost use mathlib.Core.Path.{_≡_};
 ghost use lib.ListN.{length};
 ghost use Rattle.base.specs.Answer.{verdict};
@@ -16,8 +25,6 @@ use base::Verdict;
 use base::part_of;
 use file::file_start;
 use join::join_record;
-use measure::Measured;
-use measure::measure;
 use unit::Place;
 use volume::check;
 

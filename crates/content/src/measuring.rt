@@ -51,7 +51,7 @@ fn rest_length(image: &[u8], most: usize, from: Walk) -> Tail
 }
 
 // The record at a walk's place.
-pub(crate) fn measure(image: &[u8], w: Walk) -> Measured
+pub fn measure(image: &[u8], w: Walk) -> Measured
     ensures { λ r. ⌜ r ≡ measuredBy (recordAt (now (image .entry)) w) ⌝ }
 {
     if w.size == 0 {

@@ -1,6 +1,6 @@
 use Rattle.content.proofs.Measures.{measures}
-use Rattle.content.proofs.measure.measure.Statement.{statement}
-use Rattle.content.proofs.measure.measure.Tie as tie
+use Rattle.content.proofs.measuring.measure.Statement.{statement}
+use Rattle.content.proofs.measuring.measure.Tie as tie
 
 returns : tie.Need-returns
 returns c = search measures

@@ -1,0 +1,378 @@
+-- Laws of the records from a walk on: the equations of `recordsAt`, and how a record is made of its segments. Assumes nothing.
+use mathlib.Core.Path.{_≡_, refl, sym, ap, _∙_, subst}
+use mathlib.Core.Bool.{true}
+use mathlib.Core.List.{List, [], _∷_, _++_, map}
+use Prim.Native.Nat.{ℕ, zero, suc, _+_, _-_, _≤_, _<_}
+use native.Mathlib.Omega.{arith}
+use mir.Val.{Fits}
+use mir.Syntax.{w64}
+use borrow.Author.Needs.{needs}
+use lib.Dec.{leb, eqb}
+use lib.ListN.{length, length-append}
+use Rattle.base.specs.If.{if-true, if-case}
+use Rattle.base.specs.Part.{part}
+use Rattle.base.proofs.Parts.{length-part}
+use Rattle.sheet.specs.Flat.{sum}
+use Rattle.content.specs.Walk.{Inside, isInside, unitNext, unitFrom, firstSegment, nextSegment, Rest, ends, fails, before, restBy, restF, restAt, Record, whole, split, nothing, splitBy, begunBy, recordAt}
+use Rattle.content.specs.Measure.{isEnded, bytesBehind, measuredBy, recordBytes}
+use Rattle.content.specs.Walked.{handed, Walks}
+use Rattle.content.specs.Records.{recordsBy, recordsF, recordsAt, factsOf}
+use Rattle.content.specs.declared.Walk.{Walk}
+use Rattle.content.specs.declared.counting.Facts.{Facts}
+use Rattle.content.specs.declared.measuring.Measured.{Measured}
+use Rattle.content.specs.declared.measuring.Measured.the-variants.{Whole, Split, Nothing as None}
+use Rattle.content.specs.declared.unit.Taken.{Taken}
+use Rattle.content.specs.declared.unit.Taken.the-variants.{One, Nothing}
+use Rattle.content.proofs.Units.{inside-true, inside-is}
+use Rattle.content.proofs.Rests.{Behind, next-behind, from-behind}
+use Rattle.content.proofs.Joins.{Going, going, not-nothing, Splitting, splitting, split-not-nothing}
+use Rattle.content.proofs.Steps.{split-stands}
+
+-- ---- a record handed out is passed: the walk behind it is further on by at least its bytes, inside the image, and over the same file
+
+pub record Passes (s : List ℕ) (w : Walk) (r : List ℕ) (v : Walk) : Type 0 where
+  pub onward : w .at < v .at
+  pub bytes : w .at + length r ≤ v .at
+  pub inside : Inside s v
+  pub format : v .format ≡ w .format
+  pub size : v .size ≡ w .size
+  pub offset : v .offset ≡ w .offset
+
+abbrev If-ends : (List ℕ → Walk → Type 0) → Rest → Type 0
+If-ends P (ends r v) = P r v
+If-ends P fails = fails ≡ fails
+
+-- one unit, and one before others
+passes-unit : (s : List ℕ) (w : Walk) (start n : ℕ) (v : Walk) → Behind s w start n v → Passes s w (part start n s) v
+passes-unit s w start n v b =
+    let long = length-part start n s (b .within) in
+    record {
+      onward = b .onward;
+      bytes = omega (arith, b .bytes);
+      inside = b .inside;
+      format = b .format;
+      size = b .size;
+      offset = b .offset;
+    }
+
+passes-more : (s : List ℕ) (w : Walk) (start n : ℕ) (v : Walk) (r : List ℕ) (u : Walk) → Behind s w start n v → Passes s v r u → Passes s w (part start n s ++ r) u
+passes-more s w start n v r u b p =
+    let long = length-part start n s (b .within) in
+    record {
+      onward = omega (arith, b .onward, p .onward);
+      bytes = omega (arith, length-append (part start n s) r, b .bytes, p .bytes);
+      inside = p .inside;
+      format = p .format ∙ b .format;
+      size = p .size ∙ b .size;
+      offset = p .offset ∙ b .offset;
+    }
+
+passes-before : (s : List ℕ) (w : Walk) (start n : ℕ) (v : Walk) (x : Rest) → Behind s w start n v → If-ends (Passes s v) x
+    → If-ends (Passes s w) (before (part start n s) x)
+unfolding before
+passes-before s w start n v (ends r u) b p = passes-more s w start n v r u b p
+passes-before s w start n v fails b p = refl
+
+rest-by : (s : List ℕ) (room : ℕ) (w : Walk) (t : Taken) (g : ℕ → Walk → Rest) → unitNext s w ≡ t → ((r : ℕ) (v : Walk) → If-ends (Passes s v) (g r v))
+    → If-ends (Passes s w) (restBy s room t g)
+unfolding restBy
+rest-by s room w (One i start n v) g e h =
+    let b = next-behind s w i start n v e in
+    if-case (If-ends (Passes s w)) (leb n room) _ fails
+    (λ _. if-case (If-ends (Passes s w)) (eqb i 3) (ends (part start n s) v) _ (λ _. passes-unit s w start n v b)
+    (λ _. if-case (If-ends (Passes s w)) (eqb i 2) (before (part start n s) (g (room - n) v)) fails
+    (λ _. passes-before s w start n v (g (room - n) v) b (h (room - n) v)) (λ _. refl)))
+    (λ _. refl)
+rest-by s room w Nothing g e h = refl
+
+rest-fuel : (f : ℕ) (s : List ℕ) (room : ℕ) (w : Walk) → If-ends (Passes s w) (restF f s room w)
+unfolding restF
+rest-fuel zero s room w = refl
+rest-fuel (suc f) s room w = rest-by s room w (unitNext s w) (λ r v. restF f s r v) refl (λ r v. rest-fuel f s r v)
+
+split-passes : (s : List ℕ) (w : Walk) (start n : ℕ) (v : Walk) (x : Rest) → Behind s w start n v → If-ends (Passes s v) x
+    → If-ends (Passes s w) (handed s (splitBy (part start n s) x))
+unfolding handed splitBy
+split-passes s w start n v (ends r u) b p = passes-more s w start n v r u b p
+split-passes s w start n v fails b p = refl
+
+begun-passes : (s : List ℕ) (w : Walk) (t : Taken) → Inside s w → unitFrom s w ≡ t → If-ends (Passes s w) (handed s (begunBy s (w .size) t))
+unfolding begunBy handed restAt
+begun-passes s w (One i start n v) h e =
+    let b = from-behind s w i start n v h e in
+    if-case (λ (x : Record). If-ends (Passes s w) (handed s x)) (leb n (w .size)) _ nothing
+    (λ _. if-case (λ (x : Record). If-ends (Passes s w) (handed s x)) (eqb i 0) (whole start n v) _ (λ _. passes-unit s w start n v b)
+    (λ _. if-case (λ (x : Record). If-ends (Passes s w) (handed s x)) (eqb i 1) (splitBy (part start n s) (restAt s (w .size - n) v)) nothing
+    (λ _. split-passes s w start n v (restAt s (w .size - n) v) b (rest-fuel (suc (length s)) s (w .size - n) v)) (λ _. refl)))
+    (λ _. refl)
+begun-passes s w Nothing h e = refl
+
+handed-any : (s : List ℕ) (w : Walk) → If-ends (Passes s w) (handed s (recordAt s w))
+unfolding recordAt handed
+handed-any s w =
+    if-case (λ (x : Record). If-ends (Passes s w) (handed s x)) (eqb (w .size) 0) nothing _ (λ _. refl)
+    (λ _. if-case (λ (x : Record). If-ends (Passes s w) (handed s x)) (isInside s w) (begunBy s (w .size) (unitFrom s w)) nothing
+    (λ a. begun-passes s w (unitFrom s w) (inside-true s w true (sym a) refl) refl) (λ _. refl))
+
+pub handed-passes : (s : List ℕ) (w : Walk) (r : List ℕ) (v : Walk) → handed s (recordAt s w) ≡ ends r v → Passes s w r v
+handed-passes s w r v e = subst (If-ends (Passes s w)) e (handed-any s w)
+
+-- ---- the equations
+
+same-by : (x : Rest) (g h : Walk → List (List ℕ)) → ((r : List ℕ) (v : Walk) → x ≡ ends r v → g v ≡ h v) → recordsBy x g ≡ recordsBy x h
+unfolding recordsBy
+same-by (ends r v) g h e = ap (λ (rs : List (List ℕ)). r ∷ rs) (e r v refl)
+same-by fails g h e = refl
+
+enough : (f g : ℕ) (s : List ℕ) (w : Walk) → length s - w .at < f → length s - w .at < g → recordsF f s w ≡ recordsF g s w
+unfolding recordsF
+enough zero g s w h k = absurd (omega arith)
+enough (suc f) zero s w h k = absurd (omega arith)
+enough (suc f) (suc g) s w h k =
+    same-by (handed s (recordAt s w)) (λ v. recordsF f s v) (λ v. recordsF g s v)
+    (λ r v e.
+    let p = handed-passes s w r v e in
+    let on = p .onward in
+    let in' = p .inside in
+    enough f g s v (omega arith) (omega arith))
+
+records-at : (s : List ℕ) (w : Walk) → recordsAt s w ≡ recordsBy (handed s (recordAt s w)) (λ v. recordsAt s v)
+unfolding recordsAt recordsF
+records-at s w =
+    same-by (handed s (recordAt s w)) (λ v. recordsF (length s) s v) (λ v. recordsF (suc (length s)) s v)
+    (λ r v e.
+    let p = handed-passes s w r v e in
+    let on = p .onward in
+    let in' = p .inside in
+    enough (length s) (suc (length s)) s v (omega arith) (omega arith))
+
+-- a record, and those from the walk behind it on
+pub records-more : (s : List ℕ) (w : Walk) (r : List ℕ) (v : Walk) → handed s (recordAt s w) ≡ ends r v → recordsAt s w ≡ r ∷ recordsAt s v
+unfolding recordsBy
+records-more s w r v e = records-at s w ∙ ap (λ (x : Rest). recordsBy x (λ u. recordsAt s u)) e
+
+-- no record, and so none at all
+pub records-over : (s : List ℕ) (w : Walk) → handed s (recordAt s w) ≡ fails → recordsAt s w ≡ []
+unfolding recordsBy
+records-over s w e = records-at s w ∙ ap (λ (x : Rest). recordsBy x (λ u. recordsAt s u)) e
+
+-- a walk that hands out exactly these records
+pub walks-records : (s : List ℕ) (w : Walk) (rs : List (List ℕ)) → Walks s w rs → recordsAt s w ≡ rs
+walks-records s w [] h = records-over s w h
+walks-records s w (r ∷ rs) (v, e, h) = records-more s w r v e ∙ ap (λ (ts : List (List ℕ)). r ∷ ts) (walks-records s v rs h)
+
+-- ---- the record at a walk's place, by its numbers
+
+handed-nothing : (s : List ℕ) (x : Record) → measuredBy x ≡ None → handed s x ≡ fails
+unfolding measuredBy handed
+handed-nothing s (whole a m u) e = let z : _≡_ {A = ℕ} 0 1 = cc in absurd (omega arith)
+handed-nothing s (split bs u) e = let z : _≡_ {A = ℕ} 0 1 = cc in absurd (omega arith)
+handed-nothing s nothing e = refl
+
+handed-whole : (s : List ℕ) (start n : ℕ) (v : Walk) (x : Record) → measuredBy x ≡ Whole start n v → handed s x ≡ ends (part start n s) v
+unfolding measuredBy handed
+handed-whole s start n v (whole a m u) e =
+    let p : a ≡ start = cc in
+    let q : m ≡ n = cc in
+    let w : u ≡ v = cc in
+    λ i. ends (part (p i) (q i) s) (w i)
+handed-whole s start n v (split bs u) e = let z : _≡_ {A = ℕ} 0 1 = cc in absurd (omega arith)
+handed-whole s start n v nothing e = let z : _≡_ {A = ℕ} 0 1 = cc in absurd (omega arith)
+
+handed-split : (s : List ℕ) (n : ℕ) (v : Walk) (x : Record) → measuredBy x ≡ Split n v → (handed s x ≡ ends (recordBytes x) v) × (length (recordBytes x) ≡ n)
+unfolding measuredBy handed recordBytes
+handed-split s n v (whole a m u) e = let z : _≡_ {A = ℕ} 0 1 = cc in absurd (omega arith)
+handed-split s n v (split bs u) e =
+    let l : length bs ≡ n = cc in
+    let w : u ≡ v = cc in
+    (ap (ends bs) w, l)
+handed-split s n v nothing e = let z : _≡_ {A = ℕ} 0 1 = cc in absurd (omega arith)
+
+-- by what `measure` says of it
+pub measured-nothing : (s : List ℕ) (w : Walk) (m : Measured) → m ≡ measuredBy (recordAt s w) → m ≡ None → recordsAt s w ≡ []
+measured-nothing s w m e q = records-over s w (handed-nothing s (recordAt s w) (sym e ∙ q))
+
+pub measured-whole : (s : List ℕ) (w : Walk) (start n : ℕ) (v : Walk) (m : Measured) → m ≡ measuredBy (recordAt s w) → m ≡ Whole start n v
+    → recordsAt s w ≡ part start n s ∷ recordsAt s v
+measured-whole s w start n v m e q = records-more s w (part start n s) v (handed-whole s start n v (recordAt s w) (sym e ∙ q))
+
+pub measured-split : (s : List ℕ) (w : Walk) (n : ℕ) (v : Walk) (m : Measured) → m ≡ measuredBy (recordAt s w) → m ≡ Split n v
+    → recordsAt s w ≡ recordBytes (recordAt s w) ∷ recordsAt s v
+measured-split s w n v m e q = records-more s w (recordBytes (recordAt s w)) v (handed-split s n v (recordAt s w) (sym e ∙ q) .0)
+
+pub split-long : (s : List ℕ) (w : Walk) (n : ℕ) (v : Walk) (m : Measured) → m ≡ measuredBy (recordAt s w) → m ≡ Split n v → length (recordBytes (recordAt s w)) ≡ n
+split-long s w n v m e q = handed-split s n v (recordAt s w) (sym e ∙ q) .1
+
+-- a whole record lies in the image
+abbrev If-whole : (ℕ → ℕ → Type 0) → Measured → Type 0
+If-whole P (Whole start n v) = P start n
+If-whole P (Split n v) = zero ≡ zero
+If-whole P None = zero ≡ zero
+
+abbrev Within : List ℕ → Record → Type 0
+Within s x = If-whole (λ start n. start + n ≤ length s) (measuredBy x)
+
+split-within : (s bs : List ℕ) (x : Rest) → Within s (splitBy bs x)
+unfolding splitBy measuredBy
+split-within s bs (ends cs v) = refl
+split-within s bs fails = refl
+
+begun-within : (s : List ℕ) (w : Walk) (t : Taken) → Inside s w → unitFrom s w ≡ t → Within s (begunBy s (w .size) t)
+unfolding begunBy measuredBy
+begun-within s w (One i start n v) h e =
+    if-case (Within s) (leb n (w .size)) _ nothing
+    (λ _. if-case (Within s) (eqb i 0) (whole start n v) _ (λ _. from-behind s w i start n v h e .within)
+    (λ _. if-case (Within s) (eqb i 1) (splitBy (part start n s) (restAt s (w .size - n) v)) nothing
+    (λ _. split-within s (part start n s) (restAt s (w .size - n) v)) (λ _. refl)))
+    (λ _. refl)
+begun-within s w Nothing h e = refl
+
+record-within : (s : List ℕ) (w : Walk) → Within s (recordAt s w)
+unfolding recordAt measuredBy
+record-within s w =
+    if-case (Within s) (eqb (w .size) 0) nothing _ (λ _. refl)
+    (λ _. if-case (Within s) (isInside s w) (begunBy s (w .size) (unitFrom s w)) nothing
+    (λ a. begun-within s w (unitFrom s w) (inside-true s w true (sym a) refl) refl) (λ _. refl))
+
+pub whole-within : (s : List ℕ) (w : Walk) (start n : ℕ) (v : Walk) (m : Measured) → m ≡ measuredBy (recordAt s w) → m ≡ Whole start n v → start + n ≤ length s
+whole-within s w start n v m e q = subst (If-whole (λ a k. a + k ≤ length s)) (sym e ∙ q) (record-within s w)
+
+-- ---- a split record, segment by segment
+
+first-is : (s : List ℕ) (w : Walk) (i start n : ℕ) (v : Walk) → firstSegment s w ≡ One i start n v → unitFrom s w ≡ One i start n v
+unfolding firstSegment
+first-is s w i start n v =
+    if-case (λ (t : Taken). t ≡ One i start n v → unitFrom s w ≡ One i start n v) (isInside s w) (unitFrom s w) Nothing (λ _ e. e)
+    (λ _ e. let z : _≡_ {A = ℕ} 0 1 = cc in absurd (omega arith))
+
+next-is : (s : List ℕ) (w : Walk) (i start n : ℕ) (v : Walk) → nextSegment s w ≡ One i start n v → unitNext s w ≡ One i start n v
+unfolding nextSegment
+next-is s w i start n v =
+    if-case (λ (t : Taken). t ≡ One i start n v → unitNext s w ≡ One i start n v) (isInside s w) (unitNext s w) Nothing (λ _ e. e)
+    (λ _ e. let z : _≡_ {A = ℕ} 0 1 = cc in absurd (omega arith))
+
+-- the first segment of a split record, and the rest behind it
+pub first-split : (s : List ℕ) (w : Walk) (k : ℕ) (u : Walk) (m : Measured) (i start n : ℕ) (v : Walk) (t : Taken) → m ≡ measuredBy (recordAt s w) → m ≡ Split k u
+    → t ≡ firstSegment s w → t ≡ One i start n v → Splitting s w start n v
+first-split s w k u m i start n v t e q f h =
+    splitting s w k i start n v (unitFrom s w) (split-stands s w k u m k e q (omega arith)) refl (first-is s w i start n v (sym f ∙ h))
+
+-- a further segment, where a record goes on behind w and ends
+pub next-going : (s : List ℕ) (w : Walk) (i start n : ℕ) (v : Walk) (t : Taken) → Inside s w → isEnded (restAt s (w .size) w) ≡ true → t ≡ nextSegment s w
+    → t ≡ One i start n v → Going s w i start n v
+next-going s w i start n v t h e f q =
+    going s w 0 (length (bytesBehind s w)) i start n v (unitNext s w) (record { inside = h; ended = e; fits = omega arith }) refl
+    (next-is s w i start n v (sym f ∙ q))
+
+-- there is such a segment
+pub first-some : (s : List ℕ) (w : Walk) (k : ℕ) (u : Walk) (m : Measured) (t : Taken) → m ≡ measuredBy (recordAt s w) → m ≡ Split k u → t ≡ firstSegment s w
+    → t ≡ Nothing → ⊥
+unfolding firstSegment
+first-some s w k u m t e q f h =
+    let c = split-stands s w k u m k e q (omega arith) in
+    split-not-nothing s w k (unitFrom s w) c refl (sym (if-true _ _ _ (inside-is s w (c .inside))) ∙ sym f ∙ h)
+
+pub next-some : (s : List ℕ) (w : Walk) (t : Taken) → Inside s w → isEnded (restAt s (w .size) w) ≡ true → t ≡ nextSegment s w → t ≡ Nothing → ⊥
+unfolding nextSegment
+next-some s w t h e f q =
+    not-nothing s w 0 (length (bytesBehind s w)) (unitNext s w) (record { inside = h; ended = e; fits = omega arith }) refl
+    (sym (if-true _ _ _ (inside-is s w h)) ∙ sym f ∙ q)
+
+-- ---- records counted: what was counted and what is left make the whole
+
+pub record Counted (s : List ℕ) (from : Walk) (records bytes : ℕ) (w : Walk) : Type 0 where
+  pub some : records ≤ w .at
+  pub most : bytes ≤ w .at
+  pub number : records + length (recordsAt s w) ≡ length (recordsAt s from)
+  pub total : bytes + sum (map length (recordsAt s w)) ≡ sum (map length (recordsAt s from))
+
+pub counted-none : (s : List ℕ) (from : Walk) → Counted s from 0 0 from
+counted-none s from = record { some = omega arith; most = omega arith; number = omega arith; total = omega arith }
+
+counted-more : (s : List ℕ) (from : Walk) (records bytes : ℕ) (w : Walk) (r : List ℕ) (n : ℕ) (v : Walk) → Counted s from records bytes w
+    → handed s (recordAt s w) ≡ ends r v → length r ≡ n → Counted s from (records + 1) (bytes + n) v
+unfolding sum
+counted-more s from records bytes w r n v c e l =
+    let p = handed-passes s w r v e in
+    let rs = records-more s w r v e in
+    record {
+      some = omega (arith, c .some, p .onward);
+      most = omega (arith, c .most, p .bytes, l);
+      number = omega (arith, c .number, ap length rs);
+      total = omega (arith, c .total, ap (λ (ts : List (List ℕ)). sum (map length ts)) rs, l);
+    }
+
+pub counted-whole : (s : List ℕ) (from : Walk) (records bytes : ℕ) (w : Walk) (start n : ℕ) (v : Walk) (m : Measured) → Counted s from records bytes w
+    → m ≡ measuredBy (recordAt s w) → m ≡ Whole start n v → Counted s from (records + 1) (bytes + n) v
+counted-whole s from records bytes w start n v m c e q =
+    counted-more s from records bytes w (part start n s) n v c (handed-whole s start n v (recordAt s w) (sym e ∙ q)) (length-part start n s (whole-within s w start n v m e q))
+
+pub counted-split : (s : List ℕ) (from : Walk) (records bytes : ℕ) (w : Walk) (n : ℕ) (v : Walk) (m : Measured) → Counted s from records bytes w
+    → m ≡ measuredBy (recordAt s w) → m ≡ Split n v → Counted s from (records + 1) (bytes + n) v
+counted-split s from records bytes w n v m c e q =
+    let both = handed-split s n v (recordAt s w) (sym e ∙ q) in
+    counted-more s from records bytes w (recordBytes (recordAt s w)) n v c (both .0) (both .1)
+
+pub counted-all : (s : List ℕ) (from : Walk) (records bytes : ℕ) (w : Walk) (m : Measured) → Counted s from records bytes w → m ≡ measuredBy (recordAt s w) → m ≡ None
+    → _≡_ {A = Facts} (record { records = records; bytes = bytes }) (factsOf (recordsAt s from))
+unfolding factsOf sum
+counted-all s from records bytes w m c e q =
+    let none = measured-nothing s w m e q in
+    let a : records ≡ length (recordsAt s from) = omega (arith, c .number, ap length none) in
+    let b : bytes ≡ sum (map length (recordsAt s from)) = omega (arith, c .total, ap (λ (ts : List (List ℕ)). sum (map length ts)) none) in
+    λ i. record { records = a i; bytes = b i }
+
+-- the numbers fit, and the walk goes on
+record Further (s : List ℕ) (records bytes : ℕ) (w : Walk) (n : ℕ) (v : Walk) : Type 0 where
+  number : records + 1 ≤ length s
+  total : bytes + n ≤ length s
+  falls : length s - v .at < length s - w .at
+
+further : (s : List ℕ) (from : Walk) (records bytes : ℕ) (w : Walk) (r : List ℕ) (n : ℕ) (v : Walk) → Counted s from records bytes w
+    → handed s (recordAt s w) ≡ ends r v → length r ≡ n → Further s records bytes w n v
+further s from records bytes w r n v c e l =
+    let p = handed-passes s w r v e in
+    let k = counted-more s from records bytes w r n v c e l in
+    record {
+      number = omega (arith, k .some, p .inside);
+      total = omega (arith, k .most, p .inside);
+      falls = omega (arith, p .onward, p .inside);
+    }
+
+further-whole : (s : List ℕ) (from : Walk) (records bytes : ℕ) (w : Walk) (start n : ℕ) (v : Walk) (m : Measured) → Counted s from records bytes w
+    → m ≡ measuredBy (recordAt s w) → m ≡ Whole start n v → Further s records bytes w n v
+further-whole s from records bytes w start n v m c e q =
+    further s from records bytes w (part start n s) n v c (handed-whole s start n v (recordAt s w) (sym e ∙ q)) (length-part start n s (whole-within s w start n v m e q))
+
+further-split : (s : List ℕ) (from : Walk) (records bytes : ℕ) (w : Walk) (n : ℕ) (v : Walk) (m : Measured) → Counted s from records bytes w
+    → m ≡ measuredBy (recordAt s w) → m ≡ Split n v → Further s records bytes w n v
+further-split s from records bytes w n v m c e q =
+    let both = handed-split s n v (recordAt s w) (sym e ∙ q) in
+    further s from records bytes w (recordBytes (recordAt s w)) n v c (both .0) (both .1)
+
+pub whole-number : (s : List ℕ) (from : Walk) (records bytes : ℕ) (w : Walk) (start n : ℕ) (v : Walk) (m : Measured) → Counted s from records bytes w
+    → m ≡ measuredBy (recordAt s w) → m ≡ Whole start n v → length s < 18446744073709551616 → Fits w64 (records + 1)
+whole-number s from records bytes w start n v m c e q h = omega (arith, further-whole s from records bytes w start n v m c e q .number)
+
+pub split-number : (s : List ℕ) (from : Walk) (records bytes : ℕ) (w : Walk) (n : ℕ) (v : Walk) (m : Measured) → Counted s from records bytes w
+    → m ≡ measuredBy (recordAt s w) → m ≡ Split n v → length s < 18446744073709551616 → Fits w64 (records + 1)
+split-number s from records bytes w n v m c e q h = omega (arith, further-split s from records bytes w n v m c e q .number)
+
+pub whole-total : (s : List ℕ) (from : Walk) (records bytes : ℕ) (w : Walk) (start n : ℕ) (v : Walk) (m : Measured) → Counted s from records bytes w
+    → m ≡ measuredBy (recordAt s w) → m ≡ Whole start n v → length s < 18446744073709551616 → Fits w64 (bytes + n)
+whole-total s from records bytes w start n v m c e q h = omega (arith, further-whole s from records bytes w start n v m c e q .total)
+
+pub split-total : (s : List ℕ) (from : Walk) (records bytes : ℕ) (w : Walk) (n : ℕ) (v : Walk) (m : Measured) → Counted s from records bytes w
+    → m ≡ measuredBy (recordAt s w) → m ≡ Split n v → length s < 18446744073709551616 → Fits w64 (bytes + n)
+split-total s from records bytes w n v m c e q h = omega (arith, further-split s from records bytes w n v m c e q .total)
+
+pub whole-falls : (s : List ℕ) (from : Walk) (records bytes : ℕ) (w : Walk) (start n : ℕ) (v : Walk) (m : Measured) → Counted s from records bytes w
+    → m ≡ measuredBy (recordAt s w) → m ≡ Whole start n v → length s - v .at < length s - w .at
+whole-falls s from records bytes w start n v m c e q = further-whole s from records bytes w start n v m c e q .falls
+
+pub split-falls : (s : List ℕ) (from : Walk) (records bytes : ℕ) (w : Walk) (n : ℕ) (v : Walk) (m : Measured) → Counted s from records bytes w
+    → m ≡ measuredBy (recordAt s w) → m ≡ Split n v → length s - v .at < length s - w .at
+split-falls s from records bytes w n v m c e q = further-split s from records bytes w n v m c e q .falls
+
+pub ruleset counts =
+    (counted-none, counted-whole, counted-split, counted-all, whole-number, split-number, whole-total, split-total, whole-falls, split-falls, needs)
