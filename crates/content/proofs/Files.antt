@@ -1,21 +1,22 @@
--- Laws of the search for the beginning of a file. Assumes nothing.
+-- Laws of the search for the next file, and of going from file to file. Assumes nothing.
 use mathlib.Core.Path.{_≡_, refl, sym, ap, ap₂, _∙_}
 use mathlib.Core.Bool.{Bool, true, false}
 use mathlib.Core.List.{List, [], _∷_}
-use Prim.Native.Nat.{ℕ, _+_, _-_, _≤_, _<_}
+use Prim.Native.Nat.{ℕ, zero, suc, _+_, _-_, _≤_, _<_}
 use native.Mathlib.Omega.{arith}
 use native.Mathlib.Decide.{decLt}
 use mir.Val.{Fits}
 use mir.Syntax.{w64}
 use borrow.Author.Needs.{needs}
+use borrow.Author.Tests.{eq-eqb, ne-eqb}
 use lib.ListN.{length, drop}
-use Rattle.base.specs.If.{ifB, if-true, if-false, if-case}
+use Rattle.base.specs.If.{ifB, if-true, if-false}
 use Rattle.base.specs.Part.{part}
 use Rattle.base.proofs.Parts.{length-part}
 use Rattle.charset.specs.declared.Number.{Number}
 use Rattle.charset.specs.declared.Number.the-variants.{Value, Wrong as NoNumber}
-use Rattle.image.specs.Item.{Item, mark, broken, shape, decode}
-use Rattle.image.specs.Framing.{mostImage, items}
+use Rattle.image.specs.Item.{Item, broken, shape, decode}
+use Rattle.image.specs.Framing.{items}
 use Rattle.image.specs.declared.Shape.{Shape}
 use Rattle.image.specs.declared.Shape.the-variants.{Block, Mark, ReelEnd, Broken}
 use Rattle.image.proofs.Items.{block-within, mark-within, reel-end-within, decode-block, decode-mark, decode-reel-end, decode-broken, decode-past}
@@ -23,18 +24,19 @@ use Rattle.order.specs.Kind.{other, isKind}
 use Rattle.order.specs.Due.{dueAfter}
 use Rattle.order.specs.declared.Kind.{Kind}
 use Rattle.order.specs.declared.Phase.{Phase}
-use Rattle.order.specs.declared.Phase.the-variants.{Reel}
+use Rattle.order.specs.declared.Phase.the-variants.{Reel, Header}
 use Rattle.order.specs.declared.Due.{Due}
 use Rattle.order.specs.declared.Due.the-variants.{To, Wrong}
 use Rattle.volume.specs.Fault.{valueOf}
 use Rattle.volume.specs.Step.{kindIn, bytesIn}
 use Rattle.content.specs.Section.{placeBehind, seenAt}
-use Rattle.content.specs.File.{markFrom, walkFrom, beginsFile, goesOnBehind, filesBehind, onward, isStart, fileFrom}
+use Rattle.content.specs.File.{markFrom, walkFrom, beginsFile, goesOnBehind, firstBehind, onward, headerFrom, firstFile, nextFile, fromFile, filesOn, fileNumbered}
 use Rattle.content.specs.declared.Walk.{Walk}
 use Rattle.content.specs.declared.section.Seen.{Seen}
 use Rattle.content.specs.declared.section.Seen.the-variants.{Item as Of, Nothing}
-use Rattle.content.specs.declared.unit.Place.{Place}
-use Rattle.content.specs.declared.unit.Place.the-variants.{At, Nowhere}
+use Rattle.content.specs.declared.FileAt.{FileAt}
+use Rattle.content.specs.declared.NextFile.{NextFile}
+use Rattle.content.specs.declared.NextFile.the-variants.{At, Nowhere}
 use Rattle.content.proofs.Sections.{start-fits, end-fits, sees, unseen, item-within, item-start, item-end, item-falls}
 
 pub value-some : (x : Number) (n : ℕ) → x ≡ Value n → n ≡ valueOf x
@@ -96,90 +98,176 @@ block-falls s at n p e q = omega (arith, block-within s at n p e q)
 pub ruleset markings =
     (marking-none, marking-block, marking-mark, marking-reel-end, marking-broken, mark-fits, start-fits, end-fits, block-falls, needs)
 
--- ---- up to the file
+-- ---- up to a file
 
--- what is left from a place answers as the whole; each file begun before it took an item
-pub record Seeking (s : List ℕ) (n files : ℕ) (goesOn : Bool) (p : Phase) (at : ℕ) : Type 0 where
-  pub short : length s ≤ mostImage
+-- what is left from a place answers as the whole
+pub record Seeking (s : List ℕ) (due : Phase) (header from : ℕ) (goesOn : Bool) (p : Phase) (first at : ℕ) : Type 0 where
   pub room : length s < 18446744073709551616
-  pub few : files ≤ at
-  pub same : fileFrom n files goesOn p at (decode (drop at s)) ≡ fileFrom n 0 false Reel 5 (items s)
+  pub same : headerFrom goesOn p first at (decode (drop at s)) ≡ headerFrom false due header from (decode (drop from s))
 
-pub seeking-none : (s : List ℕ) (n : ℕ) → length s ≤ mostImage → Seeking s n 0 false Reel 5
-unfolding items
-seeking-none s n h = record { short = h; room = omega arith; few = omega arith; same = refl }
+pub seeking-none : (s : List ℕ) (due : Phase) (header from : ℕ) → length s < 18446744073709551616 → Seeking s due header from false due header from
+seeking-none s due header from h = record { room = h; same = refl }
 
--- an item, as the code sees it
-file-item : (s : List ℕ) (n files : ℕ) (g : Bool) (p : Phase) (at len : ℕ) (k : Kind) (x : Seen) → x ≡ seenAt s p at → x ≡ Of k len
-    → fileFrom n files g p at (decode (drop at s))
-    ≡ ifB (isStart n files g k) (At (walkFrom (part (at + 3) len s) (markFrom (at + 3 + len) (decode (drop (at + 3 + len) s)))))
-    (onward (dueAfter p k) (λ q. fileFrom n (filesBehind files g k) (goesOnBehind g k) q (at + 3 + len) (decode (drop (at + 3 + len) s))))
-unfolding fileFrom placeBehind
-file-item s n files g p at len k x e q =
+-- an item of kind k
+pub header-item : (g : Bool) (p : Phase) (first at : ℕ) (x : Item) (xs : List Item) (k : Kind) → kindIn p x ≡ k
+    → headerFrom g p first at (x ∷ xs)
+    ≡ ifB (beginsFile g k) (At (record { first = first; second = at + 3; walk = walkFrom (bytesIn x) (markFrom (placeBehind at x) xs) }))
+    (onward (dueAfter p k) (λ q. headerFrom (goesOnBehind g k) q (firstBehind first (at + 3) k) (placeBehind at x) xs))
+unfolding headerFrom
+header-item g p first at x xs k e =
+    ap (λ (j : Kind).
+    ifB (beginsFile g j) (At (record { first = first; second = at + 3; walk = walkFrom (bytesIn x) (markFrom (placeBehind at x) xs) }))
+    (onward (dueAfter p j) (λ q. headerFrom (goesOnBehind g j) q (firstBehind first (at + 3) j) (placeBehind at x) xs))) e
+
+-- the same, as the code sees it
+header-seen : (s : List ℕ) (g : Bool) (p : Phase) (first at len : ℕ) (k : Kind) (x : Seen) → x ≡ seenAt s p at → x ≡ Of k len
+    → headerFrom g p first at (decode (drop at s))
+    ≡ ifB (beginsFile g k)
+    (At (record { first = first; second = at + 3; walk = walkFrom (part (at + 3) len s) (markFrom (at + 3 + len) (decode (drop (at + 3 + len) s))) }))
+    (onward (dueAfter p k) (λ q. headerFrom (goesOnBehind g k) q (firstBehind first (at + 3) k) (at + 3 + len) (decode (drop (at + 3 + len) s))))
+unfolding placeBehind
+header-seen s g p first at len k x e q =
     let c = sees s p at len k x e q in
-    ap (fileFrom n files g p at) (c .here)
-    ∙ ap (λ (l : ℕ). item (kindIn p (c .item)) (bytesIn (c .item)) l) (c .long)
-    ∙ ap₂ (λ (j : Kind) (bs : List ℕ). item j bs len) (c .kind) (c .bytes)
-  where
-    item : Kind → List ℕ → ℕ → Place
-    item j bs l =
-        ifB (isStart n files g j) (At (walkFrom bs (markFrom (at + 3 + l) (decode (drop (at + 3 + len) s)))))
-        (onward (dueAfter p j) (λ r. fileFrom n (filesBehind files g j) (goesOnBehind g j) r (at + 3 + l) (decode (drop (at + 3 + len) s))))
+    ap (headerFrom g p first at) (c .here)
+    ∙ header-item g p first at (c .item) (decode (drop (at + 3 + len) s)) k (c .kind)
+    ∙ ap₂ (λ (bs : List ℕ) (l : ℕ).
+    ifB (beginsFile g k) (At (record { first = first; second = at + 3; walk = walkFrom bs (markFrom (at + 3 + l) (decode (drop (at + 3 + len) s))) }))
+    (onward (dueAfter p k) (λ r. headerFrom (goesOnBehind g k) r (firstBehind first (at + 3) k) (at + 3 + l) (decode (drop (at + 3 + len) s)))))
+    (c .bytes) (c .long)
 
-pub seeking-found : (s : List ℕ) (n files : ℕ) (g : Bool) (p : Phase) (at len : ℕ) (k : Kind) (x : Seen) (b : Bool) (w : Walk) → Seeking s n files g p at
-    → x ≡ seenAt s p at → x ≡ Of k len → b ≡ isStart n files g k → b ≡ true
-    → w ≡ walkFrom (part (at + 3) len s) (markFrom (at + 3 + len) (decode (drop (at + 3 + len) s))) → At w ≡ fileFrom n 0 false Reel 5 (items s)
-seeking-found s n files g p at len k x b w c e q h t m =
-    ap At m ∙ sym (file-item s n files g p at len k x e q ∙ if-true _ _ _ (sym h ∙ t)) ∙ c .same
+pub seeking-found : (s : List ℕ) (due : Phase) (header from : ℕ) (g : Bool) (p : Phase) (first at len : ℕ) (k : Kind) (x : Seen) (b : Bool) (w : Walk)
+    → Seeking s due header from g p first at → x ≡ seenAt s p at → x ≡ Of k len → b ≡ beginsFile g k → b ≡ true
+    → w ≡ walkFrom (part (at + 3) len s) (markFrom (at + 3 + len) (decode (drop (at + 3 + len) s)))
+    → At (record { first = first; second = at + 3; walk = w }) ≡ headerFrom false due header from (decode (drop from s))
+seeking-found s due header from g p first at len k x b w c e q h t m =
+    ap (λ (v : Walk). At (record { first = first; second = at + 3; walk = v })) m
+    ∙ sym (header-seen s g p first at len k x e q ∙ if-true _ _ _ (sym h ∙ t)) ∙ c .same
 
-pub seeking-wrong : (s : List ℕ) (n files : ℕ) (g : Bool) (p : Phase) (at len : ℕ) (k : Kind) (x : Seen) (b : Bool) (d : Due) → Seeking s n files g p at
-    → x ≡ seenAt s p at → x ≡ Of k len → b ≡ isStart n files g k → b ≡ false → d ≡ dueAfter p k → d ≡ Wrong → Nowhere ≡ fileFrom n 0 false Reel 5 (items s)
+-- an item that begins no file goes by what is due
+header-due : (s : List ℕ) (due : Phase) (header from : ℕ) (g : Bool) (p : Phase) (first at len : ℕ) (k : Kind) (x : Seen) (b : Bool) (d : Due)
+    → Seeking s due header from g p first at → x ≡ seenAt s p at → x ≡ Of k len → b ≡ beginsFile g k → b ≡ false → d ≡ dueAfter p k
+    → onward d (λ q. headerFrom (goesOnBehind g k) q (firstBehind first (at + 3) k) (at + 3 + len) (decode (drop (at + 3 + len) s)))
+    ≡ headerFrom false due header from (decode (drop from s))
+header-due s due header from g p first at len k x b d c e q h t u =
+    ap (λ (y : Due). onward y (λ r. headerFrom (goesOnBehind g k) r (firstBehind first (at + 3) k) (at + 3 + len) (decode (drop (at + 3 + len) s)))) u
+    ∙ sym (header-seen s g p first at len k x e q ∙ if-false _ _ _ (sym h ∙ t)) ∙ c .same
+
+pub seeking-wrong : (s : List ℕ) (due : Phase) (header from : ℕ) (g : Bool) (p : Phase) (first at len : ℕ) (k : Kind) (x : Seen) (b : Bool) (d : Due)
+    → Seeking s due header from g p first at → x ≡ seenAt s p at → x ≡ Of k len → b ≡ beginsFile g k → b ≡ false → d ≡ dueAfter p k → d ≡ Wrong
+    → Nowhere ≡ headerFrom false due header from (decode (drop from s))
 unfolding onward
-seeking-wrong s n files g p at len k x b d c e q h t u w =
-    ap (λ (y : Due). onward y (λ r. fileFrom n (filesBehind files g k) (goesOnBehind g k) r (at + 3 + len) (decode (drop (at + 3 + len) s)))) (sym w ∙ u)
-    ∙ sym (file-item s n files g p at len k x e q ∙ if-false _ _ _ (sym h ∙ t)) ∙ c .same
+seeking-wrong s due header from g p first at len k x b d c e q h t u w =
+    ap (λ (y : Due). onward y (λ r. headerFrom (goesOnBehind g k) r (firstBehind first (at + 3) k) (at + 3 + len) (decode (drop (at + 3 + len) s)))) (sym w)
+    ∙ header-due s due header from g p first at len k x b d c e q h t u
 
-files-few : (files : ℕ) (g : Bool) (k : Kind) (at : ℕ) → files ≤ at → filesBehind files g k ≤ at + 1
-unfolding filesBehind
-files-few files g k at h = if-case (λ (m : ℕ). m ≤ at + 1) (beginsFile g k) (files + 1) files (λ _. omega arith) (λ _. omega arith)
-
-pub seeking-more : (s : List ℕ) (n files : ℕ) (g : Bool) (p r : Phase) (at len : ℕ) (k : Kind) (x : Seen) (b : Bool) (d : Due) (files′ : ℕ) (g′ : Bool)
-    → Seeking s n files g p at → x ≡ seenAt s p at → x ≡ Of k len → b ≡ isStart n files g k → b ≡ false → d ≡ dueAfter p k → d ≡ To r
-    → files′ ≡ filesBehind files g k → g′ ≡ goesOnBehind g k → Seeking s n files′ g′ r (at + 3 + len)
+pub seeking-more : (s : List ℕ) (due : Phase) (header from : ℕ) (g : Bool) (p r : Phase) (first at len : ℕ) (k : Kind) (x : Seen) (b : Bool) (d : Due) (g′ : Bool) (first′ : ℕ)
+    → Seeking s due header from g p first at → x ≡ seenAt s p at → x ≡ Of k len → b ≡ beginsFile g k → b ≡ false → d ≡ dueAfter p k → d ≡ To r
+    → g′ ≡ goesOnBehind g k → first′ ≡ firstBehind first (at + 3) k → Seeking s due header from g′ r first′ (at + 3 + len)
 unfolding onward
-seeking-more s n files g p r at len k x b d files′ g′ c e q h t u w i j =
-    let few = files-few files g k at (c .few) in
+seeking-more s due header from g p r first at len k x b d g′ first′ c e q h t u w i j =
     record {
-      short = c .short;
       room = c .room;
-      few = omega arith;
-      same = ap₂ (λ (m : ℕ) (y : Bool). fileFrom n m y r (at + 3 + len) (decode (drop (at + 3 + len) s))) i j
-          ∙ ap (λ (y : Due). onward y (λ r. fileFrom n (filesBehind files g k) (goesOnBehind g k) r (at + 3 + len) (decode (drop (at + 3 + len) s)))) (sym w ∙ u)
-          ∙ sym (file-item s n files g p at len k x e q ∙ if-false _ _ _ (sym h ∙ t)) ∙ c .same;
+      same = ap₂ (λ (y : Bool) (m : ℕ). headerFrom y r m (at + 3 + len) (decode (drop (at + 3 + len) s))) i j
+          ∙ ap (λ (y : Due). onward y (λ r. headerFrom (goesOnBehind g k) r (firstBehind first (at + 3) k) (at + 3 + len) (decode (drop (at + 3 + len) s)))) (sym w)
+          ∙ header-due s due header from g p first at len k x b d c e q h t u;
     }
 
-file-none : (n files : ℕ) (g : Bool) (p : Phase) (at : ℕ) → fileFrom n files g p at [] ≡ Nowhere
-unfolding fileFrom
-file-none n files g p at = refl
+header-none : (g : Bool) (p : Phase) (first at : ℕ) → headerFrom g p first at [] ≡ Nowhere
+unfolding headerFrom
+header-none g p first at = refl
 
 onward-nowhere : (d : Due) → onward d (λ q. Nowhere) ≡ Nowhere
 unfolding onward
 onward-nowhere (To q) = refl
 onward-nowhere Wrong = refl
 
-file-broken : (n files : ℕ) (g : Bool) (p : Phase) (at : ℕ) → fileFrom n files g p at (broken ∷ []) ≡ Nowhere
-unfolding fileFrom isStart beginsFile kindIn isKind ifB
-file-broken n files g p at = onward-nowhere (dueAfter p other)
+header-broken : (g : Bool) (p : Phase) (first at : ℕ) → headerFrom g p first at (broken ∷ []) ≡ Nowhere
+unfolding headerFrom beginsFile kindIn isKind ifB
+header-broken g p first at = onward-nowhere (dueAfter p other)
 
-pub seeking-nothing : (s : List ℕ) (n files : ℕ) (g : Bool) (p : Phase) (at : ℕ) (x : Seen) → Seeking s n files g p at → x ≡ seenAt s p at → x ≡ Nothing
-    → Nowhere ≡ fileFrom n 0 false Reel 5 (items s)
-seeking-nothing s n files g p at x c e q =
-    sym (unseen s p at x e q (λ (xs : List Item). fileFrom n files g p at xs ≡ Nowhere) (file-none n files g p at) (file-broken n files g p at)) ∙ c .same
+pub seeking-nothing : (s : List ℕ) (due : Phase) (header from : ℕ) (g : Bool) (p : Phase) (first at : ℕ) (x : Seen) → Seeking s due header from g p first at
+    → x ≡ seenAt s p at → x ≡ Nothing → Nowhere ≡ headerFrom false due header from (decode (drop from s))
+seeking-nothing s due header from g p first at x c e q =
+    sym (unseen s p at x e q (λ (xs : List Item). headerFrom g p first at xs ≡ Nowhere) (header-none g p first at) (header-broken g p first at)) ∙ c .same
 
--- numbers
-pub few-files : (s : List ℕ) (n files : ℕ) (g : Bool) (p : Phase) (at len : ℕ) (k : Kind) (x : Seen) → Seeking s n files g p at → x ≡ seenAt s p at → x ≡ Of k len
-    → files < 4294967296
-few-files s n files g p at len k x c e q = omega (arith, item-within s p at len k x e q, c .few, c .short)
+pub ruleset seekings = (seeking-none, seeking-found, seeking-wrong, seeking-more, seeking-nothing, item-start, item-end, item-falls, item-within, needs)
 
-pub ruleset seekings =
-    (seeking-none, seeking-found, seeking-wrong, seeking-more, seeking-nothing, few-files, item-start, item-end, item-falls, item-within, needs)
+-- ---- from file to file
+
+pub first-file : (s : List ℕ) (x : NextFile) → x ≡ headerFrom false Reel (length s) 5 (decode (drop 5 s)) → x ≡ firstFile s
+unfolding firstFile items
+first-file s x e = e
+
+-- nothing stands behind a label that runs past the image
+next-past : (s : List ℕ) (f : FileAt) → length s ≤ f .second + 80 → Nowhere ≡ nextFile s f
+unfolding nextFile
+next-past s f h =
+    sym (ap (headerFrom false (Header 2) (f .first) (f .second + 80)) (decode-past s (f .second + 80) h) ∙ header-none false (Header 2) (f .first) (f .second + 80))
+
+pub next-outside : (s : List ℕ) (f : FileAt) → length s < f .second → Nowhere ≡ nextFile s f
+next-outside s f h = next-past s f (omega arith)
+
+pub next-cut : (s : List ℕ) (f : FileAt) → f .second ≤ length s → length s - f .second < 80 → Nowhere ≡ nextFile s f
+next-cut s f h k = next-past s f (omega arith)
+
+pub next-file : (s : List ℕ) (f : FileAt) (x : NextFile)
+    → x ≡ headerFrom false (Header 2) (f .first) (f .second + 80) (decode (drop (f .second + 80) s)) → x ≡ nextFile s f
+unfolding nextFile
+next-file s f x e = e
+
+pub behind-fits : (s : List ℕ) (f : FileAt) → length s < 18446744073709551616 → f .second ≤ length s → 80 ≤ length s - f .second → Fits w64 (f .second + 80)
+behind-fits s f h a b = record { fits = omega arith }
+
+pub ruleset follows = (first-file, next-outside, next-cut, next-file, behind-fits, needs)
+
+-- ---- files by their numbers
+
+pub record Going (s : List ℕ) (from : FileAt) (files left : ℕ) (f : FileAt) : Type 0 where
+  pub same : filesOn s left f ≡ filesOn s files from
+
+pub going-none : (s : List ℕ) (from : FileAt) (files : ℕ) → Going s from files files from
+going-none s from files = record { same = refl }
+
+going-one : (s : List ℕ) (left : ℕ) (f : FileAt) (x : NextFile) → 0 < left → x ≡ nextFile s f → filesOn s left f ≡ fromFile x (λ g. filesOn s (left - 1) g)
+unfolding filesOn
+going-one s zero f x h e = absurd (omega arith)
+going-one s (suc k) f x h e =
+    let l : k ≡ suc k - 1 = omega arith in
+    ap₂ (λ (y : NextFile) (j : ℕ). fromFile y (λ g. filesOn s j g)) (sym e) l
+
+pub going-more : (s : List ℕ) (from : FileAt) (files left : ℕ) (f g : FileAt) (x : NextFile) → Going s from files left f → 0 < left → x ≡ nextFile s f → x ≡ At g
+    → Going s from files (left - 1) g
+unfolding fromFile
+going-more s from files left f g x c h e q =
+    record { same = sym (going-one s left f x h e ∙ ap (λ (y : NextFile). fromFile y (λ g. filesOn s (left - 1) g)) q) ∙ c .same }
+
+pub going-nowhere : (s : List ℕ) (from : FileAt) (files left : ℕ) (f : FileAt) (x : NextFile) → Going s from files left f → 0 < left → x ≡ nextFile s f → x ≡ Nowhere
+    → Nowhere ≡ filesOn s files from
+unfolding fromFile
+going-nowhere s from files left f x c h e q =
+    sym (going-one s left f x h e ∙ ap (λ (y : NextFile). fromFile y (λ g. filesOn s (left - 1) g)) q) ∙ c .same
+
+pub going-all : (s : List ℕ) (from : FileAt) (files left : ℕ) (f : FileAt) → Going s from files left f → left ≤ 0 → At f ≡ filesOn s files from
+unfolding filesOn
+going-all s from files zero f c h = c .same
+going-all s from files (suc k) f c h = absurd (omega arith)
+
+pub ruleset goings = (going-none, going-more, going-nowhere, going-all, needs)
+
+pub numbered-zero : (s : List ℕ) (n : ℕ) → n ≡ 0 → Nowhere ≡ fileNumbered s n
+unfolding fileNumbered
+numbered-zero s n h = sym (if-true _ _ _ (eq-eqb n 0 h))
+
+from-first : (s : List ℕ) (n : ℕ) (x : NextFile) → (n ≡ 0 → ⊥) → x ≡ firstFile s → fromFile x (λ f. filesOn s (n - 1) f) ≡ fileNumbered s n
+unfolding fileNumbered
+from-first s n x h e = ap (λ (y : NextFile). fromFile y (λ f. filesOn s (n - 1) f)) e ∙ sym (if-false _ _ _ (ne-eqb n 0 h))
+
+pub numbered-none : (s : List ℕ) (n : ℕ) (x : NextFile) → (n ≡ 0 → ⊥) → x ≡ firstFile s → x ≡ Nowhere → Nowhere ≡ fileNumbered s n
+unfolding fromFile
+numbered-none s n x h e q = ap (λ (y : NextFile). fromFile y (λ f. filesOn s (n - 1) f)) (sym q) ∙ from-first s n x h e
+
+pub numbered-on : (s : List ℕ) (n : ℕ) (x y : NextFile) (f : FileAt) → (n ≡ 0 → ⊥) → x ≡ firstFile s → x ≡ At f → y ≡ filesOn s (n - 1) f → y ≡ fileNumbered s n
+unfolding fromFile
+numbered-on s n x y f h e q m = m ∙ ap (λ (z : NextFile). fromFile z (λ f. filesOn s (n - 1) f)) (sym q) ∙ from-first s n x h e
+
+pub ruleset numbereds = (numbered-zero, numbered-none, numbered-on, needs)

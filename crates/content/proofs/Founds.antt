@@ -1,28 +1,25 @@
 -- Laws of the beginning of a walk and of the record asked by number. Assumes nothing.
 use mathlib.Core.Path.{_≡_, refl, sym, ap, _∙_}
-use mathlib.Core.Bool.{false}
 use mathlib.Core.List.{List}
 use Prim.Native.Nat.{ℕ, zero, suc, _-_, _≤_, _<_}
 use native.Mathlib.Omega.{arith}
 use borrow.Author.Needs.{needs}
 use borrow.Author.Tests.{eq-eqb, ne-eqb}
-use lib.ListN.{length}
 use Rattle.base.specs.If.{if-true, if-false}
 use Rattle.base.specs.Part.{part}
 use Rattle.base.specs.Answer.{verdict}
 use Rattle.base.specs.declared.Verdict.{Verdict}
-use Rattle.image.specs.Framing.{mostImage, items}
-use Rattle.image.proofs.Frames.{framing-zero}
-use Rattle.order.specs.declared.Phase.the-variants.{Reel}
 use Rattle.volume.specs.Run.{imageVerdict}
-use Rattle.volume.proofs.Accepted.{accepted-iff}
 use Rattle.content.specs.Walk.{Record, whole, split, nothing, recordAt, stepAt, joinAt}
 use Rattle.content.specs.Measure.{measuredBy}
-use Rattle.content.specs.File.{fileFrom, begunBy, begunAt}
+use Rattle.content.specs.File.{fileNumbered, begunBy, begunAt}
 use Rattle.content.specs.Found.{passedBy, passed, foundBy, foundIn, leftIn, foundFrom, leftFrom, foundAt, leftAt, partOf}
 use Rattle.content.specs.declared.Walk.{Walk}
 use Rattle.content.specs.declared.Step.{Step}
 use Rattle.content.specs.declared.Step.the-variants.{InImage, Joined, Refused}
+use Rattle.content.specs.declared.FileAt.{FileAt}
+use Rattle.content.specs.declared.NextFile.{NextFile}
+use Rattle.content.specs.declared.NextFile.the-variants.{At as Next, Nowhere as NoFile}
 use Rattle.content.specs.declared.Begun.{Begun}
 use Rattle.content.specs.declared.Begun.the-variants.{At, Refused as NotBegun}
 use Rattle.content.specs.declared.Found.{Found}
@@ -39,26 +36,22 @@ unfolding begunAt
 begin-refused s n v e h =
     ap NotBegun e ∙ sym (if-false _ _ _ (ne-eqb (imageVerdict s .number) 0 (λ z. h (ap (λ (x : Verdict). x .number) e ∙ z))))
 
-begun-by : (s : List ℕ) (n : ℕ) (v : Verdict) (p : Place) → v ≡ imageVerdict s → v .number ≡ 0 → p ≡ fileFrom n 0 false Reel 5 (items s) → begunBy p ≡ begunAt s n
+begun-by : (s : List ℕ) (n : ℕ) (v : Verdict) (x : NextFile) → v ≡ imageVerdict s → v .number ≡ 0 → x ≡ fileNumbered s n → begunBy x ≡ begunAt s n
 unfolding begunAt
-begun-by s n v p e h k =
+begun-by s n v x e h k =
     ap begunBy k ∙ sym (if-true _ _ _ (eq-eqb (imageVerdict s .number) 0 (ap (λ (x : Verdict). x .number) (sym e) ∙ h)))
 
-pub begin-at : (s : List ℕ) (n : ℕ) (v : Verdict) (p : Place) (w : Walk) → v ≡ imageVerdict s → v .number ≡ 0 → p ≡ fileFrom n 0 false Reel 5 (items s) → p ≡ Behind w
-    → At w ≡ begunAt s n
+pub begin-at : (s : List ℕ) (n : ℕ) (v : Verdict) (x : NextFile) (f : FileAt) → v ≡ imageVerdict s → v .number ≡ 0 → x ≡ fileNumbered s n → x ≡ Next f
+    → At (f .walk) ≡ begunAt s n
 unfolding begunBy
-begin-at s n v p w e h k q = ap begunBy (sym q) ∙ begun-by s n v p e h k
+begin-at s n v x f e h k q = ap begunBy (sym q) ∙ begun-by s n v x e h k
 
-pub begin-nowhere : (s : List ℕ) (n : ℕ) (v : Verdict) (p : Place) (a : Verdict) → v ≡ imageVerdict s → v .number ≡ 0 → p ≡ fileFrom n 0 false Reel 5 (items s)
-    → p ≡ Nowhere → a ≡ verdict 13 0 0 → NotBegun a ≡ begunAt s n
+pub begin-nowhere : (s : List ℕ) (n : ℕ) (v : Verdict) (x : NextFile) (a : Verdict) → v ≡ imageVerdict s → v .number ≡ 0 → x ≡ fileNumbered s n → x ≡ NoFile
+    → a ≡ verdict 13 0 0 → NotBegun a ≡ begunAt s n
 unfolding begunBy
-begin-nowhere s n v p a e h k q m = ap NotBegun m ∙ ap begunBy (sym q) ∙ begun-by s n v p e h k
+begin-nowhere s n v x a e h k q m = ap NotBegun m ∙ ap begunBy (sym q) ∙ begun-by s n v x e h k
 
--- an image that gets 0 is short enough
-pub accepted-short : (s : List ℕ) (v : Verdict) → v ≡ imageVerdict s → v .number ≡ 0 → length s ≤ mostImage
-accepted-short s v e h = framing-zero s (accepted-iff s .0 (ap (λ (x : Verdict). x .number) (sym e) ∙ h) .framed) .small
-
-pub ruleset begins = (begin-refused, begin-at, begin-nowhere, accepted-short, needs)
+pub ruleset begins = (begin-refused, begin-at, begin-nowhere, needs)
 
 -- ---- records passed
 

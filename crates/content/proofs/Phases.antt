@@ -1,17 +1,17 @@
 -- What follows what, as the law of the walks wants it: facts of the table of what is due, and of the kinds that a block can be. Assumes nothing.
-use mathlib.Core.Path.{_≡_, refl, sym, _∙_, subst}
+use mathlib.Core.Path.{_≡_, refl, sym, ap, _∙_, subst}
 use mathlib.Core.Bool.{Bool, true, false, not, _&&_, _||_, false≢true}
 use mathlib.Core.List.{List}
-use Prim.Native.Nat.{ℕ, _-_, _≤_}
+use Prim.Native.Nat.{ℕ, _+_, _-_, _≤_}
 use native.Mathlib.Omega.{arith}
-use borrow.Author.Tests.{leb-true}
+use borrow.Author.Tests.{leb-true, eqb-true}
 use lib.Dec.{leb, eqb}
 use lib.ListN.{length, getD}
 use Rattle.base.specs.If.{ifB, if-true, if-false, if-case, and-first, and-second}
 use Rattle.base.specs.Part.{part, same}
 use Rattle.charset.specs.declared.Number.{Number}
 use Rattle.charset.specs.declared.Number.the-variants.{Value, Wrong as NoNumber}
-use Rattle.image.specs.Item.{block, mark, reelEnd}
+use Rattle.image.specs.Item.{block}
 use Rattle.order.specs.Kind.{hdr, eof, dataBlock, tapeMark, endOfReel, isKind}
 use Rattle.order.specs.Due.{dues, dueAfter}
 use Rattle.order.specs.declared.Kind.{Kind}
@@ -100,34 +100,38 @@ data-is Accepted h = absurd (false≢true h)
 abbrev isLabel : Kind → Bool
 isLabel k = not (isKind k dataBlock) && (not (isKind k (eof 1)) && not (isKind k endOfReel))
 
--- HDR2 leads among the labels; a data block leads on to data; among the labels a mark leads to the data, and all else is a label
+-- HDR2 leads right behind it; a data block leads on to data; among the labels a mark leads to the data, and all else is a label
 abbrev Row : Phase → Kind → Phase → Type 0
 Row p k q =
-    (labels q || not (isKind k (hdr 2)) ≡ true)
+    (isKind k (hdr 2) ≡ true → q ≡ Header 2)
     × (isData q || not (isKind k dataBlock) ≡ true)
     × (not (labels p) || ifB (isKind k tapeMark) (isData q) (labels q && isLabel k) ≡ true)
 
+-- another kind
+no : {A : Type 0} → false ≡ true → A
+no h = absurd (false≢true h)
+
 rows : (p : Phase) → Each (Row p) (dues p)
 unfolding dues isKind ifB
-rows Reel = ((refl, refl, refl), tt)
-rows (Volume n) = nine (Row (Volume n)) n _ _ (refl, refl, refl) ((refl, refl, refl), ((refl, refl, refl), tt))
-rows (UserVolume n) = nine (Row (UserVolume n)) n _ _ (refl, refl, refl) ((refl, refl, refl), tt)
-rows FirstHeader = ((refl, refl, refl), tt)
-rows (Header n) = nine (Row (Header n)) n _ _ (refl, refl, refl) ((refl, refl, refl), ((refl, refl, refl), tt))
-rows (UserHeader n) = nine (Row (UserHeader n)) n _ _ (refl, refl, refl) ((refl, refl, refl), tt)
-rows Data = ((refl, refl, refl), ((refl, refl, refl), tt))
-rows Trailer = ((refl, refl, refl), ((refl, refl, refl), tt))
-rows FirstEof = ((refl, refl, refl), tt)
-rows (Eof n) = nine (Row (Eof n)) n _ _ (refl, refl, refl) ((refl, refl, refl), ((refl, refl, refl), tt))
-rows (EofUser n) = nine (Row (EofUser n)) n _ _ (refl, refl, refl) ((refl, refl, refl), tt)
-rows FirstEov = ((refl, refl, refl), tt)
-rows (Eov n) = nine (Row (Eov n)) n _ _ (refl, refl, refl) ((refl, refl, refl), ((refl, refl, refl), tt))
-rows (EovUser n) = nine (Row (EovUser n)) n _ _ (refl, refl, refl) ((refl, refl, refl), tt)
-rows FileEnd = ((refl, refl, refl), ((refl, refl, refl), tt))
-rows VolumeEnd = ((refl, refl, refl), tt)
-rows SetClosed = ((refl, refl, refl), tt)
-rows ReelClosed = ((refl, refl, refl), tt)
-rows Over = ((refl, refl, refl), tt)
+rows Reel = ((no, refl, refl), tt)
+rows (Volume n) = nine (Row (Volume n)) n _ _ (no, refl, refl) ((no, refl, refl), ((no, refl, refl), tt))
+rows (UserVolume n) = nine (Row (UserVolume n)) n _ _ (no, refl, refl) ((no, refl, refl), tt)
+rows FirstHeader = (((λ _. refl), refl, refl), tt)
+rows (Header n) = nine (Row (Header n)) n _ _ ((λ h. ap Header (eqb-true (n + 1) 2 h)), refl, refl) ((no, refl, refl), ((no, refl, refl), tt))
+rows (UserHeader n) = nine (Row (UserHeader n)) n _ _ (no, refl, refl) ((no, refl, refl), tt)
+rows Data = ((no, refl, refl), ((no, refl, refl), tt))
+rows Trailer = ((no, refl, refl), ((no, refl, refl), tt))
+rows FirstEof = ((no, refl, refl), tt)
+rows (Eof n) = nine (Row (Eof n)) n _ _ (no, refl, refl) ((no, refl, refl), ((no, refl, refl), tt))
+rows (EofUser n) = nine (Row (EofUser n)) n _ _ (no, refl, refl) ((no, refl, refl), tt)
+rows FirstEov = ((no, refl, refl), tt)
+rows (Eov n) = nine (Row (Eov n)) n _ _ (no, refl, refl) ((no, refl, refl), ((no, refl, refl), tt))
+rows (EovUser n) = nine (Row (EovUser n)) n _ _ (no, refl, refl) ((no, refl, refl), tt)
+rows FileEnd = ((no, refl, refl), ((no, refl, refl), tt))
+rows VolumeEnd = ((no, refl, refl), tt)
+rows SetClosed = ((no, refl, refl), tt)
+rows ReelClosed = ((no, refl, refl), tt)
+rows Over = ((no, refl, refl), tt)
 rows Accepted = tt
 
 row : (p : Phase) (k : Kind) (q : Phase) → dueAfter p k ≡ To q → Row p k q
@@ -147,10 +151,10 @@ not-so : (a : Bool) → not a ≡ true → a ≡ false
 not-so true h = absurd (false≢true h)
 not-so false h = refl
 
--- HDR2 leads among the labels
-pub second-labels : (p q : Phase) → dueAfter p (hdr 2) ≡ To q → labels q ≡ true
+-- behind HDR2 the phase is that of HDR2
+pub second-behind : (p q : Phase) → dueAfter p (hdr 2) ≡ To q → q ≡ Header 2
 unfolding isKind
-second-labels p q e = or-not (labels q) (isKind (hdr 2) (hdr 2)) (row p (hdr 2) q e .0) refl
+second-behind p q e = row p (hdr 2) q e .0 refl
 
 -- a data block leads on to data
 pub block-data : (p q : Phase) → dueAfter p dataBlock ≡ To q → q ≡ Data

@@ -1,13 +1,18 @@
--- The law of the walks: on an accepted image, the walk over file n hands out exactly the file's records of the meaning, in order, and then 13.
+-- The law of the files and of the walks: on an accepted image, going from file to file meets exactly the files of the meaning, in order, and the walk
+-- over each hands out exactly its records, in order, and then 13.
 -- What is told of all that is still handed out goes backwards over the items, as in the proof that the meaning is legal. Assumes nothing.
 use mathlib.Core.Path.{_≡_, refl, sym, ap, ap₂, _∙_, subst}
-use mathlib.Core.Bool.{Bool, true, false, not, false≢true}
+use mathlib.Core.Bool.{Bool, true, false, false≢true}
 use mathlib.Core.List.{List, [], _∷_, _++_}
-use Prim.Native.Nat.{ℕ, suc, _+_, _-_, _≤_, _<_}
+use Prim.Native.Nat.{ℕ, zero, suc, _+_, _-_, _≤_, _<_}
 use native.Mathlib.Omega.{arith}
-use borrow.Author.Tests.{eq-eqb, ne-eqb}
-use lib.ListN.{length, drop}
-use Rattle.base.specs.If.{ifB, if-true, if-false, if-case}
+use native.Mathlib.Numerals.{add-one}
+use native.Mathlib.Decide.{decLt}
+use borrow.Author.Tests.{eq-eqb, ne-eqb, eqb-true}
+use lib.Dec.{eqb}
+use lib.ListN.{length, take, drop, length-take, length-drop}
+use lib.Seq.{drop-length}
+use Rattle.base.specs.If.{ifB, if-true, if-false, if-case, and-first}
 use Rattle.base.specs.Part.{part}
 use Rattle.base.specs.Answer.{fault, verdict}
 use Rattle.image.specs.Item.{Item, block, mark, reelEnd, broken, decode, isItem, allItems}
@@ -17,30 +22,33 @@ use Rattle.order.specs.Kind.{hdr, eof, eov, dataBlock, tapeMark, endOfReel, end
 use Rattle.order.specs.Due.{dueAfter}
 use Rattle.order.specs.declared.Kind.{Kind}
 use Rattle.order.specs.declared.Phase.{Phase}
-use Rattle.order.specs.declared.Phase.the-variants.{Reel, Data}
+use Rattle.order.specs.declared.Phase.the-variants.{Header, Data}
 use Rattle.order.specs.declared.Due.{Due}
 use Rattle.order.specs.declared.Due.the-variants.{To}
-use Rattle.label.specs.Field.{formatOf, blockLengthOf, recordLengthOf, offsetOf}
+use Rattle.label.specs.Field.{formatOf, blockLengthOf, recordLengthOf, offsetOf, setOf}
 use Rattle.label.specs.Judged.{labelFault}
 use Rattle.block.specs.Cut.{Segment, units}
 use Rattle.block.specs.Turn.{blockOutcome}
 use Rattle.volume.specs.State.{State, start}
 use Rattle.volume.specs.Fault.{valueOf, secondHeaderFault, outcomeIn, blockFault, contextFault, itemFault}
-use Rattle.volume.specs.Step.{Event, begins, holds, Next, kindIn, bytesIn, segmentsOf, segmentsIn, filesAfter, goesOnAfter, firstAfter, secondAfter, pendingAfter, stateAfter, eventsOf}
+use Rattle.volume.specs.Step.{Event, begins, holds, Next, kindIn, bytesIn, segmentsOf, segmentsIn, goesOnAfter, firstAfter, secondAfter, pendingAfter, stateAfter, eventsOf}
 use Rattle.volume.specs.Run.{Run, ended, stopped, further, next, runs, imageVerdict}
-use Rattle.volume.specs.Meaning.{File, joined, collect, fieldsFrom, meaningOf, handedOut, content}
-use Rattle.volume.specs.Accepted.{Faultless, All, MayEnd, Accepted, behind}
+use Rattle.volume.specs.Meaning.{File, joined, collect, setFrom, fieldsFrom, meaningOf, handedOut, content}
+use Rattle.volume.specs.Accepted.{Faultless, All, MayEnd, behind}
 use Rattle.volume.proofs.Accepted.{Ends, faultless-go, all-ends, accepted-iff}
-use Rattle.sheet.proofs.Moves.{Stage, stage, before, within, fileOver, reelOver, Quiet, Move, stays, nextReel, header1, nextFile, header2, datum, eof1, eov1, finish, due-goes}
+use Rattle.sheet.proofs.Moves.{Stage, stage, before, within, fileOver, reelOver, Quiet, Move, stays, nextReel, header1, nextFile as newFile, header2, datum, eof1, eov1, finish, due-goes}
 use Rattle.sheet.proofs.Stages.{View, view, Holds, isOpen, second-same, end-idle}
 use Rattle.sheet.proofs.Steps.{view-quiet, events-quiet, label-none, context-none}
-use Rattle.sheet.proofs.Legality.{Kept, kept-start, kept-step, image-end}
+use Rattle.sheet.proofs.Legality.{header-long, Kept, kept-start, kept-step, image-end}
 use Rattle.content.specs.Section.{placeBehind, seenAt, turnOf, turnTo, follow, dataFrom}
 use Rattle.content.specs.Walk.{opened, unitIn, begunBy}
-use Rattle.content.specs.File.{markFrom, walkFrom, beginsFile, goesOnBehind, filesBehind, onward, isStart, fileFrom, begunAt}
+use Rattle.content.specs.File.{markFrom, walkFrom, beginsFile, goesOnBehind, firstBehind, onward, headerFrom, firstFile, nextFile, fromFile, filesOn, fileNumbered, begunAt}
 use Rattle.content.specs.File.{begunBy as startedBy}
-use Rattle.content.specs.Walked.{handed, Walks, Begins}
+use Rattle.content.specs.Walked.{handed, Walks, FileIs, Filed}
 use Rattle.content.specs.declared.Walk.{Walk}
+use Rattle.content.specs.declared.FileAt.{FileAt}
+use Rattle.content.specs.declared.NextFile.{NextFile}
+use Rattle.content.specs.declared.NextFile.the-variants.{At as There, Nowhere as NoFile}
 use Rattle.content.specs.declared.Begun.the-variants.{At as Started, Refused}
 use Rattle.content.specs.declared.section.Seen.{Seen}
 use Rattle.content.specs.declared.section.Seen.the-variants.{Item as Of, Nothing}
@@ -48,10 +56,10 @@ use Rattle.content.specs.declared.section.Turn.{Turn}
 use Rattle.content.specs.declared.section.Extent.{Extent}
 use Rattle.content.specs.declared.section.Extent.the-variants.{At as Block, Nowhere}
 use Rattle.content.specs.declared.unit.Place.{Place}
-use Rattle.content.specs.declared.unit.Place.the-variants.{At, Nowhere as Off}
 use Rattle.content.proofs.Sections.{sees, unseen}
+use Rattle.content.proofs.Files.{header-item}
 use Rattle.content.proofs.Blocks.{Hands, block-hands, next-walks}
-use Rattle.content.proofs.Phases.{labels, second-labels, block-data, mark-data, label-labels, block-no-mark, record-some}
+use Rattle.content.proofs.Phases.{labels, second-behind, block-data, mark-data, label-labels, block-no-mark, record-some}
 
 -- ---- the items of an image by their places
 
@@ -106,61 +114,76 @@ data-end : (p : Phase) (at : ℕ) (x : Item) (xs : List Item) → kindIn p x ≡
 unfolding dataFrom turnOf follow isKind ifB
 data-end p at x xs e = ap (λ (k : Kind). follow (turnOf p k) at x (λ r. dataFrom r (placeBehind at x) xs)) e
 
-module _ (n files : ℕ) (g : Bool) (p q : Phase) (at : ℕ) (x : Item) (xs : List Item) (k : Kind) (e : kindIn p x ≡ k) where
-  file-item : fileFrom n files g p at (x ∷ xs)
-      ≡ ifB (isStart n files g k) (At (walkFrom (bytesIn x) (markFrom (placeBehind at x) xs)))
-      (onward (dueAfter p k) (λ r. fileFrom n (filesBehind files g k) (goesOnBehind g k) r (placeBehind at x) xs))
-  unfolding fileFrom
-  file-item =
-      ap (λ (j : Kind).
-      ifB (isStart n files g j) (At (walkFrom (bytesIn x) (markFrom (placeBehind at x) xs)))
-      (onward (dueAfter p j) (λ r. fileFrom n (filesBehind files g j) (goesOnBehind g j) r (placeBehind at x) xs))) e
+-- an item that begins no file
+header-on : (g : Bool) (p q : Phase) (first at : ℕ) (x : Item) (xs : List Item) (k : Kind) → kindIn p x ≡ k → beginsFile g k ≡ false → dueAfter p k ≡ To q
+    → headerFrom g p first at (x ∷ xs) ≡ headerFrom (goesOnBehind g k) q (firstBehind first (at + 3) k) (placeBehind at x) xs
+unfolding onward
+header-on g p q first at x xs k e b d =
+    header-item g p first at x xs k e ∙ if-false _ _ _ b
+    ∙ ap (λ (r : Due). onward r (λ y. headerFrom (goesOnBehind g k) y (firstBehind first (at + 3) k) (placeBehind at x) xs)) d
 
-  -- an item that begins no file
-  file-on : beginsFile g k ≡ false → dueAfter p k ≡ To q → fileFrom n files g p at (x ∷ xs) ≡ fileFrom n files (goesOnBehind g k) q (placeBehind at x) xs
-  unfolding isStart filesBehind onward
-  file-on b d =
-      file-item ∙ if-false _ _ _ (if-false _ _ _ b)
-      ∙ ap (λ (r : Due). onward r (λ y. fileFrom n (filesBehind files g k) (goesOnBehind g k) y (placeBehind at x) xs)) d
-      ∙ ap (λ (m : ℕ). fileFrom n m (goesOnBehind g k) q (placeBehind at x) xs) (if-false _ _ _ b)
+-- one that begins a file
+header-here : (g : Bool) (p : Phase) (first at : ℕ) (x : Item) (xs : List Item) (k : Kind) → kindIn p x ≡ k → beginsFile g k ≡ true
+    → headerFrom g p first at (x ∷ xs) ≡ There (record { first = first; second = at + 3; walk = walkFrom (bytesIn x) (markFrom (placeBehind at x) xs) })
+header-here g p first at x xs k e b = header-item g p first at x xs k e ∙ if-true _ _ _ b
 
-  -- one that begins file n
-  file-start : beginsFile g k ≡ true → files + 1 ≡ n → fileFrom n files g p at (x ∷ xs) ≡ At (walkFrom (bytesIn x) (markFrom (placeBehind at x) xs))
-  unfolding isStart
-  file-start b m = file-item ∙ if-true _ _ _ (if-true _ _ _ b ∙ eq-eqb (files + 1) n m)
+-- ---- the labels of a file by their places
 
-  -- one that begins another
-  file-pass : beginsFile g k ≡ true → (files + 1 ≡ n → ⊥) → dueAfter p k ≡ To q
-      → fileFrom n files g p at (x ∷ xs) ≡ fileFrom n (files + 1) (goesOnBehind g k) q (placeBehind at x) xs
-  unfolding isStart filesBehind onward
-  file-pass b m d =
-      file-item ∙ if-false _ _ _ (if-true _ _ _ b ∙ ne-eqb (files + 1) n m)
-      ∙ ap (λ (r : Due). onward r (λ y. fileFrom n (filesBehind files g k) (goesOnBehind g k) y (placeBehind at x) xs)) d
-      ∙ ap (λ (j : ℕ). fileFrom n j (goesOnBehind g k) q (placeBehind at x) xs) (if-true _ _ _ b)
+kind-family : (k : Kind) → isKind k (hdr 1) ≡ true → k .family ≡ 3
+unfolding isKind
+kind-family k h = eqb-true (k .family) 3 (and-first (eqb (k .family) 3) (eqb (k .number) 1) h)
+
+-- a label that was read whole lies within the image
+label-within : (s : List ℕ) (a : ℕ) (l : List ℕ) → part a 80 s ≡ l → length l ≡ 80 → a + 80 ≤ length s
+unfolding part
+label-within s a l e h = let n : length (take 80 (drop a s)) ≡ 80 = ap length e ∙ h in omega (arith, n, length-take 80 (drop a s), length-drop a s)
+
+-- an item of 80 bytes is the label at its place
+label-here : (s : List ℕ) (at : ℕ) (x : Item) (xs : List Item) → ItemAt s at x xs → length (bytesIn x) ≡ 80 → part (at + 3) 80 s ≡ bytesIn x
+label-here s at x xs c h = ap (λ (n : ℕ). part (at + 3) n s) (sym h) ∙ sym (c .bytes)
+
+-- behind an item, the last HDR1 is again at the place that is kept
+first-step : (s : List ℕ) (t : State) (p : Phase) (first at : ℕ) (x : Item) (xs : List Item) → ItemAt s at x xs → part first 80 s ≡ t .first
+    → part (firstBehind first (at + 3) (kindIn p x)) 80 s ≡ firstAfter t (kindIn p x) (bytesIn x)
+unfolding firstBehind firstAfter ifB
+first-step s t p first at x xs c here = by-kind (isKind (kindIn p x) (hdr 1)) refl
+  where
+    by-kind : (b : Bool) → isKind (kindIn p x) (hdr 1) ≡ b → part (ifB b (at + 3) first) 80 s ≡ ifB b (bytesIn x) (t .first)
+    by-kind true e = label-here s at x xs c (header-long p x (kind-family (kindIn p x) e))
+    by-kind false e = here
 
 -- ---- what is told of all that is handed out from a place on
 
--- with so many files begun, a file open or not, and so much of a record: what the open file still hands out, by its lengths, and nothing where
--- none is open; and where the walks over the files to come begin
-pub record Told (s : List ℕ) (ongoing : Bool) (p : Phase) (at : ℕ) (xs : List Item) (files : ℕ) (g : Bool) (w : Walk) (q : ℕ) (es : List Event) : Type 0 where
+-- the files to come, and the set identifier: that of the first of them
+abbrev SetIs : List ℕ → NextFile → List ℕ → Type 0
+SetIs s (There f) set = set ≡ setOf (part (f .first) 80 s)
+SetIs s NoFile set = Unit {0}
+
+pub record Comes (s : List ℕ) (x : NextFile) (ds : List File) (set : List ℕ) : Type 0 where
+  pub filed : Filed s x ds
+  pub named : SetIs s x set
+
+-- with the last HDR1 at `first`, a file open or not, and so much of a record: what the open file still hands out, by its lengths, and nothing where
+-- none is open; and the files to come
+pub record Told (s : List ℕ) (ongoing : Bool) (p : Phase) (at : ℕ) (xs : List Item) (first : ℕ) (g : Bool) (w : Walk) (q : ℕ) (es : List Event) : Type 0 where
   pub owed : ongoing ≡ true → Hands s (w .size) q (unitIn s (opened w (dataFrom p at xs))) (joined (collect es .segments))
   pub none : ongoing ≡ false → collect es .segments ≡ []
-  pub begun : (n : ℕ) → Begins s n files (collect es .files) (fileFrom n files g p at xs)
+  pub comes : Comes s (headerFrom g p first at xs) (collect es .files) (setFrom es)
 
 abbrev Tells : List ℕ → Stage → Phase → ℕ → List Item → ℕ → Bool → List ℕ → ℕ → List Event → Type 0
-Tells s a p at xs files g second q es = Told s (isOpen a g) p at xs files g (walkFrom second 0) q es
+Tells s a p at xs first g second q es = Told s (isOpen a g) p at xs first g (walkFrom second 0) q es
 
 -- an item that is neither a data block, nor EOF1, nor the beginning of a file
-told-on : (s : List ℕ) (o : Bool) (p r : Phase) (at : ℕ) (x : Item) (xs : List Item) (k : Kind) (files : ℕ) (g g′ : Bool) (w : Walk) (q : ℕ) (es : List Event)
+told-on : (s : List ℕ) (o : Bool) (p r : Phase) (at : ℕ) (x : Item) (xs : List Item) (k : Kind) (first : ℕ) (g g′ : Bool) (w : Walk) (q : ℕ) (es : List Event)
     → kindIn p x ≡ k → dueAfter p k ≡ To r → isKind k dataBlock ≡ false → isKind k (eof 1) ≡ false → beginsFile g k ≡ false → goesOnBehind g k ≡ g′
-    → Told s o r (placeBehind at x) xs files g′ w q es → Told s o p at (x ∷ xs) files g w q es
-told-on s o p r at x xs k files g g′ w q es e d a b c i h =
+    → Told s o r (placeBehind at x) xs (firstBehind first (at + 3) k) g′ w q es → Told s o p at (x ∷ xs) first g w q es
+told-on s o p r at x xs k first g g′ w q es e d a b c i h =
     record {
       owed = λ on. subst (λ (y : Extent). Hands s (w .size) q (unitIn s (opened w y)) (joined (collect es .segments))) (sym (data-on p r at x xs k e a b d)) (h .owed on);
       none = h .none;
-      begun = λ n.
-          subst (Begins s n files (collect es .files))
-          (sym (file-on n files g p r at x xs k e c d ∙ ap (λ (y : Bool). fileFrom n files y r (placeBehind at x) xs) i)) (h .begun n);
+      comes =
+          subst (λ (y : NextFile). Comes s y (collect es .files) (setFrom es))
+          (sym (header-on g p r first at x xs k e c d ∙ ap (λ (y : Bool). headerFrom y r (firstBehind first (at + 3) k) (placeBehind at x) xs) i)) (h .comes);
     }
 
 quiet-begins : (g : Bool) (k : Kind) → isKind k (hdr 2) ≡ false → beginsFile g k ≡ false
@@ -171,17 +194,17 @@ quiet-goes : (g : Bool) (k : Kind) → Quiet k → goesOnBehind g k ≡ g
 unfolding goesOnBehind
 quiet-goes g k c = if-false _ _ _ (c .reelEnd) ∙ if-false _ _ _ (c .fileEnd)
 
-told-quiet : (s : List ℕ) (t : State) (a b : Stage) (p r : Phase) (at : ℕ) (x : Item) (xs : List Item) (k : Kind) (es : List Event) → Quiet k
+told-quiet : (s : List ℕ) (t : State) (a b : Stage) (p r : Phase) (at : ℕ) (x : Item) (xs : List Item) (k : Kind) (first : ℕ) (es : List Event) → Quiet k
     → ((g : Bool) → isOpen b g ≡ isOpen a g) → kindIn p x ≡ k → dueAfter p k ≡ To r
-    → Tells s b r (placeBehind at x) xs (stateAfter t r k (bytesIn x) .files) (stateAfter t r k (bytesIn x) .goesOn) (stateAfter t r k (bytesIn x) .second)
+    → Tells s b r (placeBehind at x) xs (firstBehind first (at + 3) k) (stateAfter t r k (bytesIn x) .goesOn) (stateAfter t r k (bytesIn x) .second)
     (stateAfter t r k (bytesIn x) .pending) es
-    → Tells s a p at (x ∷ xs) (t .files) (t .goesOn) (t .second) (t .pending) (eventsOf t k (bytesIn x) ++ es)
-told-quiet s t a b p r at x xs k es c same e d h =
-    subst (λ (fs : List Event). Tells s a p at (x ∷ xs) (t .files) (t .goesOn) (t .second) (t .pending) (fs ++ es)) (sym (events-quiet t k (bytesIn x) c))
-    (told-on s (isOpen a (t .goesOn)) p r at x xs k (t .files) (t .goesOn) (t .goesOn) (walkFrom (t .second) 0) (t .pending) es e d (c .datum) (c .fileEnd)
+    → Tells s a p at (x ∷ xs) first (t .goesOn) (t .second) (t .pending) (eventsOf t k (bytesIn x) ++ es)
+told-quiet s t a b p r at x xs k first es c same e d h =
+    subst (λ (fs : List Event). Tells s a p at (x ∷ xs) first (t .goesOn) (t .second) (t .pending) (fs ++ es)) (sym (events-quiet t k (bytesIn x) c))
+    (told-on s (isOpen a (t .goesOn)) p r at x xs k first (t .goesOn) (t .goesOn) (walkFrom (t .second) 0) (t .pending) es e d (c .datum) (c .fileEnd)
     (quiet-begins (t .goesOn) k (c .second)) (quiet-goes (t .goesOn) k c)
-    (subst (λ (o : Bool). Told s o r (placeBehind at x) xs (t .files) (t .goesOn) (walkFrom (t .second) 0) (t .pending) es) (same (t .goesOn))
-    (subst (λ (v : View). Tells s b r (placeBehind at x) xs (v .files) (v .goesOn) (v .second) (v .pending) es) (view-quiet t r k (bytesIn x) c) h)))
+    (subst (λ (o : Bool). Told s o r (placeBehind at x) xs (firstBehind first (at + 3) k) (t .goesOn) (walkFrom (t .second) 0) (t .pending) es) (same (t .goesOn))
+    (subst (λ (v : View). Tells s b r (placeBehind at x) xs (firstBehind first (at + 3) k) (v .goesOn) (v .second) (v .pending) es) (view-quiet t r k (bytesIn x) c) h)))
 
 -- HDR2 of a later section has the lengths of the section before
 same-lengths : (second l : List ℕ) → secondHeaderFault true second l .number ≡ 0 → walkFrom l 0 ≡ walkFrom second 0
@@ -190,32 +213,32 @@ same-lengths second l h =
     λ i. record { format = sym (c .0) i; size = valueOf (sym (c .1) i); offset = valueOf (sym (c .2) i); at = 0; left = 0 }
 
 -- HDR2 of a file that goes on
-told-again : (s : List ℕ) (p r : Phase) (at : ℕ) (x : Item) (xs : List Item) (files : ℕ) (second : List ℕ) (q : ℕ) (es : List Event) → kindIn p x ≡ hdr 2
+told-again : (s : List ℕ) (p r : Phase) (at : ℕ) (x : Item) (xs : List Item) (first : ℕ) (second : List ℕ) (q : ℕ) (es : List Event) → kindIn p x ≡ hdr 2
     → dueAfter p (hdr 2) ≡ To r → secondHeaderFault true second (bytesIn x) .number ≡ 0
-    → Told s true r (placeBehind at x) xs files true (walkFrom (bytesIn x) 0) q es → Told s true p at (x ∷ xs) files true (walkFrom second 0) q es
-unfolding isKind beginsFile goesOnBehind ifB
-told-again s p r at x xs files second q es e d f h =
-    told-on s true p r at x xs (hdr 2) files true true (walkFrom second 0) q es e d refl refl refl refl
-    (subst (λ (w : Walk). Told s true r (placeBehind at x) xs files true w q es) (same-lengths second (bytesIn x) f) h)
+    → Told s true r (placeBehind at x) xs first true (walkFrom (bytesIn x) 0) q es → Told s true p at (x ∷ xs) first true (walkFrom second 0) q es
+unfolding isKind beginsFile goesOnBehind firstBehind ifB
+told-again s p r at x xs first second q es e d f h =
+    told-on s true p r at x xs (hdr 2) first true true (walkFrom second 0) q es e d refl refl refl refl
+    (subst (λ (w : Walk). Told s true r (placeBehind at x) xs first true w q es) (same-lengths second (bytesIn x) f) h)
 
 -- among the labels before the data, the next data block is that behind their mark
 abbrev Body : List ℕ → Phase → ℕ → List Item → Type 0
 Body s r at xs =
     labels r ≡ true → (dataFrom r at xs ≡ dataFrom Data (markFrom at xs) (decode (drop (markFrom at xs) s))) × (markFrom at xs ≤ length s)
 
--- HDR2 of a new file
-told-new : (s : List ℕ) (p r : Phase) (at : ℕ) (x : Item) (xs : List Item) (files : ℕ) (first : List ℕ) (w : Walk) (q : ℕ) (es : List Event) → kindIn p x ≡ hdr 2
-    → dueAfter p (hdr 2) ≡ To r → q ≡ 0 → labelFault (hdr 2) (bytesIn x) .number ≡ 0 → Body s r (placeBehind at x) xs
-    → Told s true r (placeBehind at x) xs (files + 1) false (walkFrom (bytesIn x) 0) q es
-    → Told s false p at (x ∷ xs) files false w q (begins first (bytesIn x) ∷ es)
-unfolding collect isKind beginsFile goesOnBehind ifB
-told-new s p r at x xs files first w q es e d z f body h = record { owed = λ on. absurd (false≢true on); none = λ _. refl; begun = starts }
+-- HDR2 of a new file, with its HDR1 at `first`
+told-new : (s : List ℕ) (p r : Phase) (at : ℕ) (x : Item) (xs : List Item) (first : ℕ) (label : List ℕ) (w : Walk) (q : ℕ) (es : List Event) → ItemAt s at x xs
+    → kindIn p x ≡ hdr 2 → dueAfter p (hdr 2) ≡ To r → q ≡ 0 → labelFault (hdr 2) (bytesIn x) .number ≡ 0 → part first 80 s ≡ label → length label ≡ 80
+    → Body s r (placeBehind at x) xs → Told s true r (placeBehind at x) xs first false (walkFrom (bytesIn x) 0) q es
+    → Told s false p at (x ∷ xs) first false w q (begins label (bytesIn x) ∷ es)
+unfolding collect setFrom isKind beginsFile goesOnBehind ifB
+told-new s p r at x xs first label w q es c e d z f here long body h = record { owed = λ on. absurd (false≢true on); none = λ _. refl; comes = files }
   where
     m : ℕ
     m = markFrom (placeBehind at x) xs
 
     there : (dataFrom r (placeBehind at x) xs ≡ dataFrom Data m (decode (drop m s))) × (m ≤ length s)
-    there = body (second-labels p r d)
+    there = body (ap labels (second-behind p r d))
 
     hands : Hands s (valueOf (recordLengthOf (bytesIn x))) 0 (unitIn s (opened (walkFrom (bytesIn x) m) (dataFrom Data m (decode (drop m s))))) (joined (collect es .segments))
     hands =
@@ -230,28 +253,50 @@ told-new s p r at x xs files first w q es e d z f body h = record { owed = λ on
     walks : Walks s (walkFrom (bytesIn x) m) (joined (collect es .segments))
     walks = next-walks s (walkFrom (bytesIn x) m) (joined (collect es .segments)) (record-some (bytesIn x) f) refl (there .1) hands
 
-    starts : (n : ℕ) → Begins s n files (record { fields = fieldsFrom first (bytesIn x); records = joined (collect es .segments) } ∷ collect es .files) (fileFrom n files false p at (x ∷ xs))
-    starts n = (
-      (λ is. (walkFrom (bytesIn x) m, file-start n files false p r at x xs (hdr 2) e refl is, walks)),
-      (λ other. subst (Begins s n (files + 1) (collect es .files)) (sym (file-pass n files false p r at x xs (hdr 2) e refl other d)) (h .begun n)),
-    )
+    file : FileAt
+    file = record { first = first; second = at + 3; walk = walkFrom (bytesIn x) m }
+
+    eighty : length (bytesIn x) ≡ 80
+    eighty = header-long p x (ap (λ (k : Kind). k .family) e)
+
+    is : FileIs s file (record { fields = fieldsFrom label (bytesIn x); records = joined (collect es .segments) })
+    is = record {
+      firstWithin = label-within s first label here long;
+      secondWithin = label-within s (at + 3) (bytesIn x) (label-here s at x xs c eighty) eighty;
+      fields = ap₂ fieldsFrom (sym here) (sym (label-here s at x xs c eighty));
+      walks = walks;
+    }
+
+    -- the next file is sought behind this HDR2
+    next-file : headerFrom false r first (placeBehind at x) xs ≡ nextFile s file
+    next-file = unfold nextFile placeBehind in
+        ap₂ (λ (y : Phase) (ys : List Item). headerFrom false y first (placeBehind at x) ys) (second-behind p r d) (sym (c .rest))
+        ∙ ap (λ (n : ℕ). headerFrom false (Header 2) first (at + 3 + n) (decode (drop (at + 3 + n) s))) eighty
+
+    files : Comes s (headerFrom false p first at (x ∷ xs)) (record { fields = fieldsFrom label (bytesIn x); records = joined (collect es .segments) } ∷ collect es .files) (setOf label)
+    files =
+        subst (λ (y : NextFile). Comes s y (record { fields = fieldsFrom label (bytesIn x); records = joined (collect es .segments) } ∷ collect es .files) (setOf label))
+        (sym (header-here false p first at x xs (hdr 2) e refl))
+        (record {
+          filed = (file, refl, is, subst (λ (y : NextFile). Filed s y (collect es .files)) next-file (h .comes .filed));
+          named = ap setOf (sym here);
+        })
 
 -- a data block
-told-block : (s : List ℕ) (p r : Phase) (at : ℕ) (x : Item) (xs : List Item) (files : ℕ) (g : Bool) (second : List ℕ) (q : ℕ) (es : List Event) → ItemAt s at x xs
+told-block : (s : List ℕ) (p r : Phase) (at : ℕ) (x : Item) (xs : List Item) (first : ℕ) (g : Bool) (second : List ℕ) (q : ℕ) (es : List Event) → ItemAt s at x xs
     → kindIn p x ≡ dataBlock → dueAfter p dataBlock ≡ To r → (valueOf (recordLengthOf second) ≡ 0 → ⊥) → outcomeIn second q (bytesIn x) .number ≡ 0
-    → Told s true r (placeBehind at x) xs files g (walkFrom second 0) (outcomeIn second q (bytesIn x) .pending) es
-    → Told s true p at (x ∷ xs) files g (walkFrom second 0) q
+    → Told s true r (placeBehind at x) xs first g (walkFrom second 0) (outcomeIn second q (bytesIn x) .pending) es
+    → Told s true p at (x ∷ xs) first g (walkFrom second 0) q
     (holds (segmentsOf (units (formatOf second) (valueOf (blockLengthOf second)) (valueOf (recordLengthOf second)) (valueOf (offsetOf second)) (bytesIn x))) ∷ es)
-unfolding collect outcomeIn isKind beginsFile goesOnBehind ifB placeBehind
-told-block s p r at x xs files g second q es c e d some' f h = record {
+unfolding collect setFrom outcomeIn isKind beginsFile goesOnBehind firstBehind ifB placeBehind
+told-block s p r at x xs first g second q es c e d some' f h = record {
   owed = λ on.
       subst (λ (y : Extent). Hands s (w .size) q (unitIn s (opened w y)) (joined (segmentsOf (units (w .format) b (w .size) (w .offset) l) ++ collect es .segments)))
       (sym (data-block p at x xs e))
       (subst (λ (k : List ℕ). Hands s (w .size) q (unitIn s (opened w (Block (at + 3) n))) (joined (segmentsOf (units (w .format) b (w .size) (w .offset) k) ++ collect es .segments)))
       (sym (c .bytes)) (block-hands s w b (at + 3) n q (collect es .segments) some' (c .within) fine owed));
   none = λ off. absurd (false≢true (sym off));
-  begun = λ m.
-      subst (Begins s m files (collect es .files)) (sym (file-on m files g p r at x xs dataBlock e refl d)) (h .begun m);
+  comes = subst (λ (y : NextFile). Comes s y (collect es .files) (setFrom es)) (sym (header-on g p r first at x xs dataBlock e refl d)) (h .comes);
 }
   where
     w : Walk
@@ -281,16 +326,16 @@ told-block s p r at x xs files g second q es c e d some' f h = record {
         next-data (h .owed refl))
 
 -- EOF1
-told-end : (s : List ℕ) (p r : Phase) (at : ℕ) (x : Item) (xs : List Item) (files : ℕ) (g : Bool) (w : Walk) (q : ℕ) (es : List Event) → kindIn p x ≡ eof 1
-    → dueAfter p (eof 1) ≡ To r → q ≡ 0 → Told s false r (placeBehind at x) xs files false w q es → Told s true p at (x ∷ xs) files g w q es
-unfolding isKind beginsFile goesOnBehind ifB
-told-end s p r at x xs files g w q es e d z h = record {
+told-end : (s : List ℕ) (p r : Phase) (at : ℕ) (x : Item) (xs : List Item) (first : ℕ) (g : Bool) (w : Walk) (q : ℕ) (es : List Event) → kindIn p x ≡ eof 1
+    → dueAfter p (eof 1) ≡ To r → q ≡ 0 → Told s false r (placeBehind at x) xs first false w q es → Told s true p at (x ∷ xs) first g w q es
+unfolding isKind beginsFile goesOnBehind firstBehind ifB
+told-end s p r at x xs first g w q es e d z h = record {
   owed = λ _.
       subst (λ (y : Extent). Hands s (w .size) q (unitIn s (opened w y)) (joined (collect es .segments))) (sym (data-end p at x xs e))
       (subst (λ (ys : List Segment). Hands s (w .size) q (unitIn s (opened w Nowhere)) (joined ys)) (sym (h .none refl))
       (subst (λ (j : ℕ). Hands s (w .size) j (unitIn s (opened w Nowhere)) (joined [])) (sym z) over));
   none = λ off. absurd (false≢true (sym off));
-  begun = λ n. subst (Begins s n files (collect es .files)) (sym (file-on n files g p r at x xs (eof 1) e refl d)) (h .begun n);
+  comes = subst (λ (y : NextFile). Comes s y (collect es .files) (setFrom es)) (sym (header-on g p r first at x xs (eof 1) e refl d)) (h .comes);
 }
   where
     over : Hands s (w .size) 0 (unitIn s (opened w Nowhere)) (joined [])
@@ -308,46 +353,48 @@ unfolding stateAfter goesOnAfter secondAfter isKind ifB
 sized-step t r l {k} (stays {a = a} c) h f = subst (λ (v : View). Sized a (v .goesOn) (v .second)) (sym (view-quiet t r k l c)) h
 sized-step t r l {k} (nextReel c) h f = subst (λ (v : View). Sized before (v .goesOn) (v .second)) (sym (view-quiet t r k l c)) h
 sized-step t r l header1 h f = h
-sized-step t r l nextFile h f = h
+sized-step t r l newFile h f = h
 sized-step t r l header2 h f = λ _. record-some l (label-none t (hdr 2) l f)
 sized-step t r l datum h f = h
 sized-step t r l eof1 h f = λ on. absurd (false≢true on)
 sized-step t r l eov1 h f = λ _. h refl
 sized-step t r l finish h f = h
 
-second-step : (s : List ℕ) (g : Bool) (p r : Phase) (at : ℕ) (x : Item) (xs : List Item) (files : ℕ) (first second : List ℕ) (q : ℕ) (es : List Event)
+second-step : (s : List ℕ) (g : Bool) (p r : Phase) (at : ℕ) (x : Item) (xs : List Item) (first : ℕ) (label second : List ℕ) (q : ℕ) (es : List Event) → ItemAt s at x xs
     → kindIn p x ≡ hdr 2 → dueAfter p (hdr 2) ≡ To r → (g ≡ false → q ≡ 0) → labelFault (hdr 2) (bytesIn x) .number ≡ 0
-    → secondHeaderFault g second (bytesIn x) .number ≡ 0 → Body s r (placeBehind at x) xs
-    → Told s true r (placeBehind at x) xs (ifB g files (files + 1)) g (walkFrom (bytesIn x) 0) q es
-    → Told s g p at (x ∷ xs) files g (walkFrom second 0) q (ifB g [] (begins first (bytesIn x) ∷ []) ++ es)
+    → secondHeaderFault g second (bytesIn x) .number ≡ 0 → part first 80 s ≡ label → length label ≡ 80 → Body s r (placeBehind at x) xs
+    → Told s true r (placeBehind at x) xs first g (walkFrom (bytesIn x) 0) q es
+    → Told s g p at (x ∷ xs) first g (walkFrom second 0) q (ifB g [] (begins label (bytesIn x) ∷ []) ++ es)
 unfolding ifB
-second-step s true p r at x xs files first second q es e d idle f c body h = told-again s p r at x xs files second q es e d c h
-second-step s false p r at x xs files first second q es e d idle f c body h = told-new s p r at x xs files first (walkFrom second 0) q es e d (idle refl) f body h
+second-step s true p r at x xs first label second q es i e d idle f c here long body h = told-again s p r at x xs first second q es e d c h
+second-step s false p r at x xs first label second q es i e d idle f c here long body h =
+    told-new s p r at x xs first label (walkFrom second 0) q es i e d (idle refl) f here long body h
 
-told-step : (s : List ℕ) (t : State) (p r : Phase) (at : ℕ) (x : Item) (xs : List Item) (es : List Event) {k : Kind} {a b : Stage} → Move k a b → kindIn p x ≡ k
-    → dueAfter p k ≡ To r → ItemAt s at x xs → Holds a (view t) → Sized a (t .goesOn) (t .second) → itemFault t k (bytesIn x) .number ≡ 0 → Body s r (placeBehind at x) xs
-    → Tells s b r (placeBehind at x) xs (stateAfter t r k (bytesIn x) .files) (stateAfter t r k (bytesIn x) .goesOn) (stateAfter t r k (bytesIn x) .second)
+told-step : (s : List ℕ) (t : State) (p r : Phase) (at : ℕ) (x : Item) (xs : List Item) (first : ℕ) (es : List Event) {k : Kind} {a b : Stage} → Move k a b
+    → kindIn p x ≡ k → dueAfter p k ≡ To r → ItemAt s at x xs → Holds a (view t) → Sized a (t .goesOn) (t .second) → part first 80 s ≡ t .first
+    → itemFault t k (bytesIn x) .number ≡ 0 → Body s r (placeBehind at x) xs
+    → Tells s b r (placeBehind at x) xs (firstBehind first (at + 3) k) (stateAfter t r k (bytesIn x) .goesOn) (stateAfter t r k (bytesIn x) .second)
     (stateAfter t r k (bytesIn x) .pending) es
-    → Tells s a p at (x ∷ xs) (t .files) (t .goesOn) (t .second) (t .pending) (eventsOf t k (bytesIn x) ++ es)
-unfolding stateAfter filesAfter goesOnAfter firstAfter secondAfter pendingAfter eventsOf segmentsIn contextFault blockFault fault isKind ifB beginsFile goesOnBehind
-told-step s t p r at x xs es {k} (stays {a = a} c) e d i h z f body told = told-quiet s t a a p r at x xs k es c (λ g. refl) e d told
-told-step s t p r at x xs es {k} (nextReel c) e d i h z f body told = told-quiet s t reelOver before p r at x xs k es c (λ g. refl) e d told
-told-step s t p r at x xs es header1 e d i h z f body told =
-    told-on s (t .goesOn) p r at x xs (hdr 1) (t .files) (t .goesOn) (t .goesOn) (walkFrom (t .second) 0) (t .pending) es e d refl refl refl refl told
-told-step s t p r at x xs es nextFile e d i h z f body told =
-    told-on s (t .goesOn) p r at x xs (hdr 1) (t .files) (t .goesOn) (t .goesOn) (walkFrom (t .second) 0) (t .pending) es e d refl refl refl refl told
-told-step s t p r at x xs es header2 e d i h z f body told =
-    second-step s (t .goesOn) p r at x xs (t .files) (t .first) (t .second) (t .pending) es e d (h .outside .idle) (label-none t (hdr 2) (bytesIn x) f)
-    (context-none t (hdr 2) (bytesIn x) f) body told
-told-step s t p r at x xs es datum e d i h z f body told =
-    told-block s p r at x xs (t .files) (t .goesOn) (t .second) (t .pending) es i e d (z refl) (context-none t dataBlock (bytesIn x) f) told
-told-step s t p r at x xs es eof1 e d i h z f body told =
-    told-end s p r at x xs (t .files) (t .goesOn) (walkFrom (t .second) 0) (t .pending) es e d
+    → Tells s a p at (x ∷ xs) first (t .goesOn) (t .second) (t .pending) (eventsOf t k (bytesIn x) ++ es)
+unfolding stateAfter goesOnAfter firstAfter secondAfter pendingAfter eventsOf segmentsIn contextFault blockFault fault isKind ifB beginsFile goesOnBehind firstBehind
+told-step s t p r at x xs first es {k} (stays {a = a} c) e d i h z here f body told = told-quiet s t a a p r at x xs k first es c (λ g. refl) e d told
+told-step s t p r at x xs first es {k} (nextReel c) e d i h z here f body told = told-quiet s t reelOver before p r at x xs k first es c (λ g. refl) e d told
+told-step s t p r at x xs first es header1 e d i h z here f body told =
+    told-on s (t .goesOn) p r at x xs (hdr 1) first (t .goesOn) (t .goesOn) (walkFrom (t .second) 0) (t .pending) es e d refl refl refl refl told
+told-step s t p r at x xs first es newFile e d i h z here f body told =
+    told-on s (t .goesOn) p r at x xs (hdr 1) first (t .goesOn) (t .goesOn) (walkFrom (t .second) 0) (t .pending) es e d refl refl refl refl told
+told-step s t p r at x xs first es header2 e d i h z here f body told =
+    second-step s (t .goesOn) p r at x xs first (t .first) (t .second) (t .pending) es i e d (h .outside .idle) (label-none t (hdr 2) (bytesIn x) f)
+    (context-none t (hdr 2) (bytesIn x) f) here (h .long) body told
+told-step s t p r at x xs first es datum e d i h z here f body told =
+    told-block s p r at x xs first (t .goesOn) (t .second) (t .pending) es i e d (z refl) (context-none t dataBlock (bytesIn x) f) told
+told-step s t p r at x xs first es eof1 e d i h z here f body told =
+    told-end s p r at x xs first (t .goesOn) (walkFrom (t .second) 0) (t .pending) es e d
     (end-idle (t .first) (t .count) (t .pending) (bytesIn x) (context-none t (eof 1) (bytesIn x) f)) told
-told-step s t p r at x xs es eov1 e d i h z f body told =
-    told-on s true p r at x xs (eov 1) (t .files) (t .goesOn) true (walkFrom (t .second) 0) (t .pending) es e d refl refl refl refl told
-told-step s t p r at x xs es finish e d i h z f body told =
-    told-on s (t .goesOn) p r at x xs endOfImage (t .files) (t .goesOn) (t .goesOn) (walkFrom (t .second) 0) (t .pending) es e d refl refl refl refl told
+told-step s t p r at x xs first es eov1 e d i h z here f body told =
+    told-on s true p r at x xs (eov 1) first (t .goesOn) true (walkFrom (t .second) 0) (t .pending) es e d refl refl refl refl told
+told-step s t p r at x xs first es finish e d i h z here f body told =
+    told-on s (t .goesOn) p r at x xs endOfImage first (t .goesOn) (t .goesOn) (walkFrom (t .second) 0) (t .pending) es e d refl refl refl refl told
 
 -- ---- the labels before the data, up to their mark
 
@@ -408,69 +455,99 @@ unfolding runs handedOut
 handed-none t h = ap handedOut (if-true _ _ _ h)
 
 -- where the image may end nothing more is handed out
-told-none : (s : List ℕ) (t : State) (at : ℕ) → Kept t → MayEnd t → Tells s (stage (t .phase)) (t .phase) at [] (t .files) (t .goesOn) (t .second) (t .pending) []
-unfolding collect fileFrom
-told-none s t at kept h =
+told-none : (s : List ℕ) (t : State) (at first : ℕ) → Kept t → MayEnd t → Tells s (stage (t .phase)) (t .phase) at [] first (t .goesOn) (t .second) (t .pending) []
+unfolding collect setFrom headerFrom
+told-none s t at first kept h =
     let over : stage (t .phase) ≡ fileOver = image-end (t .phase) (kept .numbered) h in
     let off : t .goesOn ≡ false = subst (λ (a : Stage). Holds a (view t)) over (kept .holds) .off in
     record {
       owed = λ on. absurd (false≢true (sym (ap₂ isOpen over off) ∙ on));
       none = λ _. refl;
-      begun = λ n. refl;
+      comes = record { filed = refl; named = tt };
     }
 
-told : (s : List ℕ) (xs : List Item) (t : State) (at : ℕ) → All MayEnd t xs → decode (drop at s) ≡ xs → allItems xs ≡ true → Kept t
-    → Sized (stage (t .phase)) (t .goesOn) (t .second)
-    → Tells s (stage (t .phase)) (t .phase) at xs (t .files) (t .goesOn) (t .second) (t .pending) (handedOut (runs t xs))
+told : (s : List ℕ) (xs : List Item) (t : State) (at first : ℕ) → All MayEnd t xs → decode (drop at s) ≡ xs → allItems xs ≡ true → Kept t
+    → Sized (stage (t .phase)) (t .goesOn) (t .second) → part first 80 s ≡ t .first
+    → Tells s (stage (t .phase)) (t .phase) at xs first (t .goesOn) (t .second) (t .pending) (handedOut (runs t xs))
 unfolding stateAfter
-told s [] t at all e good kept sized =
-    subst (Tells s (stage (t .phase)) (t .phase) at [] (t .files) (t .goesOn) (t .second) (t .pending)) (sym (handed-none t all)) (told-none s t at kept all)
-told s (x ∷ xs) t at (q, f, all) e good kept sized =
+told s [] t at first all e good kept sized here =
+    subst (Tells s (stage (t .phase)) (t .phase) at [] first (t .goesOn) (t .second) (t .pending)) (sym (handed-none t all)) (told-none s t at first kept all)
+told s (x ∷ xs) t at first (q, f, all) e good kept sized here =
     let c = item-at s at x xs e (all-first x xs good) in
     let go = due-goes (t .phase) (kindIn (t .phase) x) q (kept .numbered) (f .due) in
-    subst (Tells s (stage (t .phase)) (t .phase) at (x ∷ xs) (t .files) (t .goesOn) (t .second) (t .pending)) (sym (handed-more t x xs q f all))
-    (told-step s t (t .phase) q at x xs (handedOut (runs (behind t x q) xs)) (go .move) refl (f .due) c (kept .holds) sized (f .sound)
+    subst (Tells s (stage (t .phase)) (t .phase) at (x ∷ xs) first (t .goesOn) (t .second) (t .pending)) (sym (handed-more t x xs q f all))
+    (told-step s t (t .phase) q at x xs first (handedOut (runs (behind t x q) xs)) (go .move) refl (f .due) c (kept .holds) sized here (f .sound)
     (body s xs (behind t x q) (placeBehind at x) all (c .rest) (all-rest x xs good) (c .within))
-    (told s xs (behind t x q) (placeBehind at x) all (c .rest) (all-rest x xs good) (kept-step t x q kept f)
-    (sized-step t q (bytesIn x) (go .move) sized (f .sound))))
+    (told s xs (behind t x q) (placeBehind at x) (firstBehind first (at + 3) (kindIn (t .phase) x)) all (c .rest) (all-rest x xs good) (kept-step t x q kept f)
+    (sized-step t q (bytesIn x) (go .move) sized (f .sound)) (first-step s t (t .phase) first at x xs c here)))
 
--- the walks over the files of an accepted image
-begins-all : (s : List ℕ) → Accepted s → (n : ℕ) → Begins s n 0 (content s .files) (fileFrom n 0 false Reel 5 (items s))
-unfolding content meaningOf start items
-begins-all s a n =
-    told s (items s) start 5 (a .followed) refl (framing-items s (a .framed)) kept-start (λ on. absurd (false≢true on)) .begun n
+-- ---- the files of an accepted image
 
--- file n is that behind n - 1 others
-begins-file : (s : List ℕ) (n files : ℕ) (ds : List File) (d : File) (es : List File) (p : Place) → files + length ds + 1 ≡ n → Begins s n files (ds ++ (d ∷ es)) p
-    → (w : Walk) × (p ≡ At w) × Walks s w (d .records)
-begins-file s n files [] d es p h b = b .0 (omega arith)
-begins-file s n files (c ∷ ds) d es p h b = begins-file s n (files + 1) ds d es p (omega arith) (b .1 (λ e. omega arith))
+no-label : (s : List ℕ) → part (length s) 80 s ≡ []
+unfolding part
+no-label s = ap (take 80) (drop-length s)
 
--- and no file has number 0 or one past the last
-begins-none : (s : List ℕ) (n files : ℕ) (ds : List File) (p : Place) → ((k : ℕ) → k < length ds → files + k + 1 ≡ n → ⊥) → Begins s n files ds p → p ≡ Off
-begins-none s n files [] p h b = b
-begins-none s n files (d ∷ ds) p h b =
-    begins-none s n (files + 1) ds p (λ k l e. h (suc k) (omega arith) (omega arith)) (b .1 (λ e. h 0 (omega arith) (omega arith)))
+comes-all : (s : List ℕ) → imageVerdict s .number ≡ 0 → Comes s (firstFile s) (content s .files) (content s .set)
+unfolding content meaningOf start items firstFile
+comes-all s h =
+    let a = accepted-iff s .0 h in
+    told s (items s) start 5 (length s) (a .followed) refl (framing-items s (a .framed)) kept-start (λ on. absurd (false≢true on)) (no-label s) .comes
 
-started : (s : List ℕ) (n : ℕ) → imageVerdict s .number ≡ 0 → begunAt s n ≡ startedBy (fileFrom n 0 false Reel 5 (items s))
-unfolding begunAt
-started s n h = if-true _ _ _ (eq-eqb (imageVerdict s .number) 0 h)
+-- On an accepted image, going from file to file meets exactly the files of the meaning, in order.
+pub files-all : (s : List ℕ) → imageVerdict s .number ≡ 0 → Filed s (firstFile s) (content s .files)
+files-all s h = comes-all s h .filed
+
+-- The set identifier is that of the first file.
+pub set-first : (s : List ℕ) (f : FileAt) → imageVerdict s .number ≡ 0 → firstFile s ≡ There f → content s .set ≡ setOf (part (f .first) 80 s)
+set-first s f h e = subst (λ (x : NextFile). SetIs s x (content s .set)) e (comes-all s h .named)
+
+-- ---- files by their numbers
+
+-- the file behind as many others
+filed-at : (s : List ℕ) (ds : List File) (d : File) (es : List File) (x : NextFile) → Filed s x (ds ++ (d ∷ es))
+    → (f : FileAt) × (fromFile x (λ g. filesOn s (length ds) g) ≡ There f) × FileIs s f d
+unfolding fromFile filesOn
+filed-at s [] d es x (f, e, is, rest) = (f, ap (λ (y : NextFile). fromFile y (λ g. filesOn s 0 g)) e, is)
+filed-at s (c ∷ ds) d es x (f, e, is, rest) =
+    let (g, at, there) = filed-at s ds d es (nextFile s f) rest in
+    (g, ap (λ (y : NextFile). fromFile y (λ g. filesOn s (suc (length ds)) g)) e ∙ at, there)
+
+-- and none past the last
+filed-past : (s : List ℕ) (ds : List File) (k : ℕ) (x : NextFile) → Filed s x ds → length ds ≤ k → fromFile x (λ g. filesOn s k g) ≡ NoFile
+unfolding fromFile filesOn
+filed-past s [] k x e h = ap (λ (y : NextFile). fromFile y (λ g. filesOn s k g)) e
+filed-past s (d ∷ ds) zero x b h = absurd (omega arith)
+filed-past s (d ∷ ds) (suc k) x (f, e, is, rest) h =
+    ap (λ (y : NextFile). fromFile y (λ g. filesOn s (suc k) g)) e ∙ filed-past s ds k (nextFile s f) rest (omega arith)
+
+started : (s : List ℕ) (k : ℕ) → imageVerdict s .number ≡ 0 → begunAt s (k + 1) ≡ startedBy (fromFile (firstFile s) (λ f. filesOn s k f))
+unfolding begunAt fileNumbered
+started s k h =
+    let e : k + 1 - 1 ≡ k = omega arith in
+    if-true _ _ _ (eq-eqb (imageVerdict s .number) 0 h)
+    ∙ ap startedBy (if-false _ _ _ (ne-eqb (k + 1) 0 (λ z. omega arith)) ∙ ap (λ (j : ℕ). fromFile (firstFile s) (λ f. filesOn s j f)) e)
 
 -- On an accepted image, the walk over each file begins, and hands out exactly the file's records of the meaning, in order, and then 13.
 pub walk-records : (s : List ℕ) (ds : List File) (d : File) (es : List File) → imageVerdict s .number ≡ 0 → content s .files ≡ ds ++ (d ∷ es)
     → (w : Walk) × (begunAt s (length ds + 1) ≡ Started w) × Walks s w (d .records)
 unfolding startedBy
 walk-records s ds d es h e =
-    let n : ℕ = length ds + 1 in
-    let b : Begins s n 0 (ds ++ (d ∷ es)) (fileFrom n 0 false Reel 5 (items s))
-    = subst (λ (fs : List File). Begins s n 0 fs (fileFrom n 0 false Reel 5 (items s))) e (begins-all s (accepted-iff s .0 h) n) in
-    let (w, at, walks) = begins-file s n 0 ds d es (fileFrom n 0 false Reel 5 (items s)) (omega arith) b in
-    (w, started s n h ∙ ap startedBy at, walks)
+    let (f, at, is) = filed-at s ds d es (firstFile s) (subst (Filed s (firstFile s)) e (files-all s h)) in
+    (f .walk, started s (length ds) h ∙ ap startedBy at, is .walks)
+
+-- file 0 is none
+zeroth : (s : List ℕ) → imageVerdict s .number ≡ 0 → begunAt s 0 ≡ Refused (verdict 13 0 0)
+unfolding begunAt fileNumbered startedBy
+zeroth s h = if-true _ _ _ (eq-eqb (imageVerdict s .number) 0 h) ∙ ap startedBy (if-true _ _ _ refl)
 
 -- A file number that is 0 or past the last is 13.
 pub walk-none : (s : List ℕ) (n : ℕ) → imageVerdict s .number ≡ 0 → ((k : ℕ) → k < length (content s .files) → k + 1 ≡ n → ⊥) → begunAt s n ≡ Refused (verdict 13 0 0)
 unfolding startedBy
-walk-none s n h past =
-    started s n h
-    ∙ ap startedBy
-    (begins-none s n 0 (content s .files) (fileFrom n 0 false Reel 5 (items s)) (λ k l e. past k l (omega arith)) (begins-all s (accepted-iff s .0 h) n))
+walk-none s zero h past = zeroth s h
+walk-none s (suc k) h past =
+    let e : suc k ≡ k + 1 = sym (add-one k) in
+    ap (begunAt s) e ∙ started s k h ∙ ap startedBy (filed-past s (content s .files) k (firstFile s) (files-all s h) (by-last (decLt k (length (content s .files)))))
+  where
+    by-last : Dec (k < length (content s .files)) → length (content s .files) ≤ k
+    by-last (yes l) = absurd (past k l (add-one k))
+    by-last (no g) = omega arith

@@ -1,18 +1,21 @@
--- Where a walk over file n begins: at the data of its first section, with the format and lengths that its first HDR2 gives.
+-- The files of a set, one after the other: each by the places of its first HDR1 and HDR2, and the walk at its first record, which stands at the data
+-- of the file's first section and has the format and lengths of that HDR2.
 -- Document 01, "Handing out records": a walk covers one file; beginning it gives the image's own number, then 13.
+-- Read first: `headerFrom`, the next file from a place on; `firstFile` and `nextFile` are that search from the beginning and from a file on.
 use mathlib.Core.Bool.{Bool, true, false, not}
 use mathlib.Core.List.{List, [], _∷_}
-use Prim.Native.Nat.{ℕ, _+_}
+use Prim.Native.Nat.{ℕ, zero, suc, _+_, _-_}
 use lib.Dec.{eqb}
+use lib.ListN.{length, drop}
 use Rattle.base.specs.If.{ifB}
 use Rattle.base.specs.Answer.{verdict}
-use Rattle.image.specs.Item.{Item, block, mark, reelEnd, broken}
+use Rattle.image.specs.Item.{Item, block, mark, reelEnd, broken, decode}
 use Rattle.image.specs.Framing.{items}
 use Rattle.order.specs.Kind.{hdr, eov, eof, isKind}
 use Rattle.order.specs.Due.{dueAfter}
 use Rattle.order.specs.declared.Kind.{Kind}
 use Rattle.order.specs.declared.Phase.{Phase}
-use Rattle.order.specs.declared.Phase.the-variants.{Reel}
+use Rattle.order.specs.declared.Phase.the-variants.{Reel, Header}
 use Rattle.order.specs.declared.Due.{Due}
 use Rattle.order.specs.declared.Due.the-variants.{To, Wrong}
 use Rattle.label.specs.Field.{formatOf, recordLengthOf, offsetOf}
@@ -23,8 +26,9 @@ use Rattle.content.specs.Section.{placeBehind}
 use Rattle.content.specs.declared.Walk.{Walk}
 use Rattle.content.specs.declared.Begun.{Begun}
 use Rattle.content.specs.declared.Begun.the-variants.{At, Refused}
-use Rattle.content.specs.declared.unit.Place.{Place}
-use Rattle.content.specs.declared.unit.Place.the-variants.{At as Started, Nowhere}
+use Rattle.content.specs.declared.FileAt.{FileAt}
+use Rattle.content.specs.declared.NextFile.{NextFile}
+use Rattle.content.specs.declared.NextFile.the-variants.{At as There, Nowhere}
 
 -- the place behind the mark that ends a group of labels
 unfoldable pub markFrom : ℕ → List Item → ℕ
@@ -53,31 +57,51 @@ beginsFile goesOn k = ifB (isKind k (hdr 2)) (not goesOn) false
 unfoldable pub goesOnBehind : Bool → Kind → Bool
 goesOnBehind goesOn k = ifB (isKind k (eov 1)) true (ifB (isKind k (eof 1)) false goesOn)
 
--- the files begun
-unfoldable pub filesBehind : ℕ → Bool → Kind → ℕ
-filesBehind files goesOn k = ifB (beginsFile goesOn k) (files + 1) files
+-- the place of the last HDR1, behind an item whose bytes begin at `start`
+unfoldable pub firstBehind : ℕ → ℕ → Kind → ℕ
+firstBehind first start k = ifB (isKind k (hdr 1)) start first
 
-unfoldable pub onward : Due → (Phase → Place) → Place
+unfoldable pub onward : Due → (Phase → NextFile) → NextFile
 onward (To q) rest = rest q
 onward Wrong rest = Nowhere
 
--- an item begins file n, with so many begun before it
-unfoldable pub isStart : ℕ → ℕ → Bool → Kind → Bool
-isStart n files goesOn k = ifB (beginsFile goesOn k) (eqb (files + 1) n) false
-
--- the walk over file n, of what stands from a place on, with so many files begun before it
-unfoldable pub fileFrom : ℕ → ℕ → Bool → Phase → ℕ → List Item → Place
-fileFrom n files goesOn p at [] = Nowhere
-fileFrom n files goesOn p at (x ∷ xs) =
-    ifB (isStart n files goesOn (kindIn p x)) (Started (walkFrom (bytesIn x) (markFrom (placeBehind at x) xs)))
+-- the next file to begin from a place on, with the last HDR1 at `first`; what is not due there ends the search
+unfoldable pub headerFrom : Bool → Phase → ℕ → ℕ → List Item → NextFile
+headerFrom goesOn p first at [] = Nowhere
+headerFrom goesOn p first at (x ∷ xs) =
+    ifB (beginsFile goesOn (kindIn p x))
+    (There (record { first = first; second = at + 3; walk = walkFrom (bytesIn x) (markFrom (placeBehind at x) xs) }))
     (onward (dueAfter p (kindIn p x))
-    (λ q. fileFrom n (filesBehind files goesOn (kindIn p x)) (goesOnBehind goesOn (kindIn p x)) q (placeBehind at x) xs))
+    (λ q. headerFrom (goesOnBehind goesOn (kindIn p x)) q (firstBehind first (at + 3) (kindIn p x)) (placeBehind at x) xs))
 
-unfoldable pub begunBy : Place → Begun
-begunBy (Started w) = At w
+-- the first file; no HDR1 yet is a place past the end
+unfoldable pub firstFile : List ℕ → NextFile
+firstFile s = headerFrom false Reel (length s) 5 (items s)
+
+-- the file behind one, from behind that file's HDR2 on
+unfoldable pub nextFile : List ℕ → FileAt → NextFile
+nextFile s f = headerFrom false (Header 2) (f .first) (f .second + 80) (decode (drop (f .second + 80) s))
+
+-- ---- files by their numbers
+
+-- what is found from a file on, where there is one
+unfoldable pub fromFile : NextFile → (FileAt → NextFile) → NextFile
+fromFile (There f) rest = rest f
+fromFile Nowhere rest = Nowhere
+
+-- the file k files behind one
+unfoldable pub filesOn : List ℕ → ℕ → FileAt → NextFile
+filesOn s zero f = There f
+filesOn s (suc k) f = fromFile (nextFile s f) (λ g. filesOn s k g)
+
+-- file n, from 1
+unfoldable pub fileNumbered : List ℕ → ℕ → NextFile
+fileNumbered s n = ifB (eqb n 0) Nowhere (fromFile (firstFile s) (λ f. filesOn s (n - 1) f))
+
+unfoldable pub begunBy : NextFile → Begun
+begunBy (There f) = At (f .walk)
 begunBy Nowhere = Refused (verdict 13 0 0)
 
 -- the walk at the first record of file n
 unfoldable pub begunAt : List ℕ → ℕ → Begun
-begunAt s n =
-    ifB (eqb (imageVerdict s .number) 0) (begunBy (fileFrom n 0 false Reel 5 (items s))) (Refused (imageVerdict s))
+begunAt s n = ifB (eqb (imageVerdict s .number) 0) (begunBy (fileNumbered s n)) (Refused (imageVerdict s))

@@ -1,15 +1,19 @@
--- What a walk hands out, record by record, and where the walks over the files of a set begin.
+-- What a walk hands out, record by record, and what going from file to file meets.
 use mathlib.Core.Path.{_≡_}
 use mathlib.Core.List.{List, [], _∷_}
-use Prim.Native.Nat.{ℕ, _+_}
+use Prim.Native.Nat.{ℕ, _+_, _≤_}
 use lib.ListN.{length}
 use Rattle.base.specs.Part.{part}
-use Rattle.volume.specs.Meaning.{File}
+use Rattle.volume.specs.Meaning.{File, fieldsFrom}
 use Rattle.content.specs.Walk.{Rest, ends, fails, Record, whole, split, nothing, recordAt, stepAt, joinAt}
+use Rattle.content.specs.File.{nextFile}
 use Rattle.content.specs.Found.{foundBy, partOf}
 use Rattle.content.specs.declared.Walk.{Walk}
 use Rattle.content.specs.declared.Step.{Step}
 use Rattle.content.specs.declared.Step.the-variants.{InImage, Joined, Refused}
+use Rattle.content.specs.declared.FileAt.{FileAt}
+use Rattle.content.specs.declared.NextFile.{NextFile}
+use Rattle.content.specs.declared.NextFile.the-variants.{At as There, Nowhere as NoFile}
 use Rattle.content.specs.declared.unit.Place.{Place}
 use Rattle.content.specs.declared.unit.Place.the-variants.{At, Nowhere}
 
@@ -24,11 +28,17 @@ abbrev pub Walks : List ℕ → Walk → List (List ℕ) → Type 0
 Walks s w [] = handed s (recordAt s w) ≡ fails
 Walks s w (r ∷ rs) = (v : Walk) × (handed s (recordAt s w) ≡ ends r v) × Walks s v rs
 
--- of the files that begin behind so many others, the one of number n is walked from that place; there is none where no file has that number
-abbrev pub Begins : List ℕ → ℕ → ℕ → List File → Place → Type 0
-Begins s n files [] p = p ≡ Nowhere
-Begins s n files (d ∷ ds) p =
-    (files + 1 ≡ n → (w : Walk) × (p ≡ At w) × Walks s w (d .records)) × ((files + 1 ≡ n → ⊥) → Begins s n (files + 1) ds p)
+-- a file of the meaning where it stands: its first HDR1 and HDR2 lie within the image and have its fields, and the walk hands out its records
+pub record FileIs (s : List ℕ) (f : FileAt) (d : File) : Type 0 where
+  pub firstWithin : f .first + 80 ≤ length s
+  pub secondWithin : f .second + 80 ≤ length s
+  pub fields : d .fields ≡ fieldsFrom (part (f .first) 80 s) (part (f .second) 80 s)
+  pub walks : Walks s (f .walk) (d .records)
+
+-- going from file to file meets exactly these, and none behind the last
+abbrev pub Filed : List ℕ → NextFile → List File → Type 0
+Filed s x [] = x ≡ NoFile
+Filed s x (d ∷ ds) = (f : FileAt) × (x ≡ There f) × FileIs s f d × Filed s (nextFile s f) ds
 
 -- the walk behind a step
 unfoldable pub stepped : Step → Place

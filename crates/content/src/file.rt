@@ -1,17 +1,17 @@
-// Where the walk over a file begins. It knows labels by their kinds, and of HDR2 the format and the lengths.
+// The files of a set, one after the other. It knows labels by their kinds, and of HDR2 the format and the lengths.
 ghost use mathlib.Core.Path.{_≡_};
 ghost use mathlib.Core.Bool.{false};
-ghost use Prim.Native.Nat.{_+_, _<_, _≤_};
+ghost use Prim.Native.Nat.{_+_, _≤_};
 ghost use lib.ListN.{length, drop};
 ghost use Rattle.base.specs.Part.{part};
 ghost use Rattle.image.specs.Item.{decode};
-ghost use Rattle.image.specs.Framing.{mostImage, items};
 ghost use Rattle.volume.specs.Fault.{valueOf};
-ghost use Rattle.content.specs.File.{markFrom, walkFrom, beginsFile, goesOnBehind, filesBehind, isStart, fileFrom};
+ghost use Rattle.content.specs.File.{markFrom, walkFrom, beginsFile, goesOnBehind, firstBehind, headerFrom, firstFile, nextFile, filesOn, fileNumbered};
+use crate::FileAt;
+use crate::NextFile;
 use crate::Walk;
 use crate::section::Seen;
 use crate::section::seen_at;
-use crate::unit::Place;
 use base::part_of;
 use charset::Number;
 use image::Shape;
@@ -100,54 +100,98 @@ fn begins_file(ongoing: bool, k: Kind) -> bool
     false
 }
 
-// The files begun.
-fn files_behind(files: u64, ongoing: bool, k: Kind) -> u64
-    requires { ⌜ files < 4294967296 ⌝ }
-    ensures { λ r. ⌜ r ≡ filesBehind files ongoing k ⌝ }
+// The place of the last HDR1, behind an item whose bytes begin at `start`.
+fn first_behind(first: usize, start: usize, k: Kind) -> usize
+    ensures { λ r. ⌜ r ≡ firstBehind first start k ⌝ }
 {
-    if begins_file(ongoing, k) {
-        return files + 1;
+    if is(k, HDR, 1) {
+        return start;
     }
-    files
+    first
 }
 
-// Whether an item begins file n.
-fn is_start(n: u64, files: u64, ongoing: bool, k: Kind) -> bool
-    requires { ⌜ files < 4294967296 ⌝ }
-    ensures { λ r. ⌜ r ≡ isStart n files ongoing k ⌝ }
+// The next file to begin from a place between two items on, with the last HDR1 at `header`.
+fn header_from(image: &[u8], due: Phase, header: usize, from: usize) -> NextFile
+    ensures { λ r. ⌜ r ≡ headerFrom false due header from (decode (drop from (now (image .entry)))) ⌝ }
 {
-    if begins_file(ongoing, k) {
-        return files + 1 == n;
-    }
-    false
-}
-
-// The walk over file n.
-pub(crate) fn file_start(image: &[u8], n: u64) -> Place
-    requires { ⌜ length (now image) ≤ mostImage ⌝ }
-    ensures { λ r. ⌜ r ≡ fileFrom n 0 false Phase.Reel 5 (items (now (image .entry))) ⌝ }
-{
-    let mut phase = Phase::Reel;
-    let mut at: usize = 5;
-    let mut files: u64 = 0;
+    let mut phase = due;
+    let mut first = header;
+    let mut at = from;
     let mut ongoing = false;
     loop {
         match seen_at(image, phase, at) {
-            Seen::Nothing => return Place::Nowhere,
+            Seen::Nothing => return NextFile::Nowhere,
             Seen::Item(k, len) => {
-                if is_start(n, files, ongoing, k) {
-                    return Place::At(walk_at(image, at, len));
+                let start = at + 3;
+                if begins_file(ongoing, k) {
+                    return NextFile::At(FileAt {
+                        first,
+                        second: start,
+                        walk: walk_at(image, at, len),
+                    });
                 }
                 match due_after(phase, k) {
-                    Due::Wrong => return Place::Nowhere,
+                    Due::Wrong => return NextFile::Nowhere,
                     Due::To(p) => {
-                        files = files_behind(files, ongoing, k);
+                        first = first_behind(first, start, k);
                         ongoing = goes_on_behind(ongoing, k);
                         phase = p;
-                        at = at + 3 + len;
+                        at = start + len;
                     }
                 }
             }
         }
+    }
+}
+
+// The first file of an image, whatever its bytes.
+pub fn first_file(image: &[u8]) -> NextFile
+    ensures { λ r. ⌜ r ≡ firstFile (now (image .entry)) ⌝ }
+{
+    header_from(image, Phase::Reel, image.len(), 5)
+}
+
+// The file behind one, be its places right or forged. Nothing stands behind an HDR2 that runs past the image.
+pub fn next_file(image: &[u8], f: FileAt) -> NextFile
+    ensures { λ r. ⌜ r ≡ nextFile (now (image .entry)) f ⌝ }
+{
+    let second = f.second;
+    if image.len() < second {
+        return NextFile::Nowhere;
+    }
+    if image.len() - second < 80 {
+        return NextFile::Nowhere;
+    }
+    header_from(image, Phase::Header(2), f.first, second + 80)
+}
+
+// The file so many files behind one.
+fn files_on(image: &[u8], from: FileAt, files: u64) -> NextFile
+    ensures { λ r. ⌜ r ≡ filesOn (now (image .entry)) files from ⌝ }
+{
+    let mut left = files;
+    let mut f = from;
+    while 0 < left {
+        match next_file(image, f) {
+            NextFile::Nowhere => return NextFile::Nowhere,
+            NextFile::At(g) => {
+                left -= 1;
+                f = g;
+            }
+        }
+    }
+    NextFile::At(f)
+}
+
+// File n, from 1.
+pub(crate) fn file_numbered(image: &[u8], n: u64) -> NextFile
+    ensures { λ r. ⌜ r ≡ fileNumbered (now (image .entry)) n ⌝ }
+{
+    if n == 0 {
+        return NextFile::Nowhere;
+    }
+    match first_file(image) {
+        NextFile::Nowhere => NextFile::Nowhere,
+        NextFile::At(f) => files_on(image, f, n - 1),
     }
 }

@@ -1,7 +1,7 @@
 // Records handed out: by number, and by a walk over one file. It knows where a record stands and how its segments are joined; what is right in a
 // set it leaves to the layers below.
 mod counting; // counting.rt: how many records, and how long
-mod file; // file.rt: where the walk over a file begins
+mod file; // file.rt: the files of a set, one after the other
 mod join; // join.rt: segments joined in a buffer
 mod measuring; // measuring.rt: the record at a place, by its numbers
 mod section; // section.rt: the next data block of a file
@@ -10,6 +10,8 @@ mod unit; // unit.rt: the next unit of a file
 
 pub use counting::Facts;
 pub use counting::file_facts;
+pub use file::first_file;
+pub use file::next_file;
 pub use measuring::Measured;
 pub use measuring::measure;
 pub use segment::first_segment;
@@ -23,7 +25,7 @@ ghost use Rattle.content.specs.File.{begunAt};
 ghost use Rattle.content.specs.Found.{passed, foundBy, foundIn, leftIn, foundFrom, leftFrom, foundAt, leftAt, partOf};
 use base::Verdict;
 use base::part_of;
-use file::file_start;
+use file::file_numbered;
 use join::join_record;
 use unit::Place;
 use volume::check;
@@ -45,6 +47,19 @@ pub enum Step {
     InImage(usize, usize, Walk),
     Joined(usize, Walk),
     Refused(u32),
+}
+
+// A file of a set: the places of the first byte of its first HDR1 and HDR2, and the walk at its first record.
+pub struct FileAt {
+    pub first: usize,
+    pub second: usize,
+    pub walk: Walk,
+}
+
+// The next file from a place on, or none.
+pub enum NextFile {
+    At(FileAt),
+    Nowhere,
 }
 
 // A walk begun, or the refusal.
@@ -100,9 +115,12 @@ pub fn begin(image: &[u8], file: u64) -> Begun
     if v.number != 0 {
         return Begun::Refused(v);
     }
-    match file_start(image, file) {
-        Place::At(w) => Begun::At(w),
-        Place::Nowhere => Begun::Refused(answer(13)),
+    match file_numbered(image, file) {
+        NextFile::At(f) => {
+            let w = f.walk;
+            Begun::At(w)
+        }
+        NextFile::Nowhere => Begun::Refused(answer(13)),
     }
 }
 

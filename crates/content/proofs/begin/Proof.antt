@@ -8,11 +8,11 @@ check-requires c κs = search begins
 returns : tie.Need-returns
 returns c = search begins
 
-file-start-requires : tie.Need-file-start-requires
-file-start-requires c κs = search begins
+file-numbered-requires : tie.Need-file-numbered-requires
+file-numbered-requires c κs = search begins
 
-enum-known-w : tie.Need-enum-known-w
-enum-known-w c = search begins
+enum-known-f : tie.Need-enum-known-f
+enum-known-f c = search begins
 
 enum-told : tie.Need-enum-told
 enum-told c = search begins
@@ -32,8 +32,8 @@ begin-spec =
     (tie.spec
     check-requires
     returns
-    file-start-requires
-    enum-known-w
+    file-numbered-requires
+    enum-known-f
     enum-told
     answer-requires
     returns-2

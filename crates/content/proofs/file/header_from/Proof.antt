@@ -1,14 +1,14 @@
 use Prim.Native.Nat.{_-_}
 use lib.ListN.{length}
 use Rattle.content.proofs.Files.{Seeking, seekings}
-use Rattle.content.proofs.file.file_start.Statement.{statement}
-use Rattle.content.proofs.file.file_start.Tie as tie
+use Rattle.content.proofs.file.header_from.Statement.{statement}
+use Rattle.content.proofs.file.header_from.Tie as tie
 
 abbrev Inv-loop : tie.InvT-loop
-Inv-loop image n phase₀ at₀ files₀ ongoing₀ phase at files ongoing = Seeking image n files ongoing phase at
+Inv-loop image header from phase₀ first₀ at₀ ongoing₀ phase first at ongoing = Seeking image phase₀ header from ongoing phase first at
 
 abbrev μ-loop : tie.MeasureT-loop
-μ-loop image n phase₀ at₀ files₀ ongoing₀ phase at files ongoing = length image - at
+μ-loop image header from phase₀ first₀ at₀ ongoing₀ phase first at ongoing = length image - at
 
 loop-holds : tie.Need-loop-holds Inv-loop μ-loop
 loop-holds c = search seekings
@@ -25,8 +25,11 @@ returns c = search seekings
 enum-known-k : tie.Need-enum-known-k Inv-loop μ-loop
 enum-known-k c = search seekings
 
-is-start-requires : tie.Need-is-start-requires Inv-loop μ-loop
-is-start-requires c κs = search seekings
+add-start : tie.Need-add-start Inv-loop μ-loop
+add-start c = search seekings
+
+begins-file-requires : tie.Need-begins-file-requires Inv-loop μ-loop
+begins-file-requires c κs = search seekings
 
 walk-at-requires : tie.Need-walk-at-requires Inv-loop μ-loop
 walk-at-requires c κs = search seekings
@@ -46,8 +49,8 @@ returns-3 c = search seekings
 enum-known-p : tie.Need-enum-known-p Inv-loop μ-loop
 enum-known-p c = search seekings
 
-files-behind-requires : tie.Need-files-behind-requires Inv-loop μ-loop
-files-behind-requires c κs = search seekings
+first-behind-requires : tie.Need-first-behind-requires Inv-loop μ-loop
+first-behind-requires c κs = search seekings
 
 goes-on-behind-requires : tie.Need-goes-on-behind-requires Inv-loop μ-loop
 goes-on-behind-requires c κs = search seekings
@@ -55,17 +58,14 @@ goes-on-behind-requires c κs = search seekings
 add-at : tie.Need-add-at Inv-loop μ-loop
 add-at c = search seekings
 
-add-at-2 : tie.Need-add-at-2 Inv-loop μ-loop
-add-at-2 c = search seekings
-
 loop-less : tie.Need-loop-less Inv-loop μ-loop
 loop-less c = search seekings
 
 loop-again : tie.Need-loop-again Inv-loop μ-loop
 loop-again c = search seekings
 
-pub file-start-spec : {M : Type 1} → statement M
-file-start-spec =
+pub header-from-spec : {M : Type 1} → statement M
+header-from-spec =
     tie.close
     (tie.spec
     Inv-loop
@@ -75,16 +75,16 @@ file-start-spec =
     enum-told
     returns
     enum-known-k
-    is-start-requires
+    add-start
+    begins-file-requires
     walk-at-requires
     returns-2
     due-after-requires
     enum-told-2
     returns-3
     enum-known-p
-    files-behind-requires
+    first-behind-requires
     goes-on-behind-requires
     add-at
-    add-at-2
     loop-less
     loop-again)
