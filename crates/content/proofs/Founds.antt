@@ -42,7 +42,7 @@ begun-by s n v x e h k =
     ap begunBy k ∙ sym (if-true _ _ _ (eq-eqb (imageVerdict s .number) 0 (ap (λ (x : Verdict). x .number) (sym e) ∙ h)))
 
 pub begin-at : (s : List ℕ) (n : ℕ) (v : Verdict) (x : NextFile) (f : FileAt) → v ≡ imageVerdict s → v .number ≡ 0 → x ≡ fileNumbered s n → x ≡ Next f
-    → At (f .walk) ≡ begunAt s n
+    → At f ≡ begunAt s n
 unfolding begunBy
 begin-at s n v x f e h k q = ap begunBy (sym q) ∙ begun-by s n v x e h k
 
@@ -140,27 +140,27 @@ pub from-no : (s : List ℕ) (r room : ℕ) (b : Begun) (v : Verdict) → b ≡ 
 unfolding foundFrom
 from-no s r room b v e = sym (ap (foundFrom s r room) e)
 
-pub from-zero : (s : List ℕ) (r room : ℕ) (b : Begun) (w : Walk) (a : Verdict) → b ≡ At w → r ≡ 0 → a ≡ verdict 13 0 0 → No a ≡ foundFrom s r room b
+pub from-zero : (s : List ℕ) (r room : ℕ) (b : Begun) (g : FileAt) (a : Verdict) → b ≡ At g → r ≡ 0 → a ≡ verdict 13 0 0 → No a ≡ foundFrom s r room b
 unfolding foundFrom
-from-zero s r room b w a e z h = ap No h ∙ sym (ap (foundFrom s r room) e ∙ if-true _ _ _ (eq-eqb r 0 z))
+from-zero s r room b g a e z h = ap No h ∙ sym (ap (foundFrom s r room) e ∙ if-true _ _ _ (eq-eqb r 0 z))
 
-pub from-at : (s : List ℕ) (r room : ℕ) (b : Begun) (w : Walk) (p : Place) (f : Found) → b ≡ At w → (r ≡ 0 → ⊥) → p ≡ passed s (r - 1) w → f ≡ foundIn s room p
+pub from-at : (s : List ℕ) (r room : ℕ) (b : Begun) (g : FileAt) (p : Place) (f : Found) → b ≡ At g → (r ≡ 0 → ⊥) → p ≡ passed s (r - 1) (g .walk) → f ≡ foundIn s room p
     → f ≡ foundFrom s r room b
 unfolding foundFrom
-from-at s r room b w p f e z h k = k ∙ ap (foundIn s room) h ∙ sym (ap (foundFrom s r room) e ∙ if-false _ _ _ (ne-eqb r 0 z))
+from-at s r room b g p f e z h k = k ∙ ap (foundIn s room) h ∙ sym (ap (foundFrom s r room) e ∙ if-false _ _ _ (ne-eqb r 0 z))
 
 pub kept-no : (s old : List ℕ) (r : ℕ) (b : Begun) (v : Verdict) → b ≡ NotBegun v → old ≡ leftFrom s r old b
 unfolding leftFrom
 kept-no s old r b v e = sym (ap (leftFrom s r old) e)
 
-pub kept-zero : (s old : List ℕ) (r : ℕ) (b : Begun) (w : Walk) → b ≡ At w → r ≡ 0 → old ≡ leftFrom s r old b
+pub kept-zero : (s old : List ℕ) (r : ℕ) (b : Begun) (g : FileAt) → b ≡ At g → r ≡ 0 → old ≡ leftFrom s r old b
 unfolding leftFrom
-kept-zero s old r b w e z = sym (ap (leftFrom s r old) e ∙ if-true _ _ _ (eq-eqb r 0 z))
+kept-zero s old r b g e z = sym (ap (leftFrom s r old) e ∙ if-true _ _ _ (eq-eqb r 0 z))
 
-pub left-from : (s old new : List ℕ) (r : ℕ) (b : Begun) (w : Walk) (p : Place) → b ≡ At w → (r ≡ 0 → ⊥) → p ≡ passed s (r - 1) w → new ≡ leftIn s old p
+pub left-from : (s old new : List ℕ) (r : ℕ) (b : Begun) (g : FileAt) (p : Place) → b ≡ At g → (r ≡ 0 → ⊥) → p ≡ passed s (r - 1) (g .walk) → new ≡ leftIn s old p
     → new ≡ leftFrom s r old b
 unfolding leftFrom
-left-from s old new r b w p e z h k = k ∙ ap (leftIn s old) h ∙ sym (ap (leftFrom s r old) e ∙ if-false _ _ _ (ne-eqb r 0 z))
+left-from s old new r b g p e z h k = k ∙ ap (leftIn s old) h ∙ sym (ap (leftFrom s r old) e ∙ if-false _ _ _ (ne-eqb r 0 z))
 
 pub found-at : (s : List ℕ) (n r room : ℕ) (b : Begun) (f : Found) → b ≡ begunAt s n → f ≡ foundFrom s r room b → f ≡ foundAt s n r room
 unfolding foundAt

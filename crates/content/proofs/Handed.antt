@@ -111,8 +111,9 @@ pub record-asked : (s old : List ℕ) (ds : List File) (d : File) (es : List Fil
     → partOf s (leftAt s (length ds + 1) (length rs + 1) old) (foundAt s (length ds + 1) (length rs + 1) (length old)) ≡ r
 unfolding foundAt leftAt foundFrom leftFrom foundIn leftIn
 record-asked s old ds d es rs r ts h e q fits =
-    let (w, at, walks) = walk-records s ds d es h e in
-    let (v, there, (u, is, _)) = passed-walks s w rs (r ∷ ts) (subst (Walks s w) q walks) in
+    let (f, at, is-file) = walk-records s ds d es h e in
+    let w : Walk = f .walk in
+    let (v, there, (u, is, _)) = passed-walks s w rs (r ∷ ts) (subst (Walks s w) q (is-file .walks)) in
     let n : ℕ = length rs + 1 in
     let other : n ≡ 0 → ⊥ = λ z. omega arith in
     let k : n - 1 ≡ length rs = omega arith in
@@ -128,9 +129,9 @@ pub record-none : (s old : List ℕ) (ds : List File) (d : File) (es : List File
     → length (d .records) < n → (foundAt s (length ds + 1) n (length old) ≡ No (verdict 13 0 0)) × (leftAt s (length ds + 1) n old ≡ old)
 unfolding foundAt leftAt foundFrom leftFrom
 record-none s old ds d es n h e past =
-    let (w, at, walks) = walk-records s ds d es h e in
+    let (f, at, is-file) = walk-records s ds d es h e in
     let other : n ≡ 0 → ⊥ = λ z. omega arith in
-    let both = past-last s old w (d .records) (n - 1) walks (omega arith) in (
+    let both = past-last s old (f .walk) (d .records) (n - 1) (is-file .walks) (omega arith) in (
       ap (foundFrom s n (length old)) at ∙ if-false _ _ _ (ne-eqb n 0 other) ∙ both .0,
       ap (leftFrom s n old) at ∙ if-false _ _ _ (ne-eqb n 0 other) ∙ both .1,
     )

@@ -50,10 +50,10 @@ found-kept s old Nowhere v h = refl
 from-kept : (s old : List ℕ) (r : ℕ) (b : Begun) (v : Verdict) → foundFrom s r (length old) b ≡ No v → leftFrom s r old b ≡ old
 unfolding foundFrom leftFrom
 from-kept s old r (NotBegun a) v = λ _. refl
-from-kept s old r (At w) v =
-    if-case (λ (f : Found). f ≡ No v → leftFrom s r old (At w) ≡ old) (eqb r 0) _ _
+from-kept s old r (At f) v =
+    if-case (λ (x : Found). x ≡ No v → leftFrom s r old (At f) ≡ old) (eqb r 0) _ _
     (λ zero _. if-true _ _ _ zero)
-    (λ some h. if-false _ _ _ some ∙ found-kept s old (passed s (r - 1) w) v h)
+    (λ some h. if-false _ _ _ some ∙ found-kept s old (passed s (r - 1) (f .walk)) v h)
 
 -- a record asked by number that is refused
 pub record-kept : (s old : List ℕ) (n r : ℕ) (v : Verdict) → foundAt s n r (length old) ≡ No v → leftAt s n r old ≡ old

@@ -527,13 +527,14 @@ started s k h =
     if-true _ _ _ (eq-eqb (imageVerdict s .number) 0 h)
     ∙ ap startedBy (if-false _ _ _ (ne-eqb (k + 1) 0 (λ z. omega arith)) ∙ ap (λ (j : ℕ). fromFile (firstFile s) (λ f. filesOn s j f)) e)
 
--- On an accepted image, the walk over each file begins, and hands out exactly the file's records of the meaning, in order, and then 13.
+-- On an accepted image, each file is found by its number, with its fields of the meaning, and the walk over it hands out exactly its records, in
+-- order, and then 13.
 pub walk-records : (s : List ℕ) (ds : List File) (d : File) (es : List File) → imageVerdict s .number ≡ 0 → content s .files ≡ ds ++ (d ∷ es)
-    → (w : Walk) × (begunAt s (length ds + 1) ≡ Started w) × Walks s w (d .records)
+    → (f : FileAt) × (begunAt s (length ds + 1) ≡ Started f) × FileIs s f d
 unfolding startedBy
 walk-records s ds d es h e =
     let (f, at, is) = filed-at s ds d es (firstFile s) (subst (Filed s (firstFile s)) e (files-all s h)) in
-    (f .walk, started s (length ds) h ∙ ap startedBy at, is .walks)
+    (f, started s (length ds) h ∙ ap startedBy at, is)
 
 -- file 0 is none
 zeroth : (s : List ℕ) → imageVerdict s .number ≡ 0 → begunAt s 0 ≡ Refused (verdict 13 0 0)

@@ -99,9 +99,9 @@ unfoldable pub fileNumbered : List ℕ → ℕ → NextFile
 fileNumbered s n = ifB (eqb n 0) Nowhere (fromFile (firstFile s) (λ f. filesOn s (n - 1) f))
 
 unfoldable pub begunBy : NextFile → Begun
-begunBy (There f) = At (f .walk)
+begunBy (There f) = At f
 begunBy Nowhere = Refused (verdict 13 0 0)
 
--- the walk at the first record of file n
+-- file n, with the walk at its first record
 unfoldable pub begunAt : List ℕ → ℕ → Begun
 begunAt s n = ifB (eqb (imageVerdict s .number) 0) (begunBy (fileNumbered s n)) (Refused (imageVerdict s))

@@ -40,7 +40,7 @@ foundIn s room Nowhere = No (verdict 13 0 0)
 
 -- record r of the file that a walk begins
 unfoldable pub foundFrom : List ℕ → ℕ → ℕ → Begun → Found
-foundFrom s r room (At w) = ifB (eqb r 0) (No (verdict 13 0 0)) (foundIn s room (passed s (r - 1) w))
+foundFrom s r room (At f) = ifB (eqb r 0) (No (verdict 13 0 0)) (foundIn s room (passed s (r - 1) (f .walk)))
 foundFrom s r room (NotBegun v) = No v
 
 unfoldable pub foundAt : List ℕ → ℕ → ℕ → ℕ → Found
@@ -52,7 +52,7 @@ leftIn s old (Behind w) = joinAt s old w
 leftIn s old Nowhere = old
 
 unfoldable pub leftFrom : List ℕ → ℕ → List ℕ → Begun → List ℕ
-leftFrom s r old (At w) = ifB (eqb r 0) old (leftIn s old (passed s (r - 1) w))
+leftFrom s r old (At f) = ifB (eqb r 0) old (leftIn s old (passed s (r - 1) (f .walk)))
 leftFrom s r old (NotBegun v) = old
 
 unfoldable pub leftAt : List ℕ → ℕ → ℕ → List ℕ → List ℕ

@@ -6,6 +6,7 @@ use crate::measuring::Measured;
 use crate::measuring::measure;
 
 // The number of records, and of their bytes.
+#[repr(C)]
 pub struct Facts {
     pub records: u64,
     pub bytes: u64,

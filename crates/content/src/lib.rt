@@ -62,9 +62,9 @@ pub enum NextFile {
     Nowhere,
 }
 
-// A walk begun, or the refusal.
+// A file by its number, with the walk at its first record, or the refusal.
 pub enum Begun {
-    At(Walk),
+    At(FileAt),
     Refused(Verdict),
 }
 
@@ -107,7 +107,7 @@ fn answer(number: u32) -> Verdict
     }
 }
 
-// The walk at the first record of a file, from 1: the image's own number, then 13 where there is no such file.
+// A file by its number, from 1, with the walk at its first record: the image's own number, then 13 where there is no such file.
 pub fn begin(image: &[u8], file: u64) -> Begun
     ensures { λ r. ⌜ r ≡ begunAt (now (image .entry)) file ⌝ }
 {
@@ -116,10 +116,7 @@ pub fn begin(image: &[u8], file: u64) -> Begun
         return Begun::Refused(v);
     }
     match file_numbered(image, file) {
-        NextFile::At(f) => {
-            let w = f.walk;
-            Begun::At(w)
-        }
+        NextFile::At(f) => Begun::At(f),
         NextFile::Nowhere => Begun::Refused(answer(13)),
     }
 }
@@ -175,10 +172,11 @@ fn found_from(image: &[u8], begun: Begun, r: u64, join: &mut [u8]) -> Found
 {
     match begun {
         Begun::Refused(v) => Found::Refused(v),
-        Begun::At(w) => {
+        Begun::At(f) => {
             if r == 0 {
                 return Found::Refused(answer(13));
             }
+            let w = f.walk;
             found_in(image, pass(image, w, r - 1), join)
         }
     }

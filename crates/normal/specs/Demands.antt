@@ -15,8 +15,9 @@ use Rattle.volume.proofs.Accepted.{accepted-iff, refused-first}
 use Rattle.content.specs.Walk.{stepAt, joinAt}
 use Rattle.content.specs.File.{begunAt}
 use Rattle.content.specs.Found.{foundAt, leftAt, partOf}
-use Rattle.content.specs.Walked.{Walks}
+use Rattle.content.specs.Walked.{FileIs}
 use Rattle.content.specs.declared.Walk.{Walk}
+use Rattle.content.specs.declared.FileAt.{FileAt}
 use Rattle.content.specs.declared.Step.the-variants.{Refused as NoStep}
 use Rattle.content.specs.declared.Found.the-variants.{Refused as NotFound}
 use Rattle.content.specs.declared.Begun.the-variants.{At as Begun}
@@ -54,10 +55,10 @@ pub refused-at-the-first : (s : List ℕ) (k i b : ℕ) → framing s .number �
 refused-at-the-first = refused-first
 
 -- "the records handed out are exactly those it holds, in order."
--- Over a file, from the beginning: step after step hands out its records of the meaning, and the step behind the last is 13. By number: the record
+-- Each file of the meaning is found by its number, and step after step of its walk hands out its records, and the step behind the last is 13. By number: the record
 -- that the meaning has there; and 13 past the last. Ruled out: a walk right only in its first step, a record of the file before or behind.
 pub walked-in-order : (s : List ℕ) (ds : List File) (d : File) (es : List File) → imageVerdict s .number ≡ 0 → content s .files ≡ ds ++ (d ∷ es)
-    → (w : Walk) × (begunAt s (length ds + 1) ≡ Begun w) × Walks s w (d .records)
+    → (f : FileAt) × (begunAt s (length ds + 1) ≡ Begun f) × FileIs s f d
 walked-in-order = walk-records
 
 pub asked-by-number : (s old : List ℕ) (ds : List File) (d : File) (es : List File) (rs : List (List ℕ)) (r : List ℕ) (ts : List (List ℕ)) → imageVerdict s .number ≡ 0

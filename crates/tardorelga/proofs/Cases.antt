@@ -5,6 +5,7 @@ use borrow.Author.Needs.{needs}
 use Rattle.base.specs.Answer.{verdict}
 use Rattle.base.specs.declared.Verdict.{Verdict}
 use Rattle.content.specs.declared.Walk.{Walk}
+use Rattle.content.specs.declared.FileAt.{FileAt}
 use Rattle.content.specs.declared.Found.{Found}
 use Rattle.content.specs.declared.Found.the-variants.{InImage, Joined, Refused}
 use Rattle.content.specs.declared.Begun.{Begun}
@@ -31,14 +32,14 @@ pub record-none : (f : Found) (v : Verdict) → f ≡ Refused v → recordWith v
 unfolding recordOf
 record-none f v e = sym (ap recordOf e)
 
-abbrev beginningWith : Verdict → Walk → Beginning
-beginningWith v w = record { verdict = v; walk = w }
+abbrev beginningWith : Verdict → ℕ → ℕ → Walk → Beginning
+beginningWith v first second w = record { verdict = v; first = first; second = second; walk = w }
 
-pub begins : (b : Begun) (w : Walk) (v : Verdict) → b ≡ At w → v ≡ verdict 0 0 0 → beginningWith v w ≡ beginningOf b
+pub begins : (b : Begun) (f : FileAt) (v : Verdict) → b ≡ At f → v ≡ verdict 0 0 0 → beginningWith v (f .first) (f .second) (f .walk) ≡ beginningOf b
 unfolding beginningOf
-begins b w v e h = ap (λ (a : Verdict). beginningWith a w) h ∙ sym (ap beginningOf e)
+begins b f v e h = ap (λ (a : Verdict). beginningWith a (f .first) (f .second) (f .walk)) h ∙ sym (ap beginningOf e)
 
-pub begins-not : (b : Begun) (v : Verdict) → b ≡ NotBegun v → beginningWith v noWalk ≡ beginningOf b
+pub begins-not : (b : Begun) (v : Verdict) → b ≡ NotBegun v → beginningWith v 0 0 noWalk ≡ beginningOf b
 unfolding beginningOf
 begins-not b v e = sym (ap beginningOf e)
 

@@ -22,8 +22,8 @@ abbrev pub noWalk : Walk
 noWalk = record { format = 0; size = 0; offset = 0; at = 0; left = 0 }
 
 unfoldable pub beginningOf : Begun → Beginning
-beginningOf (At w) = record { verdict = verdict 0 0 0; walk = w }
-beginningOf (NotBegun v) = record { verdict = v; walk = noWalk }
+beginningOf (At f) = record { verdict = verdict 0 0 0; first = f .first; second = f .second; walk = f .walk }
+beginningOf (NotBegun v) = record { verdict = v; first = 0; second = 0; walk = noWalk }
 
 -- a step from w; with a refusal the walk is not moved
 unfoldable pub steppedOf : Walk → Step → Stepped

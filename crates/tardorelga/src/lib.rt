@@ -5,6 +5,7 @@ ghost use Rattle.base.specs.Answer.{verdict};
 ghost use Rattle.output.specs.Output.{Answers};
 ghost use Rattle.volume.specs.Run.{imageVerdict};
 ghost use Rattle.content.specs.File.{begunAt};
+ghost use Rattle.content.specs.Records.{recordsAt, factsOf};
 ghost use Rattle.content.specs.Found.{foundAt, leftAt};
 ghost use Rattle.content.specs.Walk.{stepAt, joinAt};
 ghost use Rattle.writer.specs.Write.{write};
@@ -12,10 +13,12 @@ ghost use Rattle.writer.specs.Sets.{flat};
 ghost use Rattle.tardorelga.specs.Numbers.{recordOf, beginningOf, steppedOf};
 use base::Verdict;
 use content::Begun;
+use content::Facts;
 use content::Found;
 use content::Step;
 use content::Walk;
 use content::begin;
+use content::file_facts;
 use content::record;
 use output::Written;
 
@@ -28,10 +31,12 @@ pub struct Record {
     pub len: u64,
 }
 
-// A walk begun; with a refusal it stands nowhere.
+// A file by its number: the places of its first HDR1 and HDR2 in the image, and the walk at its first record; with a refusal it stands nowhere.
 #[repr(C)]
 pub struct Beginning {
     pub verdict: Verdict,
+    pub first: u64,
+    pub second: u64,
     pub walk: Walk,
 }
 
@@ -85,12 +90,19 @@ fn beginning_of(begun: Begun) -> Beginning
     ensures { λ r. ⌜ r ≡ beginningOf begun ⌝ }
 {
     match begun {
-        Begun::At(walk) => Beginning {
-            verdict: done(),
-            walk,
-        },
+        Begun::At(f) => {
+            let walk = f.walk;
+            Beginning {
+                verdict: done(),
+                first: f.first as u64,
+                second: f.second as u64,
+                walk,
+            }
+        }
         Begun::Refused(verdict) => Beginning {
             verdict,
+            first: 0,
+            second: 0,
             walk: Walk {
                 format: 0,
                 size: 0,
@@ -147,12 +159,20 @@ pub extern "C" fn tardorelga_record(image: &[u8], n: u64, r: u64, join: &mut [u8
     record_of(record(image, n, r, join))
 }
 
-// The walk at the first record of file n, from 1.
+// File n, from 1, with the walk at its first record.
 #[no_mangle]
 pub extern "C" fn tardorelga_begin(image: &[u8], n: u64) -> Beginning
     ensures { λ x. ⌜ x ≡ beginningOf (begunAt (now (image .entry)) n) ⌝ }
 {
     beginning_of(begin(image, n))
+}
+
+// How many records, and record bytes, there are from a walk on, whatever its state.
+#[no_mangle]
+pub extern "C" fn tardorelga_count(image: &[u8], walk: Walk) -> Facts
+    ensures { λ x. ⌜ x ≡ factsOf (recordsAt (now (image .entry)) walk) ⌝ }
+{
+    file_facts(image, walk)
 }
 
 // A step of a walk, from any state whatever.
