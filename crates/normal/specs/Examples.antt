@@ -5,8 +5,7 @@ use mathlib.Core.Bool.{Bool, true, false, _&&_, not}
 use mathlib.Core.List.{List, [], _∷_, _++_}
 use mathlib.Core.Option.{Option, none, some}
 use Prim.Native.Nat.{ℕ}
-use Prim.Native.Char.{code}
-use Prim.Native.String.{String, [] as empty, _∷_ as _then_}
+use Prim.Native.String.{String}
 use lib.Dec.{eqb}
 use Rattle.base.specs.If.{ifB}
 use Rattle.base.specs.Format.{F, D, S}
@@ -14,6 +13,7 @@ use Rattle.base.specs.Part.{part, same, allAre}
 use Rattle.base.specs.Digits.{isDigit, allDigits, value, digits}
 use Rattle.charset.specs.Number.{numberIn}
 use Rattle.charset.specs.Date.{isCentury, isYearDay, isDate}
+use Rattle.output.specs.Text.{bytes}
 use Rattle.block.specs.Unit.{fixed, measured, variable, segment, unitOf}
 use Rattle.block.specs.Cut.{Segment, onto, cutOne, cutF, cut, someUnits, units}
 use Rattle.block.specs.Turn.{outcome, isTurn, openAfter, turnsFrom, turned, blockOutcome}
@@ -29,11 +29,6 @@ pub data Example : Type 0 where
   packs : ℕ → ℕ → List String → List String → Example
   -- whether a field is a date
   dates : String → Bool → Example
-
--- the bytes of a text
-bytes : String → List ℕ
-bytes empty = []
-bytes (c then s) = code c ∷ bytes s
 
 texts : List String → List (List ℕ)
 texts [] = []

@@ -83,6 +83,14 @@ wrote-wrote {most = most} o a xs p r ys q s w v =
           ∙ put-put o a xs ys (omega (arith, w .place, v .place));
     }
 
+pub ruleset writes = (wrote-wrote, needs)
+
+-- four of them
+pub wrote-four : {most : ℕ} (o : List ℕ) (a : ℕ) (w p : List ℕ) (r : ℕ) (x q : List ℕ) (s : ℕ) (y t : List ℕ) (u : ℕ) (z v : List ℕ) (b : ℕ)
+    → Wrote most o a w p r → Wrote most p r x q s → Wrote most q s y t u → Wrote most t u z v b → Wrote most o a (w ++ x ++ y ++ z) v b
+wrote-four o a w p r x q s y t u z v b i j k l =
+    wrote-wrote o a (w ++ x ++ y) t u z v b (wrote-wrote o a (w ++ x) q s y t u (wrote-wrote o a w p r x q s i j) k) l
+
 -- the same bytes
 pub wrote-same : {most : ℕ} (o : List ℕ) (a : ℕ) (bs cs p : List ℕ) (r : ℕ) → bs ≡ cs → Wrote most o a bs p r → Wrote most o a cs p r
 wrote-same {most = most} o a bs cs p r e w = subst (λ (s : List ℕ). Wrote most o a s p r) e w

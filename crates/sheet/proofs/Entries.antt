@@ -124,7 +124,7 @@ module _ (f s : List ℕ) (lf : length f ≡ 80) (ls : length s ≡ 80) where
       let z : length (part 4 11 s) ≡ 11 = length-part 4 11 s (omega arith) in
       simp length-append (omega arith)
 
-  entry-name : (a n : ℕ) → a + n ≤ 17 → part a n (fieldsFrom f s) ≡ part (4 + a) n f
+  pub entry-name : (a n : ℕ) → a + n ≤ 17 → part a n (fieldsFrom f s) ≡ part (4 + a) n f
   unfolding fieldsFrom
   entry-name a n h =
       let x : length (part 4 17 f) ≡ 17 = length-name in
@@ -138,7 +138,7 @@ module _ (f s : List ℕ) (lf : length f ≡ 80) (ls : length s ≡ 80) where
       ∙ part-left (part 35 18 f) (part 4 11 s) a n (omega arith)
       ∙ part-part 35 a n 18 f h
 
-  entry-second : (a n : ℕ) → a + n ≤ 11 → part (17 + (18 + a)) n (fieldsFrom f s) ≡ part (4 + a) n s
+  pub entry-second : (a n : ℕ) → a + n ≤ 11 → part (17 + (18 + a)) n (fieldsFrom f s) ≡ part (4 + a) n s
   unfolding fieldsFrom
   entry-second a n h =
       part-right (part 4 17 f) (part 35 18 f ++ part 4 11 s) 17 (18 + a) n length-name

@@ -1,0 +1,217 @@
+-- The lines of the files of an accepted set, one after the other. Assumes nothing.
+use mathlib.Core.Path.{_≡_, refl, sym, ap, ap₂, _∙_, subst}
+use mathlib.Core.Bool.{Bool, true, false, false≢true}
+use mathlib.Core.List.{List, [], _∷_, _++_, append-assoc, append-nil, map}
+use Prim.Native.Nat.{ℕ, zero, suc, _+_, _-_, _≤_, _<_}
+use native.Mathlib.Omega.{arith}
+use borrow.Author.Needs.{needs}
+use mir.Val.{Fits}
+use mir.Syntax.{w64}
+use lib.ListN.{length}
+use Rattle.base.specs.If.{ifB, if-case}
+use Rattle.base.specs.Part.{part}
+use Rattle.base.specs.Digits.{digits}
+use Rattle.base.proofs.Parts.{length-part, put-none}
+use Rattle.output.proofs.Writing.{wrote-wrote, wrote-same}
+use Rattle.image.specs.Item.{Item, decode}
+use Rattle.image.specs.Framing.{items}
+use Rattle.order.specs.declared.Phase.{Phase}
+use Rattle.order.specs.declared.Phase.the-variants.{Reel, Header}
+use Rattle.order.specs.declared.Due.{Due}
+use Rattle.order.specs.declared.Due.the-variants.{To, Wrong}
+use Rattle.order.specs.Due.{dueAfter}
+use Rattle.volume.specs.Step.{kindIn, bytesIn}
+use Rattle.volume.specs.Run.{imageVerdict}
+use Rattle.volume.specs.Meaning.{File, Meaning, content}
+use Rattle.sheet.specs.Flat.{sum}
+use Rattle.sheet.proofs.Entries.{entry-name, entry-second}
+use Rattle.content.specs.Section.{placeBehind}
+use Rattle.content.specs.File.{headerFrom, beginsFile, goesOnBehind, firstBehind, onward, firstFile, nextFile}
+use Rattle.content.specs.Records.{recordsAt, factsOf}
+use Rattle.content.specs.Walked.{Walks, FileIs, Filed}
+use Rattle.content.specs.declared.Walk.{Walk}
+use Rattle.content.specs.declared.counting.Facts.{Facts}
+use Rattle.content.specs.declared.FileAt.{FileAt}
+use Rattle.content.specs.declared.NextFile.{NextFile}
+use Rattle.content.specs.declared.NextFile.the-variants.{At, Nowhere}
+use Rattle.content.proofs.Records.{walks-records}
+use Rattle.content.proofs.Walked.{files-all}
+use Rattle.listing.specs.Page.{Wrote, endless}
+use Rattle.listing.specs.Text.{heading, named, counted, described, line, lines, listingOf}
+use Rattle.listing.specs.Place.{describedAt, lineAt}
+
+-- ---- a line
+
+-- what is said of a file, by the parts of the image that the code cuts out
+pub described-written : (s : List ℕ) (f : FileAt) (first second i g : List ℕ) (x : Facts) (o : List ℕ) (a : ℕ) (p : List ℕ) (r : ℕ) (q : List ℕ) (t : ℕ)
+    → first ≡ part (f .first) 80 s → second ≡ part (f .second) 80 s → i ≡ part 4 17 first → g ≡ part 4 1 second → x ≡ factsOf (recordsAt s (f .walk))
+    → Wrote o a (named i g) p r → Wrote p r (counted (x .records) (x .bytes)) q t → Wrote o a (describedAt s f) q t
+unfolding describedAt
+described-written s f first second i g x o a p r q t ef es ei eg ex w v =
+    wrote-same o a (named i g ++ counted (x .records) (x .bytes)) (describedAt s f) q t
+    (ap₂ (λ (y z : List ℕ). y ++ z)
+    (ap₂ named (ei ∙ ap (part 4 17) ef) (eg ∙ ap (part 4 1) es))
+    (ap (λ (y : Facts). counted (y .records) (y .bytes)) ex))
+    (wrote-wrote o a (named i g) p r (counted (x .records) (x .bytes)) q t w v)
+
+pub line-written : (s : List ℕ) (f : FileAt) (n : ℕ) (d o : List ℕ) (a : ℕ) (p : List ℕ) (r : ℕ) (q : List ℕ) (t : ℕ)
+    → d ≡ digits 4 n → Wrote o a d p r → Wrote p r (describedAt s f) q t → Wrote o a (lineAt s n f) q t
+unfolding lineAt
+line-written s f n d o a p r q t e w v =
+    wrote-same o a (d ++ describedAt s f) (lineAt s n f) q t (ap (λ (y : List ℕ). y ++ describedAt s f) e)
+    (wrote-wrote o a d p r (describedAt s f) q t w v)
+
+pub ruleset describing = (described-written, line-written, needs)
+
+-- where a file of the meaning stands, its line is found
+line-is : (s : List ℕ) (n : ℕ) (f : FileAt) (d : File) → FileIs s f d → lineAt s n f ≡ line n d
+unfolding lineAt line described describedAt factsOf
+line-is s n f d c =
+    let first : length (part (f .first) 80 s) ≡ 80 = length-part (f .first) 80 s (c .firstWithin) in
+    let second : length (part (f .second) 80 s) ≡ 80 = length-part (f .second) 80 s (c .secondWithin) in
+    let name : part 4 17 (part (f .first) 80 s) ≡ part 0 17 (d .fields)
+    = sym (ap (part 0 17) (c .fields) ∙ entry-name (part (f .first) 80 s) (part (f .second) 80 s) first second 0 17 (omega arith)) in
+    let format : part 4 1 (part (f .second) 80 s) ≡ part 35 1 (d .fields)
+    = sym (ap (part 35 1) (c .fields) ∙ entry-second (part (f .first) 80 s) (part (f .second) 80 s) first second 0 1 (omega arith)) in
+    let all : recordsAt s (f .walk) ≡ d .records = walks-records s (f .walk) (d .records) (c .walks) in
+    ap (λ (l : List ℕ). digits 4 n ++ l)
+    (ap₂ (λ (y z : List ℕ). y ++ z) (ap₂ named name format) (ap (λ (rs : List (List ℕ)). counted (length rs) (sum (map length rs))) all))
+
+-- ---- from file to file
+
+-- a file stands no earlier than at a place
+abbrev pub Behind : ℕ → NextFile → Type 0
+Behind at (At f) = at ≤ f .second
+Behind at Nowhere = 0 ≤ at
+
+behind-less : (a b : ℕ) (x : NextFile) → a ≤ b → Behind b x → Behind a x
+behind-less a b (At f) h c = omega arith
+behind-less a b Nowhere h c = omega arith
+
+onward-behind : (at : ℕ) (d : Due) (rest : Phase → NextFile) → ((q : Phase) → Behind at (rest q)) → Behind at (onward d rest)
+unfolding onward
+onward-behind at (To q) rest h = h q
+onward-behind at Wrong rest h = omega arith
+
+-- what is found from a place on stands behind it
+header-behind : (g : Bool) (p : Phase) (first at : ℕ) (xs : List Item) → Behind at (headerFrom g p first at xs)
+unfolding headerFrom placeBehind
+header-behind g p first at [] = omega arith
+header-behind g p first at (x ∷ xs) =
+    if-case (Behind at) (beginsFile g (kindIn p x)) _ _ (λ _. omega arith)
+    (λ _. onward-behind at (dueAfter p (kindIn p x)) _
+    (λ q.
+    behind-less at (at + 3 + length (bytesIn x)) (headerFrom (goesOnBehind g (kindIn p x)) q (firstBehind first (at + 3) (kindIn p x)) (at + 3 + length (bytesIn x)) xs)
+    (omega arith) (header-behind (goesOnBehind g (kindIn p x)) q (firstBehind first (at + 3) (kindIn p x)) (at + 3 + length (bytesIn x)) xs)))
+
+-- ---- the loop of `put_listing`: the lines written, then those of the files that are left
+
+pub record Lining (s o : List ℕ) (a : ℕ) (p : List ℕ) (r n : ℕ) (x : NextFile) : Type 0 where
+  pub before : List ℕ
+  pub rest : List File
+  pub filed : Filed s x rest
+  pub wrote : Wrote o a before p r
+  pub whole : before ++ lines n rest ≡ lines 1 (content s .files)
+  pub number : Behind (n + 1) x
+
+-- nothing is written yet
+wrote-none : (o : List ℕ) (a : ℕ) → a ≤ endless → Wrote o a [] o a
+wrote-none o a h = record { kept = refl; place = omega arith; done = λ _ _. sym (put-none o a) }
+
+pub lining-none : (s o p : List ℕ) (r : ℕ) (x : NextFile) → imageVerdict s .number ≡ 0 → x ≡ firstFile s → Wrote o 0 heading p r → Lining s p r p r 1 x
+unfolding firstFile
+lining-none s o p r x h e w =
+    record {
+      before = [];
+      rest = content s .files;
+      filed = subst (λ (y : NextFile). Filed s y (content s .files)) (sym e) (files-all s h);
+      wrote = wrote-none p r (omega (arith, w .place));
+      whole = refl;
+      number = subst (Behind 2) (sym e) (behind-less 2 5 (firstFile s) (omega arith) (header-behind false Reel (length s) 5 (items s)));
+    }
+
+-- what the search for the next file found
+isFile : NextFile → Bool
+isFile (At f) = true
+isFile Nowhere = false
+
+fileIn : FileAt → NextFile → FileAt
+fileIn f (At g) = g
+fileIn f Nowhere = f
+
+-- of the files left the first stands at f
+pub record Next (s : List ℕ) (n : ℕ) (f : FileAt) (rest : List File) : Type 0 where
+  pub file : File
+  pub others : List File
+  pub is : FileIs s f file
+  pub filed : Filed s (nextFile s f) others
+  pub lined : lines n rest ≡ lineAt s n f ++ lines (n + 1) others
+
+next-file : (s : List ℕ) (n : ℕ) (x : NextFile) (f : FileAt) (ds : List File) → Filed s x ds → x ≡ At f → Next s n f ds
+unfolding isFile fileIn lines
+next-file s n x f [] c e = absurd (false≢true (sym (ap isFile c) ∙ ap isFile e))
+next-file s n x f (d ∷ ds) (g, e′, is, others) e =
+    let same : g ≡ f = ap (fileIn f) (sym e′ ∙ e) in
+    let here : FileIs s f d = subst (λ (k : FileAt). FileIs s k d) same is in
+    record {
+      file = d;
+      others = ds;
+      is = here;
+      filed = subst (λ (k : FileAt). Filed s (nextFile s k) ds) same others;
+      lined = ap (λ (l : List ℕ). l ++ lines (n + 1) ds) (sym (line-is s n f d here));
+    }
+
+pub lining-all : (s e o : List ℕ) (a : ℕ) (p : List ℕ) (r n : ℕ) (x : NextFile) → Wrote e 0 heading o a → Lining s o a p r n x → x ≡ Nowhere
+    → Wrote e 0 (listingOf (content s)) p r
+unfolding isFile lines listingOf
+lining-all s e o a p r n x w c z =
+    wrote-same e 0 (heading ++ c .before) (listingOf (content s)) p r (ap (λ (l : List ℕ). heading ++ l) (all (c .rest) (c .filed) (c .whole)))
+    (wrote-wrote e 0 heading o a (c .before) p r w (c .wrote))
+  where
+    all : (ds : List File) → Filed s x ds → c .before ++ lines n ds ≡ lines 1 (content s .files) → c .before ≡ lines 1 (content s .files)
+    all [] h q = sym (append-nil (c .before)) ∙ q
+    all (d ∷ ds) (g, e′, _, _) q = absurd (false≢true (sym (ap isFile z) ∙ ap isFile e′))
+
+module _ (s o : List ℕ) (a : ℕ) (p : List ℕ) (r n : ℕ) (x : NextFile) (f : FileAt) (c : Lining s o a p r n x) (e : x ≡ At f) where
+  next : Next s n f (c .rest)
+  next = next-file s n x f (c .rest) (c .filed) e
+
+  after : n + 1 ≤ f .second
+  after = subst (Behind (n + 1)) e (c .number)
+
+  behind : Behind (f .second + 80) (nextFile s f)
+  unfolding nextFile
+  behind = header-behind false (Header 2) (f .first) (f .second + 80) _
+
+  pub lining-more : (q : List ℕ) (t : ℕ) (y : NextFile) → Wrote p r (lineAt s n f) q t → y ≡ nextFile s f → Lining s o a q t (n + 1) y
+  lining-more q t y w h =
+      record {
+        before = c .before ++ lineAt s n f;
+        rest = next .others;
+        filed = subst (λ (k : NextFile). Filed s k (next .others)) (sym h) (next .filed);
+        wrote = wrote-wrote o a (c .before) p r (lineAt s n f) q t (c .wrote) w;
+        whole =
+            append-assoc (c .before) (lineAt s n f) (lines (n + 1) (next .others))
+            ∙ ap (λ (l : List ℕ). c .before ++ l) (sym (next .lined))
+            ∙ c .whole;
+        number = subst (Behind (n + 1 + 1)) (sym h) (behind-less (n + 1 + 1) (f .second + 80) (nextFile s f) (omega (arith, after)) behind);
+      }
+
+  pub number-fits : length s < 18446744073709551616 → Fits w64 (n + 1)
+  number-fits h = let inside : f .second + 80 ≤ length s = next .is .secondWithin in omega (arith, after)
+
+-- how far the image goes on behind a file's HDR2
+abbrev pub left : List ℕ → NextFile → ℕ
+left s (At f) = suc (length s - f .second)
+left s Nowhere = 0
+
+left-falls : (s : List ℕ) (f : FileAt) (y : NextFile) → f .second + 80 ≤ length s → Behind (f .second + 80) y → left s y < left s (At f)
+left-falls s f (At g) h b = omega arith
+left-falls s f Nowhere h b = omega arith
+
+pub lining-falls : (s o : List ℕ) (a : ℕ) (p : List ℕ) (r n : ℕ) (x : NextFile) (f : FileAt) (y : NextFile) → Lining s o a p r n x → x ≡ At f → y ≡ nextFile s f → left s y < left s x
+lining-falls s o a p r n x f y c e h =
+    subst (λ (k : NextFile). left s y < left s k) (sym e)
+    (left-falls s f y (next s o a p r n x f c e .is .secondWithin) (subst (Behind (f .second + 80)) (sym h) (behind s o a p r n x f c e)))
+
+pub ruleset lining = (lining-none, lining-all, lining-more, number-fits, lining-falls, needs)

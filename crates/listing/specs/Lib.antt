@@ -1,0 +1,4 @@
+pub mod Decimal
+pub mod Page
+pub mod Text
+pub mod Place

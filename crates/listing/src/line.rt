@@ -1,0 +1,76 @@
+// The lines of a listing: what is said of a refusal, and of a file.
+ghost use mathlib.Core.Path.{_≡_};
+ghost use Rattle.listing.specs.Page.{Wrote};
+ghost use Rattle.listing.specs.Text.{heading, named, counted, placed, refusalLine};
+ghost use Rattle.listing.specs.Place.{describedAt, lineAt};
+use crate::page::put;
+use crate::page::put_number;
+use base::Verdict;
+use base::part_of;
+use content::FileAt;
+use content::file_facts;
+use output::four_digits;
+
+// Writes the place of a refusal, and ends the line.
+fn put_place(out: &mut [u8], at: usize, item: u64, byte: u64) -> usize
+    ensures { λ r. ⌜ Wrote (now (out .entry)) at (placed item byte) (now (out .exit)) r ⌝ }
+{
+    let first = put_number(out, at, b" at item ", item);
+    let second = put_number(out, first, b" byte ", byte);
+    put(out, second, b"\n")
+}
+
+// Writes the line of a refusal.
+pub(crate) fn put_refusal(out: &mut [u8], v: Verdict) -> usize
+    ensures { λ r. ⌜ Wrote (now (out .entry)) 0 (refusalLine v) (now (out .exit)) r ⌝ }
+{
+    let behind = put_number(out, 0, b"refused ", v.number as u64);
+    put_place(out, behind, v.item as u64, v.byte as u64)
+}
+
+// Writes the heading.
+pub(crate) fn put_heading(out: &mut [u8]) -> usize
+    ensures { λ r. ⌜ Wrote (now (out .entry)) 0 heading (now (out .exit)) r ⌝ }
+{
+    put(out, 0, b"SEQ FILE              FMT RECORDS BYTES\n")
+}
+
+// Writes identifier and format.
+fn put_names(out: &mut [u8], at: usize, identifier: &[u8], format: &[u8]) -> usize
+    ensures { λ r. ⌜ Wrote (now (out .entry)) at (named (now (identifier .entry)) (now (format .entry))) (now (out .exit)) r ⌝ }
+{
+    let first = put(out, at, b" ");
+    let behind = put(out, first, identifier);
+    let second = put(out, behind, b" ");
+    put(out, second, format)
+}
+
+// Writes the number of records and of their bytes, and ends the line.
+fn put_counts(out: &mut [u8], at: usize, records: u64, size: u64) -> usize
+    ensures { λ r. ⌜ Wrote (now (out .entry)) at (counted records size) (now (out .exit)) r ⌝ }
+{
+    let first = put_number(out, at, b" ", records);
+    let second = put_number(out, first, b" ", size);
+    put(out, second, b"\n")
+}
+
+// Writes what is said of a file, and ends the line.
+fn put_file(out: &mut [u8], at: usize, image: &[u8], f: FileAt) -> usize
+    ensures { λ r. ⌜ Wrote (now (out .entry)) at (describedAt (now (image .entry)) f) (now (out .exit)) r ⌝ }
+{
+    let first = part_of(image, f.first, 80);
+    let second = part_of(image, f.second, 80);
+    let behind = put_names(out, at, part_of(first, 4, 17), part_of(second, 4, 1));
+    let w = f.walk;
+    let x = file_facts(image, w);
+    put_counts(out, behind, x.records, x.bytes)
+}
+
+// Writes the line of file n, from 1.
+pub(crate) fn put_line(out: &mut [u8], at: usize, image: &[u8], n: usize, f: FileAt) -> usize
+    ensures { λ r. ⌜ Wrote (now (out .entry)) at (lineAt (now (image .entry)) n f) (now (out .exit)) r ⌝ }
+{
+    let d = four_digits(n);
+    let behind = put(out, at, &d);
+    put_file(out, behind, image, f)
+}
