@@ -2,12 +2,13 @@
 ghost use mathlib.Core.Path.{_≡_};
 ghost use lib.ListN.{length};
 ghost use Rattle.base.specs.Answer.{verdict};
-ghost use Rattle.output.specs.Output.{Answers};
+ghost use Rattle.output.specs.Output.{Answers, fitted};
 ghost use Rattle.volume.specs.Run.{imageVerdict};
 ghost use Rattle.content.specs.File.{begunAt};
 ghost use Rattle.content.specs.Records.{recordsAt, factsOf};
 ghost use Rattle.content.specs.Found.{foundAt, leftAt};
 ghost use Rattle.content.specs.Walk.{stepAt, joinAt};
+ghost use Rattle.listing.specs.Text.{textOf};
 ghost use Rattle.writer.specs.Write.{write};
 ghost use Rattle.writer.specs.Sets.{flat};
 ghost use Rattle.tardorelga.specs.Numbers.{recordOf, beginningOf, steppedOf};
@@ -182,6 +183,14 @@ pub extern "C" fn tardorelga_step(image: &[u8], walk: Walk, join: &mut [u8]) -> 
     ensures { λ x. ⌜ now (join .exit) ≡ joinAt (now (image .entry)) (now (join .entry)) walk ⌝ }
 {
     stepped_of(walk, walk.step(image, join))
+}
+
+// Writes the listing of an image, or the line of its refusal, into a lent buffer.
+#[no_mangle]
+pub extern "C" fn tardorelga_listing(image: &[u8], out: &mut [u8]) -> Written
+    ensures { λ r. ⌜ Answers (fitted (textOf (now (image .entry))) (now (out .entry))) r (now (out .exit)) ⌝ }
+{
+    listing::listing(image, out)
 }
 
 // Writes an order sheet as an image into a lent buffer.
