@@ -27,7 +27,7 @@ use Rattle.content.proofs.Handed.{record-asked, record-none}
 use Rattle.sheet.specs.Flat.{Flat, sheetOf}
 use Rattle.writer.specs.Write.{write}
 use Rattle.writer.proofs.RoundTrip.{Means, write-reads-back}
-use Rattle.normal.specs.Rewrite.{rewrite, imageIn}
+use Rattle.writer.specs.Rewrite.{rewrite, imageIn}
 use Rattle.normal.specs.Normal.{Given, Enough, Kept, write-kept, rewrite-kept, rewrite-normal, normal-same, normal-twice}
 
 -- "1. Any bytes, any numbers: every operation ends and answers by itself, without asking the caller to have checked anything. Each refusal has its

@@ -1,4 +1,3 @@
-pub mod Rewrite
 pub mod Normal
 pub mod Examples
 pub mod Demands

@@ -16,14 +16,14 @@ use Rattle.image.specs.Item.{Item, encode}
 use Rattle.image.specs.Framing.{head, mostImage}
 use Rattle.volume.specs.Run.{imageVerdict}
 use Rattle.volume.specs.Meaning.{Meaning, content}
-use Rattle.sheet.specs.Legal.{Sheet, legalSheet, legalQuota, legalNames}
+use Rattle.sheet.specs.Legal.{Sheet}
 use Rattle.sheet.specs.Flat.{Flat, inParts, reelsNumber, sheetOf, sheetNumber}
-use Rattle.sheet.proofs.Legality.{accepted-sheet}
 use Rattle.writer.specs.Lay.{Laid, laid, short, lay}
 use Rattle.output.specs.Output.{Written, refused}
 use Rattle.writer.specs.Write.{stored, storedLaid, writeSheet, write}
 use Rattle.writer.proofs.RoundTrip.{Means, image-means}
-use Rattle.normal.specs.Rewrite.{Rewritten, placed, refusedWith, sheetFrom, rewrite, imageIn}
+use Rattle.writer.proofs.FromImage.{image-legal}
+use Rattle.writer.specs.Rewrite.{Rewritten, placed, refusedWith, sheetFrom, rewrite, imageIn}
 
 -- reels and room are enough, and the image is not over the limit: the answer is not 10, 12 or 14
 pub record Enough (number : ℕ) : Type 0 where
@@ -96,30 +96,6 @@ unfolding rewrite
 rewrite-writes s quota names out g =
     if-true _ _ _ (eq-eqb (imageVerdict s .number) 0 (g .accepted)) ∙ if-true _ _ _ (eq-eqb (reelsNumber quota names) 0 (g .legal))
 
--- a legal quota and legal names, from their number
-reels-legal : (quota : ℕ) (names : List ℕ) → reelsNumber quota names ≡ 0 → (legalQuota quota ≡ true) × (legalNames (inParts 6 names) ≡ true)
-unfolding reelsNumber
-reels-legal quota names =
-    if-case Legal _ _ _ (λ _ h. absurd (nine h))
-    (λ _. if-case Legal _ _ _
-    (λ _. if-case Legal (legalQuota quota) _ _
-    (λ q. if-case Legal (legalNames (inParts 6 names)) _ _ (λ n _. (q, n)) (λ _ h. absurd (eleven h)))
-    (λ _ h. absurd (eleven h)))
-    (λ _ h. absurd (eleven h)))
-  where
-    Legal : ℕ → Type 0
-    Legal number = number ≡ 0 → (legalQuota quota ≡ true) × (legalNames (inParts 6 names) ≡ true)
-
-    nine : _≡_ {A = ℕ} 9 0 → ⊥
-    nine h = omega arith
-
-    eleven : _≡_ {A = ℕ} 11 0 → ⊥
-    eleven h = omega arith
-
-pub sheet-legal : (s : List ℕ) (quota : ℕ) (names : List ℕ) → Given s quota names → legalSheet (sheetFrom s quota names) ≡ true
-unfolding sheetFrom
-sheet-legal s quota names g = let l = reels-legal quota names (g .legal) in accepted-sheet s quota (inParts 6 names) (g .accepted) (l .0) (l .1)
-
 -- the normal set of an accepted set: rewriting wrote it, and it means what the set means
 pub record Normal (s : List ℕ) (quota : ℕ) (names out : List ℕ) : Type 0 where
   pub done : rewrite s quota names out .verdict ≡ verdict 0 0 0
@@ -153,7 +129,7 @@ rewrite-normal s quota names out g h =
     front w = w .front
 
     meant : (w : Whole sheet out (writeSheet sheet out)) → Means (head ++ encode (w .items)) (content s)
-    meant w = image-means sheet (w .items) (sheet-legal s quota names g) (w .laying) (w .small)
+    meant w = image-means sheet (w .items) (image-legal s quota names (g .accepted) (g .legal)) (w .laying) (w .small)
 
 -- equal meanings make equal sheets, and so equal items
 pub sheet-same : (a b : List ℕ) (quota : ℕ) (names : List ℕ) → content a ≡ content b → sheetFrom a quota names ≡ sheetFrom b quota names

@@ -11,16 +11,19 @@ use lib.ListN.{length, take, drop}
 use Rattle.base.specs.If.{ifB, if-true, if-false}
 use Rattle.base.specs.Part.{putAt}
 use Rattle.base.specs.Answer.{verdict}
+use Rattle.base.specs.declared.Verdict.{Verdict}
 use Rattle.image.specs.Item.{Item, encode}
 use Rattle.image.specs.Framing.{head, mostImage}
+use Rattle.volume.specs.Run.{imageVerdict}
 use Rattle.sheet.specs.Legal.{Sheet}
-use Rattle.sheet.specs.Flat.{Flat, sheetNumber, sheetOf}
+use Rattle.sheet.specs.Flat.{Flat, sheetNumber, sheetOf, reelsNumber}
 use Rattle.output.specs.declared.Written.{Written as Answer}
 use Rattle.output.specs.Output.{Written, refused, refusalOf, writtenOf, Answers}
 use Rattle.output.proofs.Writing.{answers-refused}
 use Rattle.writer.specs.Lay.{Laid, laid, short, lay}
 use Rattle.writer.specs.Write.{stored, storedLaid, writeSheet, write}
 use Rattle.writer.specs.Output.{Wrote, overLong}
+use Rattle.writer.specs.Rewrite.{Rewritten, refusedWith, placed, sheetFrom, rewrite, Rewrites}
 use Rattle.writer.specs.Sets.{Sheeted}
 
 -- ---- a refusal, and an image written
@@ -120,3 +123,39 @@ pub number-zero : (x : Flat) (n : ℕ) → n ≡ sheetNumber x → n ≡ 0 → s
 number-zero x n e z = sym e ∙ z
 
 pub ruleset writes = (write-refused, write-right, number-zero, needs)
+
+-- ---- an image
+
+module _ (s : List ℕ) (quota : ℕ) (names out : List ℕ) (v : Verdict) (e : v ≡ imageVerdict s) where
+  pub verdict-zero : v .number ≡ 0 → imageVerdict s .number ≡ 0
+  verdict-zero z = ap (λ (w : Verdict). w .number) (sym e) ∙ z
+
+  pub rewrite-refused : (v .number ≡ 0 → ⊥) → Rewrites (rewrite s quota names out) (record { verdict = v; len = 0 }) out
+  unfolding rewrite refusedWith
+  rewrite-refused d =
+      let other : imageVerdict s .number ≡ 0 → ⊥ = λ z. d (ap (λ (w : Verdict). w .number) e ∙ z) in
+      subst (λ (w : Rewritten). Rewrites w (record { verdict = v; len = 0 }) out) (sym (if-false _ _ _ (ne-eqb _ 0 other)))
+      (record { said = e; len = refl; out = refl })
+
+  module _ (z : v .number ≡ 0) (n : ℕ) (r : n ≡ reelsNumber quota names) where
+    accepted : imageVerdict s .number ≡ 0
+    accepted = verdict-zero z
+
+    pub rewrite-illegal : (a : Answer) → (n ≡ 0 → ⊥) → a ≡ refusalOf n → Rewrites (rewrite s quota names out) a out
+    unfolding rewrite refusedWith refusalOf
+    rewrite-illegal a d h =
+        let other : reelsNumber quota names ≡ 0 → ⊥ = λ y. d (r ∙ y) in
+        subst (λ (b : Answer). Rewrites (rewrite s quota names out) b out) (sym (h ∙ ap refusalOf r))
+        (subst (λ (w : Rewritten). Rewrites w (refusalOf (reelsNumber quota names)) out)
+        (sym (if-true _ _ _ (eq-eqb _ 0 accepted) ∙ if-false _ _ _ (ne-eqb _ 0 other))) (record { said = refl; len = refl; out = refl }))
+
+    pub rewrite-right : (a : Answer) (p : List ℕ) → n ≡ 0 → Answers (writeSheet (sheetFrom s quota names) out) a p → Rewrites (rewrite s quota names out) a p
+    unfolding rewrite placed
+    rewrite-right a p y m =
+        subst (λ (w : Rewritten). Rewrites w a p) (sym (if-true _ _ _ (eq-eqb _ 0 accepted) ∙ if-true _ _ _ (eq-eqb _ 0 (sym r ∙ y))))
+        (record { said = m .said; len = m .len; out = m .out })
+
+    pub reels-zero : n ≡ 0 → reelsNumber quota names ≡ 0
+    reels-zero y = sym r ∙ y
+
+pub ruleset rewrites = (rewrite-refused, rewrite-illegal, rewrite-right, reels-zero, verdict-zero, needs)

@@ -1,50 +1,42 @@
--- A whole sheet laid down: what each step of the code does. Assumes nothing.
+-- All files of a set laid down, wherever they come from: what each step of the code does. Assumes nothing.
 use mathlib.Core.Path.{_≡_, refl, sym, ap, _∙_, subst}
 use mathlib.Core.Bool.{Bool, true, false, false≢true}
 use mathlib.Core.List.{List, [], _∷_, _++_, append-assoc}
-use Prim.Native.Nat.{ℕ, zero, suc, _+_, _*_, _-_, _/_, _%_, _^_, _≤_, _<_, min}
+use Prim.Native.Nat.{ℕ, suc, _+_, _*_, _-_, _/_, _%_, _^_, _≤_, _<_}
 use native.Mathlib.Omega.{arith}
 use native.Mathlib.Numerals.{add-one}
 use borrow.Author.Needs.{needs}
-use borrow.Author.Tests.{eqb-true, lt-ltb, le-ltb, ltb-true, ltb-false, leb-true}
-use mir.Val.{Fits}
-use mir.Syntax.{w32, w64}
-use lib.Dec.{eqb, leb, ltb}
-use lib.ListN.{length, take, drop, getD, length-drop, take-append-drop, drop-of-length-le}
-use lib.Seq.{drop-drop, drop-cons}
-use Rattle.base.specs.If.{ifB, if-true, if-false, if-case}
+use lib.ListN.{length, drop, drop-of-length-le}
+use Rattle.base.specs.If.{ifB, if-true, if-false}
 use Rattle.base.specs.Part.{part}
 use Rattle.image.specs.Item.{Item, block, mark, reelEnd, encode}
 use Rattle.image.specs.Framing.{head}
 use Rattle.image.proofs.RoundTrip.{encode-append}
 use Rattle.label.specs.Made.{madeVolume}
-use Rattle.volume.specs.Meaning.{File}
-use Rattle.sheet.specs.Legal.{Sheet, formatFrom, blockLengthFrom, recordLengthFrom, legalFiles, legalRecords, legalSheet, legalNames, legalQuota}
-use Rattle.sheet.specs.Flat.{Flat, sum, inParts, cutBy, filesFrom, addsUp, sheetOf, sheetNumber}
-use Rattle.sheet.proofs.Cutting.{parts-none, parts-some}
-use Rattle.sheet.proofs.Sums.{sum-at, sum-append}
+use Rattle.volume.specs.Meaning.{File, content}
+use Rattle.sheet.specs.Legal.{formatFrom, blockLengthFrom, recordLengthFrom, legalFiles, Sheet, legalSheet, legalNames, legalQuota}
+use Rattle.sheet.specs.Flat.{inParts, filesFrom}
 use Rattle.writer.specs.declared.source.Cursor.{Cursor}
 use Rattle.writer.specs.declared.reel.Reel.{Reel}
 use Rattle.writer.specs.declared.reel.Laying.{Laying}
 use Rattle.writer.specs.declared.set.Place.{Place}
 use Rattle.writer.specs.declared.set.Filing.{Filing}
-use Rattle.writer.specs.Pack.{Left, finished, going, startOf, blocksLeft, blocksOf, Room, RoomLeft}
-use Rattle.writer.specs.Lay.{Laid, laid, short, put, headers, rest, layFiles, layOn, lay}
-use Rattle.writer.specs.Output.{Wrote, overLong}
-use Rattle.writer.specs.Source.{bytesAt, lengthsAt, laterAt, endAt, leftAt, Good, Opened}
-use Rattle.writer.specs.Reels.{Lays, Next, namesAt, Sound, nextAt, Layable, FilePut}
-use Rattle.writer.specs.Sets.{flat, filesAt, Placed, Begun, behindFile, layAt, Filed, Fileable, OneFiled, AllFiled, SetEnded, Sheeted}
-use Rattle.writer.proofs.Packing.{by-test}
+use Rattle.sheet.proofs.Cutting.{parts-none}
 use Rattle.writer.proofs.Units.{both}
+use lib.Dec.{leb}
+use borrow.Author.Tests.{leb-true}
+use Rattle.writer.specs.Pack.{Left, going, startOf, blocksLeft, blocksOf, Room, RoomLeft}
+use Rattle.writer.specs.Lay.{Laid, laid, short, put, headers, rest, layFiles, layOn, lay}
+use Rattle.writer.specs.Output.{Wrote}
+use Rattle.writer.specs.Source.{bytesAt, laterAt, leftAt, Good, Opened}
+use Rattle.writer.specs.Reels.{Lays, namesAt, Sound, nextAt, Layable, FilePut}
+use Rattle.writer.specs.Sets.{Origin, listed, read, originOf, totalOf, filesAt, Placed, layAt, Filed, Fileable, OneFiled, AllFiled, SetEnded, Sheeted, sheetAt, Writable}
+use Rattle.writer.proofs.Packing.{by-test}
 use Rattle.writer.proofs.Packed.{Suited, legal-room}
 use Rattle.writer.proofs.Entry.{legal-second, suited}
 use Rattle.writer.proofs.Laying.{legal-file}
-use Rattle.writer.proofs.RoundTrip.{LegalSheet, legal-sheet, number-legal}
 use Rattle.output.proofs.Writing.{wrote-wrote, wrote-same}
-use Rattle.writer.proofs.Reeling.{lays-put, lays-same, lays-short, names-some}
-
-abbrev place : ℕ → ℕ → ℕ → Place
-place nth first byte = record { nth = nth; first = first; byte = byte }
+use Rattle.writer.proofs.Reeling.{lays-same, names-some}
 
 -- ---- what is laid, with the head of the image before it
 
@@ -86,16 +78,7 @@ sheeted-put o xs p a short q s z w h =
 
 -- ---- the records of a file opened
 
-abbrev unopened : ℕ → ℕ → ℕ → Cursor
-unopened byte first stop = record { at = byte; left = 0; next = first; stop = stop; begun = 0; live = true }
-
-pub begun-good : (lengths bytes : List ℕ) (byte first stop : ℕ) → first ≤ stop → stop ≤ length lengths
-    → byte + sum (part first (stop - first) lengths) ≤ length bytes → Good lengths bytes (unopened byte first stop)
-unfolding endAt lengthsAt
-begun-good lengths bytes byte first stop h k i =
-    record { order = h; within = k; inside = omega arith; over = λ z. absurd (false≢true (sym z)) }
-
-opened-left : (lengths bytes : List ℕ) (c d : Cursor) (xs : List (List ℕ)) → Opened lengths bytes c d → laterAt lengths bytes c ≡ xs → leftAt lengths bytes d ≡ startOf xs
+pub opened-left : (lengths bytes : List ℕ) (c d : Cursor) (xs : List (List ℕ)) → Opened lengths bytes c d → laterAt lengths bytes c ≡ xs → leftAt lengths bytes d ≡ startOf xs
 unfolding leftAt startOf
 opened-left lengths bytes c d xs o e =
     by-test (d .live)
@@ -105,93 +88,16 @@ opened-left lengths bytes c d xs o e =
     ∙ ap startOf (sym (o .some z) ∙ e))
     (λ z. if-false _ _ _ z ∙ ap startOf (sym (o .none z) ∙ e))
 
-pub begun-opened : (lengths bytes : List ℕ) (byte first stop : ℕ) (d : Cursor) → Opened lengths bytes (unopened byte first stop) d
-    → Begun lengths bytes byte first stop d
-unfolding laterAt lengthsAt endAt
-begun-opened lengths bytes byte first stop d o =
-    let here : byte + 0 ≡ byte = omega arith in
-    record {
-      good = o .good;
-      end = o .end ∙ ap (λ (n : ℕ). n + sum (part first (stop - first) lengths)) here;
-      left =
-          opened-left lengths bytes _ d (cutBy (part first (stop - first) lengths) (drop byte bytes)) o
-          (ap (λ (n : ℕ). cutBy (part first (stop - first) lengths) (drop n bytes)) here);
-    }
+-- ---- one file
 
-pub ruleset begins = (begun-good, begun-opened, needs)
+-- the first of the files from a place on, and those behind it
+module _ (from : Origin) (set lengths bytes : List ℕ) (g : Place) (entry : List ℕ) (records : List (List ℕ)) (others : List File) (y : Placed from set lengths bytes g)
+    (first : filesAt from lengths bytes g ≡ record { fields = entry; records = records } ∷ others) where
+  legal : legalFiles set (record { fields = entry; records = records } ∷ others) ≡ true
+  legal = ap (legalFiles set) (sym first) ∙ y .legal
 
--- ---- the files from a place on
-
-sum-split : (n : ℕ) (ns : List ℕ) → sum ns ≡ sum (take n ns) + sum (drop n ns)
-sum-split n ns = ap sum (sym (take-append-drop n ns)) ∙ sum-append (take n ns) (drop n ns)
-
-part-count : (first c : ℕ) (ns : List ℕ) → part first (first + c - first) ns ≡ take c (drop first ns)
-unfolding part
-part-count first c ns = let e : first + c - first ≡ c = omega arith in rw e
-
-module _ (set files counts lengths bytes : List ℕ) (g : Place) (y : Placed set files counts lengths bytes g) (h : g .nth < length counts) where
-  abbrev c : ℕ
-  c = getD counts (g .nth) 0
-
-  counted : sum (drop (g .nth) counts) ≡ c + sum (drop (g .nth + 1) counts)
-  counted = sum-at counts (g .nth) h
-
-  measured : sum (drop (g .first) lengths) ≡ sum (take c (drop (g .first) lengths)) + sum (drop (g .first + c) lengths)
-  measured = sum-split c (drop (g .first) lengths) ∙ ap (λ (ns : List ℕ). sum (take c (drop (g .first) lengths)) + sum ns) (drop-drop c (g .first) lengths)
-
-  pub stop-order : (stop : ℕ) → stop ≡ g .first + c → g .first ≤ stop
-  stop-order stop e = omega arith
-
-  pub stop-within : (stop : ℕ) → stop ≡ g .first + c → stop ≤ length lengths
-  stop-within stop e = omega (arith, counted, y .records)
-
-  pub stop-inside : (stop : ℕ) → stop ≡ g .first + c → g .byte + sum (part (g .first) (stop - g .first) lengths) ≤ length bytes
-  stop-inside stop s =
-      let e : sum (part (g .first) (stop - g .first) lengths) ≡ sum (take c (drop (g .first) lengths))
-      = ap (λ (k : ℕ). sum (part (g .first) (k - g .first) lengths)) s ∙ ap sum (part-count (g .first) c lengths) in
-      omega (arith, measured, y .inside)
-
-  pub nth-small : g .nth < 64
-  nth-small = omega (arith, y .few)
-
-  abbrev entry : List ℕ
-  entry = part (46 * g .nth) 46 files
-
-  abbrev records : List (List ℕ)
-  records = cutBy (take c (drop (g .first) lengths)) (drop (g .byte) bytes)
-
-  abbrev onward : Place
-  onward = place (g .nth + 1) (g .first + c) (g .byte + sum (take c (drop (g .first) lengths)))
-
-  files-some : filesAt files counts lengths bytes g ≡ record { fields = entry; records = records } ∷ filesAt files counts lengths bytes onward
-  unfolding filesAt filesFrom part
-  files-some =
-      let l : length (drop (46 * g .nth) files) ≡ length files - 46 * g .nth = length-drop (46 * g .nth) files in
-      let some : 0 < length (drop (46 * g .nth) files) = omega (arith, y .entries) in
-      let more : 46 * g .nth + 46 ≡ 46 * (g .nth + 1) = omega arith in
-      let es : inParts 46 (drop (46 * g .nth) files) ≡ take 46 (drop (46 * g .nth) files) ∷ inParts 46 (drop (46 * (g .nth + 1)) files)
-      = parts-some 46 (drop (46 * g .nth) files) (omega arith) some
-      ∙ ap (λ (s : List ℕ). take 46 (drop (46 * g .nth) files) ∷ inParts 46 s) (drop-drop 46 (46 * g .nth) files ∙ ap (λ (k : ℕ). drop k files) more) in
-      let cs : drop (g .nth) counts ≡ c ∷ drop (g .nth + 1) counts
-      = drop-cons counts (g .nth) 0 h ∙ ap (λ (k : ℕ). c ∷ drop k counts) (sym (add-one (g .nth))) in
-      ap (λ (s : List (List ℕ)). filesFrom s (drop (g .nth) counts) (drop (g .first) lengths) (drop (g .byte) bytes)) es
-      ∙ ap (λ (s : List ℕ). filesFrom (take 46 (drop (46 * g .nth) files) ∷ inParts 46 (drop (46 * (g .nth + 1)) files)) s (drop (g .first) lengths) (drop (g .byte) bytes)) cs
-      ∙ ap (λ (s : List ℕ). record { fields = take 46 (drop (46 * g .nth) files); records = records } ∷ filesFrom (inParts 46 (drop (46 * (g .nth + 1)) files)) (drop (g .nth + 1) counts) s (drop (sum (take c (drop (g .first) lengths))) (drop (g .byte) bytes))) (drop-drop c (g .first) lengths)
-      ∙ ap (λ (s : List ℕ). record { fields = take 46 (drop (46 * g .nth) files); records = records } ∷ filesFrom (inParts 46 (drop (46 * (g .nth + 1)) files)) (drop (g .nth + 1) counts) (drop (g .first + c) lengths) s) (drop-drop (sum (take c (drop (g .first) lengths))) (g .byte) bytes)
-
-  legal : legalFiles set (record { fields = entry; records = records } ∷ filesAt files counts lengths bytes onward) ≡ true
-  legal = ap (legalFiles set) (sym files-some) ∙ y .legal
-
-  placed-on : Placed set files counts lengths bytes onward
-  placed-on =
-      record {
-        entries = y .entries;
-        few = y .few;
-        within = omega arith;
-        records = omega (arith, counted, y .records);
-        inside = omega (arith, measured, y .inside);
-        legal = legal-file set _ _ legal (λ e r others. others);
-      }
+  pub legal-others : legalFiles set others ≡ true
+  legal-others = legal-file set _ _ legal (λ e r o. o)
 
   room-start : (f b : ℕ) (xs : List (List ℕ)) → Room f b xs → RoomLeft f b (startOf xs)
   unfolding startOf
@@ -199,162 +105,109 @@ module _ (set files counts lengths bytes : List ℕ) (g : Place) (y : Placed set
   room-start f b (x ∷ xs) r = r
 
   suits : Suited (formatFrom entry) (blockLengthFrom entry) (recordLengthFrom entry)
-  suits = legal-file set _ _ legal (λ e r others. suited entry (legal-second set entry e))
+  suits = legal-file set _ _ legal (λ e r o. suited entry (legal-second set entry e))
 
   room : RoomLeft (formatFrom entry) (blockLengthFrom entry) (startOf records)
-  room = legal-file set _ _ legal (λ e r others. room-start _ _ records (legal-room _ _ (recordLengthFrom entry) records suits r))
+  room = legal-file set _ _ legal (λ e r o. room-start _ _ records (legal-room _ _ (recordLengthFrom entry) records suits r))
 
-  module _ (stop : ℕ) (s : stop ≡ g .first + c) (d : Cursor) (n : Begun lengths bytes (g .byte) (g .first) stop d) where
-    cut : cutBy (part (g .first) (stop - g .first) lengths) (drop (g .byte) bytes) ≡ records
-    cut =
-        ap (λ (k : ℕ). cutBy (part (g .first) (k - g .first) lengths) (drop (g .byte) bytes)) s
-        ∙ ap (λ (ns : List ℕ). cutBy ns (drop (g .byte) bytes)) (part-count (g .first) c lengths)
-
-    begun : leftAt lengths bytes d ≡ startOf records
-    begun = n .left ∙ ap startOf cut
-
-    ends : endAt lengths d ≡ g .byte + sum (take c (drop (g .first) lengths))
-    ends =
-        n .end
-        ∙ ap (λ (k : ℕ). g .byte + sum (part (g .first) (k - g .first) lengths)) s
-        ∙ ap (λ (ns : List ℕ). g .byte + sum ns) (part-count (g .first) c lengths)
-
-    pub entry-layable : (quota : ℕ) (names : List ℕ) (r : Reel) → Sound quota names r → r .short ≡ false
+  module _ (d : Cursor) (good : Good lengths bytes d) (begun : leftAt lengths bytes d ≡ startOf records) where
+    -- its records can be laid as blocks
+    pub file-layable : (quota : ℕ) (names : List ℕ) (r : Reel) → Sound quota names r → r .short ≡ false
         → Layable (formatFrom entry) (blockLengthFrom entry) lengths bytes quota names d r
-    entry-layable quota names r sound enough =
-        record { good = n .good; most = suits .most; room = subst (RoomLeft _ _) (sym begun) room; sound = sound; enough = enough }
-
-    -- the next file from where this one ended, unless a name was lacking
-    next-same : (quota : ℕ) (names : List ℕ) (x : Laying) → (x .reel .short ≡ false → x .cur .at ≡ endAt lengths d)
-        → layAt quota set files counts lengths bytes names (place (g .nth + 1) stop (x .cur .at)) (x .reel)
-        ≡ nextAt names (x .reel) (λ left others. layFiles quota set (suc (suc (g .nth))) left others (filesAt files counts lengths bytes onward))
-    unfolding layAt nextAt
-    next-same quota names x e =
-        by-test (x .reel .short) (λ z. if-true _ _ _ z ∙ sym (if-true _ _ _ z))
-        (λ z.
-        let at : x .cur .at ≡ g .byte + sum (take c (drop (g .first) lengths)) = e z ∙ ends in
-        if-false _ _ _ z
-        ∙ ap (λ (k : ℕ). layFiles quota set (suc k) (x .reel .room) (namesAt names (x .reel .name)) (filesAt files counts lengths bytes (place (g .nth + 1) stop (x .cur .at)))) (add-one (g .nth))
-        ∙ ap (λ (k : ℕ). layFiles quota set (suc (suc (g .nth))) (x .reel .room) (namesAt names (x .reel .name)) (filesAt files counts lengths bytes (place (g .nth + 1) k (x .cur .at)))) s
-        ∙ ap (λ (k : ℕ). layFiles quota set (suc (suc (g .nth))) (x .reel .room) (namesAt names (x .reel .name)) (filesAt files counts lengths bytes (place (g .nth + 1) (g .first + c) k))) at
-        ∙ sym (if-false _ _ _ z))
+    file-layable quota names r sound enough =
+        record { good = good; most = suits .most; room = subst (RoomLeft _ _) (sym begun) room; sound = sound; enough = enough }
 
     -- what is laid from a place on is this file and what follows
     this-file : (quota : ℕ) (names : List ℕ) (r : Reel) → r .short ≡ false
         → put (headers set entry 1 (suc (g .nth)))
         (rest quota set entry (suc (g .nth)) 1 0 (r .room) (namesAt names (r .name)) (blocksLeft (formatFrom entry) (blockLengthFrom entry) (leftAt lengths bytes d))
-        (λ left others. layFiles quota set (suc (suc (g .nth))) left others (filesAt files counts lengths bytes onward)))
-        ≡ layAt quota set files counts lengths bytes names g r
+        (λ left names. layFiles quota set (suc (suc (g .nth))) left names others))
+        ≡ layAt from quota set lengths bytes names g r
     unfolding layAt layFiles blocksOf
     this-file quota names r enough =
         ap
         (λ (l : Left). put (headers set entry 1 (suc (g .nth)))
         (rest quota set entry (suc (g .nth)) 1 0 (r .room) (namesAt names (r .name)) (blocksLeft (formatFrom entry) (blockLengthFrom entry) l)
-        (λ left others. layFiles quota set (suc (suc (g .nth))) left others (filesAt files counts lengths bytes onward))))
+        (λ left names. layFiles quota set (suc (suc (g .nth))) left names others)))
         begun
-        ∙ ap (layFiles quota set (suc (g .nth)) (r .room) (namesAt names (r .name))) (sym files-some)
+        ∙ ap (layFiles quota set (suc (g .nth)) (r .room) (namesAt names (r .name))) (sym first)
         ∙ sym (if-false _ _ _ enough)
 
-    pub one-filed : (quota : ℕ) (names : List ℕ) (r : Reel) (o p : List ℕ) (x : Laying) (v : Filing) → Sound quota names r → r .short ≡ false
-        → FilePut lengths bytes quota set entry (g .nth + 1) names d r o p x → v ≡ behindFile (g .nth) stop (length counts) x
-        → OneFiled quota set files counts lengths bytes names g r o p v
-    unfolding behindFile
-    one-filed quota names r o p x v sound enough m e =
-        subst (OneFiled quota set files counts lengths bytes names g r o p) (sym e)
-        (record {
+    -- the next file from a place behind this one, unless a name was lacking
+    next-same : (quota : ℕ) (names : List ℕ) (x : Reel) (h : Place) → h .nth ≡ g .nth + 1 → (x .short ≡ false → filesAt from lengths bytes h ≡ others)
+        → layAt from quota set lengths bytes names h x ≡ nextAt names x (λ left names. layFiles quota set (suc (suc (g .nth))) left names others)
+    unfolding layAt nextAt
+    next-same quota names x h n e =
+        by-test (x .short) (λ z. if-true _ _ _ z ∙ sym (if-true _ _ _ z))
+        (λ z.
+        if-false _ _ _ z
+        ∙ ap (λ (k : ℕ). layFiles quota set (suc k) (x .room) (namesAt names (x .name)) (filesAt from lengths bytes h)) (n ∙ add-one (g .nth))
+        ∙ ap (layFiles quota set (suc (suc (g .nth))) (x .room) (namesAt names (x .name))) (e z)
+        ∙ sym (if-false _ _ _ z))
+
+    -- the file was laid, and the laying stands at the next
+    pub one-filed : (quota : ℕ) (names : List ℕ) (r : Reel) (o p : List ℕ) (x : Laying) (v : Filing) → r .short ≡ false
+        → FilePut lengths bytes quota set entry (g .nth + 1) names d r o p x → v .reel ≡ x .reel → v .place .nth ≡ g .nth + 1
+        → (x .reel .short ≡ false → filesAt from lengths bytes (v .place) ≡ others) → (x .reel .short ≡ false → Placed from set lengths bytes (v .place))
+        → (v .on ≡ true → x .reel .short ≡ false) → (v .on ≡ true → v .place .nth < totalOf from bytes)
+        → (v .on ≡ false → x .reel .short ≡ false → totalOf from bytes ≤ v .place .nth) → OneFiled from quota set lengths bytes names g r o p v
+    one-filed quota names r o p x v enough m reel next there placed on more over =
+        record {
           filed =
               record {
-                placed =
-                    λ z.
-                    subst (λ (k : ℕ). Placed set files counts lengths bytes (place (g .nth + 1) k (x .cur .at))) (sym s)
-                    (subst (λ (k : ℕ). Placed set files counts lengths bytes (place (g .nth + 1) (g .first + c) k)) (sym (m .end z ∙ ends)) placed-on);
-                sound = m .sound;
+                placed = λ z. placed (same-short z);
+                sound = subst (Sound quota names) (sym reel) (m .sound);
                 kept = m .kept;
-                enough =
-                    λ z. by-test (x .reel .short) (λ q. absurd (false≢true (sym (if-true (x .reel .short) false (ltb (g .nth + 1) (length counts)) q) ∙ z))) (λ q. q);
-                more =
-                    λ z.
-                    by-test (x .reel .short) (λ q. absurd (false≢true (sym (if-true (x .reel .short) false (ltb (g .nth + 1) (length counts)) q) ∙ z)))
-                    (λ q. ltb-true _ _ (sym (if-false (x .reel .short) false (ltb (g .nth + 1) (length counts)) q) ∙ z));
-                over = λ z q. ltb-false _ _ (sym (if-false (x .reel .short) false (ltb (g .nth + 1) (length counts)) q) ∙ z);
+                enough = λ z. ap (λ (w : Reel). w .short) reel ∙ on z;
+                more = more;
+                over = λ z q. over z (same-short q);
                 same =
                     λ q t z l.
                     lays-same _ _ o (r .at) q t z (this-file quota names r enough)
                     (subst (λ (k : ℕ). FilePut lengths bytes quota set entry k names d r o p x) (add-one (g .nth)) m .same _ q t z
-                    (lays-same _ _ p (x .reel .at) q t z (next-same quota names x (m .end)) l));
+                    (lays-same _ _ p (x .reel .at) q t z (next-same quota names (x .reel) (v .place) next there)
+                    (subst (λ (w : Reel). Lays (layAt from quota set lengths bytes names (v .place) w) p (w .at) q t z) reel l)));
               };
-          next = refl;
-        })
+          next = next;
+        }
+      where
+        same-short : v .reel .short ≡ false → x .reel .short ≡ false
+        same-short z = sym (ap (λ (w : Reel). w .short) reel) ∙ z
 
-pub fileable-filed : (quota : ℕ) (set files counts lengths bytes names : List ℕ) (g : Place) (r : Reel) (stop : ℕ) (d : Cursor) (o p : List ℕ) (x : Laying) (v : Filing)
-    → Fileable quota set files counts lengths bytes names g r → stop ≡ g .first + getD counts (g .nth) 0 → Begun lengths bytes (g .byte) (g .first) stop d
-    → FilePut lengths bytes quota set (part (46 * g .nth) 46 files) (g .nth + 1) names d r o p x → v ≡ behindFile (g .nth) stop (length counts) x
-    → OneFiled quota set files counts lengths bytes names g r o p v
-fileable-filed quota set files counts lengths bytes names g r stop d o p x v y s n m e =
-    one-filed set files counts lengths bytes g (y .placed) (y .more) stop s d n quota names r o p x v (y .sound) (y .enough) m e
+-- ---- the entry of a file, as the code holds it
 
-pub placed-records : (set files counts lengths bytes : List ℕ) (g : Place) → Placed set files counts lengths bytes g
-    → g .first + sum (drop (g .nth) counts) ≡ length lengths
-placed-records set files counts lengths bytes g y = y .records
+pub layable-entry : (e k lengths bytes : List ℕ) (quota : ℕ) (names : List ℕ) (d : Cursor) (r : Reel) → e ≡ k
+    → Layable (formatFrom k) (blockLengthFrom k) lengths bytes quota names d r → Layable (formatFrom e) (blockLengthFrom e) lengths bytes quota names d r
+layable-entry e k lengths bytes quota names d r h y = subst (λ (l : List ℕ). Layable (formatFrom l) (blockLengthFrom l) lengths bytes quota names d r) (sym h) y
 
-pub ruleset filing = (placed-records, stop-order, stop-within, stop-inside, nth-small, entry-layable, needs)
+pub put-entry : (e k lengths bytes : List ℕ) (quota : ℕ) (set : List ℕ) (sequence : ℕ) (names : List ℕ) (d : Cursor) (r : Reel) (o p : List ℕ) (x : Laying) → e ≡ k
+    → FilePut lengths bytes quota set e sequence names d r o p x → FilePut lengths bytes quota set k sequence names d r o p x
+put-entry e k lengths bytes quota set sequence names d r o p x h y = subst (λ (l : List ℕ). FilePut lengths bytes quota set l sequence names d r o p x) h y
 
--- ---- the parts of a turn
-
-pub stop-fits : (counts lengths : List ℕ) (g : Place) (n : ℕ) → g .nth < length counts → g .first + sum (drop (g .nth) counts) ≡ length lengths
-    → n ≡ getD counts (g .nth) 0 → length lengths < 2 ^ 64 → Fits w64 (g .first + n)
-stop-fits counts lengths g n h e k l = record { fits = omega (arith, sum-at counts (g .nth) h) }
-
-pub ruleset stops = (stop-fits, needs)
-
-pub entry-there : (files : List ℕ) (i : ℕ) (e lengths bytes : List ℕ) (quota : ℕ) (names : List ℕ) (d : Cursor) (r : Reel) → e ≡ part (46 * i) 46 files
-    → Layable (formatFrom (part (46 * i) 46 files)) (blockLengthFrom (part (46 * i) 46 files)) lengths bytes quota names d r
-    → Layable (formatFrom e) (blockLengthFrom e) lengths bytes quota names d r
-entry-there files i e lengths bytes quota names d r h y = subst (λ (k : List ℕ). Layable (formatFrom k) (blockLengthFrom k) lengths bytes quota names d r) (sym h) y
-
-pub entry-laid : (files : List ℕ) (i : ℕ) (e lengths bytes : List ℕ) (quota : ℕ) (set : List ℕ) (sequence : ℕ) (names : List ℕ) (d : Cursor) (r : Reel) (o p : List ℕ) (x : Laying)
-    → e ≡ part (46 * i) 46 files → FilePut lengths bytes quota set e sequence names d r o p x
-    → FilePut lengths bytes quota set (part (46 * i) 46 files) sequence names d r o p x
-entry-laid files i e lengths bytes quota set sequence names d r o p x h y = subst (λ (k : List ℕ). FilePut lengths bytes quota set k sequence names d r o p x) h y
-
-pub ruleset entered = (entry-there, entry-laid, needs)
-
-pub behind-short : (i stop n : ℕ) (x : Laying) → x .reel .short ≡ true
-    → record { on = false; place = place (i + 1) stop (x .cur .at); reel = x .reel } ≡ behindFile i stop n x
-unfolding behindFile
-behind-short i stop n x z =
-    ap (λ (b : Bool). record { on = b; place = place (i + 1) stop (x .cur .at); reel = x .reel }) (sym (if-true _ _ _ z))
-
-pub behind-more : (i stop n : ℕ) (x : Laying) → x .reel .short ≡ false
-    → record { on = ltb (i + 1) n; place = place (i + 1) stop (x .cur .at); reel = x .reel } ≡ behindFile i stop n x
-unfolding behindFile
-behind-more i stop n x z =
-    ap (λ (b : Bool). record { on = b; place = place (i + 1) stop (x .cur .at); reel = x .reel }) (sym (if-false _ _ _ z))
-
-pub ruleset behinds = (behind-short, behind-more, needs)
+pub ruleset entered = (layable-entry, put-entry, needs)
 
 -- ---- the loop over files
 
 -- the files that are to be laid
-unfoldable pub filesOn : List ℕ → Filing → ℕ
-filesOn counts x = ifB (x .on) (length counts - x .place .nth) 0
+unfoldable pub filesOn : Origin → List ℕ → Filing → ℕ
+filesOn from bytes x = ifB (x .on) (totalOf from bytes - x .place .nth) 0
 
-module _ (quota : ℕ) (set files counts lengths bytes names : List ℕ) where
-  pub filed-none : (g : Place) (r : Reel) (o : List ℕ) → Placed set files counts lengths bytes g → Sound quota names r → r .short ≡ false
-      → Filed quota set files counts lengths bytes names g r o o (record { on = ltb (g .nth) (length counts); place = g; reel = r })
-  filed-none g r o y sound enough =
+module _ (from : Origin) (quota : ℕ) (set lengths bytes names : List ℕ) where
+  pub filed-none : (g : Place) (r : Reel) (o : List ℕ) → Fileable from quota set lengths bytes names g r
+      → Filed from quota set lengths bytes names g r o o (record { on = true; place = g; reel = r })
+  filed-none g r o y =
       record {
-        placed = λ _. y;
-        sound = sound;
+        placed = λ _. y .placed;
+        sound = y .sound;
         kept = refl;
-        enough = λ _. enough;
-        more = λ z. ltb-true _ _ z;
-        over = λ z _. ltb-false _ _ z;
+        enough = λ _. y .enough;
+        more = λ _. y .more;
+        over = λ z. absurd (false≢true (sym z));
         same = λ q s z l. l;
       }
 
-  pub filed-filed : (g : Place) (r : Reel) (o p : List ℕ) (x : Filing) (q : List ℕ) (y : Filing) → Filed quota set files counts lengths bytes names g r o p x
-      → OneFiled quota set files counts lengths bytes names (x .place) (x .reel) p q y → Filed quota set files counts lengths bytes names g r o q y
+  pub filed-filed : (g : Place) (r : Reel) (o p : List ℕ) (x : Filing) (q : List ℕ) (y : Filing) → Filed from quota set lengths bytes names g r o p x
+      → OneFiled from quota set lengths bytes names (x .place) (x .reel) p q y → Filed from quota set lengths bytes names g r o q y
   filed-filed g r o p x q y m n =
       record {
         placed = n .filed .placed;
@@ -366,25 +219,68 @@ module _ (quota : ℕ) (set files counts lengths bytes names : List ℕ) where
         same = λ t s z l. m .same t s z (n .filed .same t s z l);
       }
 
-  module _ (g : Place) (r : Reel) (o p : List ℕ) (x : Filing) (m : Filed quota set files counts lengths bytes names g r o p x) where
-    pub filed-fileable : x .on ≡ true → Fileable quota set files counts lengths bytes names (x .place) (x .reel)
+  module _ (g : Place) (r : Reel) (o p : List ℕ) (x : Filing) (m : Filed from quota set lengths bytes names g r o p x) where
+    pub filed-fileable : x .on ≡ true → Fileable from quota set lengths bytes names (x .place) (x .reel)
     filed-fileable on = record { placed = m .placed (m .enough on); more = m .more on; sound = m .sound; enough = m .enough on }
 
-    pub filed-all : x .on ≡ false → AllFiled quota set files counts lengths bytes names g r o p x
+    pub filed-all : x .on ≡ false → AllFiled from quota set lengths bytes names g r o p x
     filed-all off = record { filed = m; off = off }
 
-    pub files-fall : (q : List ℕ) (y : Filing) → x .on ≡ true → OneFiled quota set files counts lengths bytes names (x .place) (x .reel) p q y
-        → filesOn counts y < filesOn counts x
+    pub files-fall : (q : List ℕ) (y : Filing) → x .on ≡ true → OneFiled from quota set lengths bytes names (x .place) (x .reel) p q y
+        → filesOn from bytes y < filesOn from bytes x
     unfolding filesOn
     files-fall q y on n =
-        let k : ifB (x .on) (length counts - x .place .nth) 0 ≡ length counts - x .place .nth = if-true _ _ _ on in
-        let more : x .place .nth < length counts = m .more on in
+        let k : ifB (x .on) (totalOf from bytes - x .place .nth) 0 ≡ totalOf from bytes - x .place .nth = if-true _ _ _ on in
+        let more : x .place .nth < totalOf from bytes = m .more on in
         let step : y .place .nth ≡ x .place .nth + 1 = n .next in
         by-test (y .on)
-        (λ z. let j : ifB (y .on) (length counts - y .place .nth) 0 ≡ length counts - y .place .nth = if-true _ _ _ z in omega arith)
-        (λ z. let j : ifB (y .on) (length counts - y .place .nth) 0 ≡ 0 = if-false _ _ _ z in omega arith)
+        (λ z. let j : ifB (y .on) (totalOf from bytes - y .place .nth) 0 ≡ totalOf from bytes - y .place .nth = if-true _ _ _ z in omega arith)
+        (λ z. let j : ifB (y .on) (totalOf from bytes - y .place .nth) 0 ≡ 0 = if-false _ _ _ z in omega arith)
 
 pub ruleset files = (filed-none, filed-filed, filed-fileable, filed-all, files-fall, needs)
+
+-- ---- what a legal sheet has
+
+one-name : (s : Sheet) → legalSheet s ≡ true → 1 ≤ length (s .names)
+unfolding legalSheet legalNames
+one-name s =
+    both (legalQuota (s .quota)) _
+    (λ _ b. both (ifB (leb 1 (length (s .names))) _ false) _ (λ n _. both (leb 1 (length (s .names))) _ (λ one _. leb-true _ _ one) n) b)
+
+pub sheet-named : (s : Sheet) (names : List ℕ) → s .names ≡ inParts 6 names → legalSheet s ≡ true → 0 < length names
+sheet-named s [] e h =
+    let one : 1 ≤ length (s .names) = one-name s h in
+    let none : length (s .names) ≡ 0 = ap length (e ∙ parts-none 6) in
+    absurd (omega arith)
+sheet-named s (n ∷ ns) e h = omega arith
+
+-- ---- where the file comes from
+
+module _ (image : Bool) (files counts : List ℕ) (quota : ℕ) (set lengths bytes names : List ℕ) (g : Place) (r : Reel) where
+  is-read : image ≡ true → originOf image files counts ≡ read
+  unfolding originOf
+  is-read e = if-true _ _ _ e
+
+  is-listed : image ≡ false → originOf image files counts ≡ listed files counts
+  unfolding originOf
+  is-listed e = if-false _ _ _ e
+
+  pub fileable-read : image ≡ true → Fileable (originOf image files counts) quota set lengths bytes names g r → Fileable read quota set lengths bytes names g r
+  fileable-read e y = subst (λ (f : Origin). Fileable f quota set lengths bytes names g r) (is-read e) y
+
+  pub fileable-listed : image ≡ false → Fileable (originOf image files counts) quota set lengths bytes names g r
+      → Fileable (listed files counts) quota set lengths bytes names g r
+  fileable-listed e y = subst (λ (f : Origin). Fileable f quota set lengths bytes names g r) (is-listed e) y
+
+  pub filed-read : (o p : List ℕ) (x : Filing) → image ≡ true → OneFiled read quota set lengths bytes names g r o p x
+      → OneFiled (originOf image files counts) quota set lengths bytes names g r o p x
+  filed-read o p x e y = subst (λ (f : Origin). OneFiled f quota set lengths bytes names g r o p x) (sym (is-read e)) y
+
+  pub filed-listed : (o p : List ℕ) (x : Filing) → image ≡ false → OneFiled (listed files counts) quota set lengths bytes names g r o p x
+      → OneFiled (originOf image files counts) quota set lengths bytes names g r o p x
+  filed-listed o p x e y = subst (λ (f : Origin). OneFiled f quota set lengths bytes names g r o p x) (sym (is-listed e)) y
+
+pub ruleset origins = (fileable-read, fileable-listed, filed-read, filed-listed, needs)
 
 -- ---- the beginning and the end of the set
 
@@ -404,138 +300,66 @@ set-ended r o p at z w = record { short = sym z; wrote = λ _. w }
 
 pub ruleset setEnds = (set-ended-short, set-ended, needs)
 
-files-none : (files counts lengths bytes : List ℕ) (g : Place) → length counts ≤ g .nth → filesAt files counts lengths bytes g ≡ []
-unfolding filesAt filesFrom
-files-none files counts lengths bytes g h =
+-- behind the last file there is none
+pub no-counts : (es : List (List ℕ)) (ls bs : List ℕ) → filesFrom es [] ls bs ≡ []
+unfolding filesFrom
+no-counts [] ls bs = refl
+no-counts (e ∷ es) ls bs = refl
+
+files-none : (from : Origin) (lengths bytes : List ℕ) (g : Place) → totalOf from bytes ≤ g .nth → filesAt from lengths bytes g ≡ []
+unfolding filesAt totalOf
+files-none (listed files counts) lengths bytes g h =
     ap (λ (s : List ℕ). filesFrom (inParts 46 (drop (46 * g .nth) files)) s (drop (g .first) lengths) (drop (g .byte) bytes)) (drop-of-length-le counts h)
     ∙ no-counts (inParts 46 (drop (46 * g .nth) files)) (drop (g .first) lengths) (drop (g .byte) bytes)
-  where
-    no-counts : (es : List (List ℕ)) (ls bs : List ℕ) → filesFrom es [] ls bs ≡ []
-    no-counts [] ls bs = refl
-    no-counts (e ∷ es) ls bs = refl
+files-none read lengths bytes g h = drop-of-length-le (content bytes .files) h
 
--- ---- what number 0 says of a sheet
+module _ (from : Origin) (set lengths bytes : List ℕ) (g : Place) (quota : ℕ) (names : List ℕ) (y : Writable from set lengths bytes g quota names) where
+  abbrev begun : ℕ → Reel
+  begun at = record { at = at; section = 1; count = 0; room = quota; name = 6; short = false }
 
-pub record Facts (x : Flat) : Type 0 where
-  pub few : length (x .files) / 46 ≤ 64
-  pub reels : length (x .names) / 6 ≤ 16
-  pub entries : length (x .files) ≡ 46 * length (x .counts)
-  pub records : sum (x .counts) ≡ length (x .lengths)
-  pub inside : sum (x .lengths) ≡ length (x .bytes)
-  pub legal : legalSheet (sheetOf x) ≡ true
-
-adds-facts : {A : Type 0} (x : Flat) → addsUp x ≡ true
-    → (length (x .files) ≡ 46 * length (x .counts) → sum (x .counts) ≡ length (x .lengths) → sum (x .lengths) ≡ length (x .bytes) → A) → A
-unfolding addsUp
-adds-facts x h k =
-    both (eqb (length (x .files)) (46 * length (x .counts))) _
-    (λ a r. both (eqb (sum (x .counts)) (length (x .lengths))) _
-    (λ b r. both (eqb (sum (x .lengths)) (length (x .bytes))) _ (λ d r. k (eqb-true _ _ a) (eqb-true _ _ b) (eqb-true _ _ d)) r) r) h
-
-facts : (x : Flat) → sheetNumber x ≡ 0 → Facts x
-unfolding sheetNumber
-facts x =
-    if-case (λ (n : ℕ). n ≡ 0 → Facts x) _ 9 _ (λ _ q. absurd (omega arith))
-    (λ a. if-case (λ (n : ℕ). n ≡ 0 → Facts x) _ 9 _ (λ _ q. absurd (omega arith))
-    (λ b. if-case (λ (n : ℕ). n ≡ 0 → Facts x) (addsUp x) _ 11
-    (λ d. if-case (λ (n : ℕ). n ≡ 0 → Facts x) (legalSheet (sheetOf x)) 0 11
-    (λ e _. adds-facts x d
-    (λ entries records inside. record {
-      few = ltb-false _ _ a;
-      reels = ltb-false _ _ b;
-      entries = entries;
-      records = records;
-      inside = inside;
-      legal = e;
-    }))
-    (λ _ q. absurd (omega arith)))
-    (λ _ q. absurd (omega arith))))
-
--- a legal sheet has a name
-one-name : (s : Sheet) → legalSheet s ≡ true → 1 ≤ length (s .names)
-unfolding legalSheet legalNames
-one-name s =
-    both (legalQuota (s .quota)) _
-    (λ _ b. both (ifB (leb 1 (length (s .names))) _ false) _ (λ n _. both (leb 1 (length (s .names))) _ (λ one _. leb-true _ _ one) n) b)
-
-module _ (set files counts lengths bytes : List ℕ) (quota : ℕ) (names : List ℕ)
-    (zero-number : sheetNumber (flat set files counts lengths bytes quota names) ≡ 0) where
-  abbrev x : Flat
-  x = flat set files counts lengths bytes quota names
-
-  known : Facts x
-  known = facts x zero-number
-
-  says : LegalSheet (sheetOf x)
-  says = legal-sheet (sheetOf x) (known .legal)
-
-  all-files : filesFrom (inParts 46 files) counts lengths bytes ≡ filesAt files counts lengths bytes (place 0 0 0)
-  unfolding filesAt
-  all-files = refl
-
-  pub start-placed : Placed set files counts lengths bytes (place 0 0 0)
-  unfolding sheetOf
-  start-placed =
+  pub start-fileable : (o : List ℕ) (bs p : List ℕ) (at : ℕ) → Wrote o 0 bs p at → Fileable from quota set lengths bytes names g (begun at)
+  start-fileable o bs p at w =
       record {
-        entries = known .entries;
-        few = omega (arith, known .entries, known .few);
-        within = omega arith;
-        records = omega (arith, known .records);
-        inside = omega (arith, known .inside);
-        legal = ap (legalFiles set) (sym all-files) ∙ says .files;
+        placed = y .placed;
+        more = y .some;
+        sound =
+            record {
+              place = omega (arith, w .place);
+              least = y .least;
+              most = y .most;
+              blocks = omega arith;
+              begun = omega arith;
+              sections = omega arith;
+              reels = omega arith;
+              few = y .few;
+            };
+        enough = refl;
       }
 
-  named : 0 < length names
-  unfolding sheetOf
-  named =
-      let one : 1 ≤ length (inParts 6 names) = one-name (sheetOf x) (known .legal) in
-      by-length names refl one
-    where
-      by-length : (ns : List ℕ) → ns ≡ names → 1 ≤ length (inParts 6 names) → 0 < length names
-      by-length [] e h =
-          let none : length (inParts 6 names) ≡ 0 = ap (λ (l : List ℕ). length (inParts 6 l)) (sym e) ∙ ap length (parts-none 6) in
-          absurd (omega arith)
-      by-length (n ∷ ns) e h = let l : suc (length ns) ≡ length names = ap length e in omega arith
+  -- the whole set is its first reel's label and all files
+  set-laid : put (block (madeVolume (part 0 6 names)) ∷ []) (layFiles quota set 1 quota (namesAt names 6) (filesAt from lengths bytes g))
+      ≡ lay (sheetAt from set lengths bytes g quota names)
+  unfolding lay sheetAt layOn namesAt
+  set-laid = ap (layOn quota (record { set = set; files = filesAt from lengths bytes g })) (sym (names-some names 0 (y .named)))
 
-  pub start-sound : (o : List ℕ) (bs p : List ℕ) (at : ℕ) → Wrote o 0 bs p at
-      → Sound quota names (record { at = at; section = 1; count = 0; room = quota; name = 6; short = false })
-  unfolding sheetOf
-  start-sound o bs p at w =
-      record {
-        place = omega (arith, w .place);
-        least = says .some;
-        most = says .most;
-        blocks = omega arith;
-        begun = omega arith;
-        sections = omega arith;
-        reels = omega arith;
-        few = omega (arith, known .reels);
-      }
-
-  -- the whole sheet is its first reel's label and all files
-  sheet-laid : put (block (madeVolume (part 0 6 names)) ∷ []) (layFiles quota set 1 quota (namesAt names 6) (filesAt files counts lengths bytes (place 0 0 0)))
-      ≡ lay (sheetOf x)
-  unfolding lay sheetOf layOn namesAt
-  sheet-laid =
-      ap (λ (ds : List File). put (block (madeVolume (part 0 6 names)) ∷ []) (layFiles quota set 1 quota (namesAt names 6) ds)) (sym all-files)
-      ∙ ap (layOn quota (record { set = set; files = filesFrom (inParts 46 files) counts lengths bytes })) (sym (names-some names 0 named))
-
-  pub sheet-put : (o p : List ℕ) (at : ℕ) (q : List ℕ) (y : Filing) (s : List ℕ) (v : Reel)
+  pub set-put : (o p : List ℕ) (at : ℕ) (q : List ℕ) (x : Filing) (s : List ℕ) (v : Reel)
       → Wrote o 0 (head ++ encode (block (madeVolume (part 0 6 names)) ∷ [])) p at
-      → AllFiled quota set files counts lengths bytes names (place 0 0 0) (record { at = at; section = 1; count = 0; room = quota; name = 6; short = false }) p q y
-      → SetEnded (y .reel) q s v → Sheeted (lay (sheetOf x)) o s (v .at) (v .short)
+      → AllFiled from quota set lengths bytes names g (begun at) p q x → SetEnded (x .reel) q s v
+      → Sheeted (lay (sheetAt from set lengths bytes g quota names)) o s (v .at) (v .short)
   unfolding layAt layFiles
-  sheet-put o p at q y s v w m n =
-      let last : Lays (layAt quota set files counts lengths bytes names (y .place) (y .reel)) q (y .reel .at) s (v .at) (v .short)
-      = by-test (y .reel .short)
-      (λ z. lays-of-short _ q (y .reel .at) s (v .at) (v .short) (if-true _ _ _ z) (n .short ∙ z))
+  set-put o p at q x s v w m n =
+      let last : Lays (layAt from quota set lengths bytes names (x .place) (x .reel)) q (x .reel .at) s (v .at) (v .short)
+      = by-test (x .reel .short)
+      (λ z. lays-of-short _ q (x .reel .at) s (v .at) (v .short) (if-true _ _ _ z) (n .short ∙ z))
       (λ z.
-      lays-of-laid _ (mark ∷ reelEnd ∷ []) q (y .reel .at) s (v .at) (v .short)
+      lays-of-laid _ (mark ∷ reelEnd ∷ []) q (x .reel .at) s (v .at) (v .short)
       (if-false _ _ _ z
-      ∙ ap (layFiles quota set (suc (y .place .nth)) (y .reel .room) (namesAt names (y .reel .name))) (files-none files counts lengths bytes (y .place) (m .filed .over (m .off) z)))
+      ∙ ap (layFiles quota set (suc (x .place .nth)) (x .reel .room) (namesAt names (x .reel .name))) (files-none from lengths bytes (x .place) (m .filed .over (m .off) z)))
       (n .short ∙ z) (n .wrote z)) in
-      let all : Lays (layFiles quota set 1 quota (namesAt names 6) (filesAt files counts lengths bytes (place 0 0 0))) p at s (v .at) (v .short)
-      = lays-same _ _ p at s (v .at) (v .short) (if-false _ _ _ refl) (m .filed .same s (v .at) (v .short) last) in
-      subst (λ (l : Laid). Sheeted l o s (v .at) (v .short)) sheet-laid (sheeted-put o (block (madeVolume (part 0 6 names)) ∷ []) p at _ s (v .at) (v .short) w all)
+      let all : Lays (layFiles quota set 1 quota (namesAt names 6) (filesAt from lengths bytes g)) p at s (v .at) (v .short)
+      = lays-same _ _ p at s (v .at) (v .short)
+      (if-false _ _ _ refl ∙ ap (λ (k : ℕ). layFiles quota set (suc k) quota (namesAt names 6) (filesAt from lengths bytes g)) (y .first))
+      (m .filed .same s (v .at) (v .short) last) in
+      subst (λ (l : Laid). Sheeted l o s (v .at) (v .short)) set-laid (sheeted-put o (block (madeVolume (part 0 6 names)) ∷ []) p at _ s (v .at) (v .short) w all)
 
-pub ruleset sheets = (start-placed, start-sound, sheet-put, needs)
+pub ruleset sets = (start-fileable, set-put, needs)

@@ -20,12 +20,12 @@ use Rattle.writer.specs.declared.source.Moved.{Moved}
 use Rattle.writer.specs.declared.fill.Turn.{Turn}
 use Rattle.writer.specs.Pack.{Left, finished, going, wordOf, enters, taken, indicatorOf, controlWord, unitIn, fill, after}
 use Rattle.writer.specs.Output.{Wrote, overLong}
-use Rattle.writer.specs.Source.{bytesAt, laterAt, endAt, leftAt, Good, Handed, Copied, Opened}
+use Rattle.writer.specs.Source.{bytesAt, laterAt, endAt, leftAt, Holds, Good, Handed, Copied, Opened}
 use Rattle.writer.specs.Fills.{unitOf, UnitPut, fillAt, afterAt, Fillable, Turned, Turning, Filled, BlockPut}
 use Rattle.writer.proofs.Packing.{Entered, entered, by-test}
 use Rattle.writer.proofs.Units.{length-unit}
 use Rattle.output.proofs.Writing.{wrote-wrote}
-use Rattle.writer.proofs.Sources.{good-inside, good-length, length-bytes}
+use Rattle.writer.proofs.Sources.{good-length, length-bytes}
 
 -- ---- the equations of `fill` and `after`
 
@@ -72,7 +72,7 @@ after-more f b u t x y ys e d = if-true _ _ _ e ∙ if-true _ _ _ (eq-eqb _ _ d)
 -- ---- a unit
 
 pub unit-put : (f : ℕ) (bytes : List ℕ) (c : Cursor) (k i : ℕ) (o : List ℕ) (at : ℕ) (p : List ℕ) (r : ℕ) (q : List ℕ) (m : Moved)
-    → c .at + c .left ≤ length bytes → i ≡ indicatorOf (c .begun) k (c .left) → Wrote o at (controlWord f i k) p r → Copied bytes c k p r q m → UnitPut f bytes c k o at q m
+    → Holds bytes c → i ≡ indicatorOf (c .begun) k (c .left) → Wrote o at (controlWord f i k) p r → Copied bytes c k p r q m → UnitPut f bytes c k o at q m
 unit-put f bytes c k i o at p r q m h e w d =
     let n : c .left ≡ length (bytesAt bytes c) = sym (length-bytes bytes c h) in
     let v : Wrote o at (controlWord f (indicatorOf (c .begun) k (length (bytesAt bytes c))) k) p r
@@ -80,7 +80,7 @@ unit-put f bytes c k i o at p r q m h e w d =
     record { wrote = wrote-wrote o at _ p r _ q (m .at) v (d .wrote); handed = d .handed }
 
 pub unit-put-pair : (f : ℕ) (bytes : List ℕ) (c : Cursor) (k i : ℕ) (o : List ℕ) (at : ℕ) (p : List ℕ) (r : ℕ) (q : List ℕ) (m : Moved)
-    → c .at + c .left ≤ length bytes → (i ≡ indicatorOf (c .begun) k (c .left)) × (i ≤ 3) → Wrote o at (controlWord f i k) p r → Copied bytes c k p r q m
+    → Holds bytes c → (i ≡ indicatorOf (c .begun) k (c .left)) × (i ≤ 3) → Wrote o at (controlWord f i k) p r → Copied bytes c k p r q m
     → UnitPut f bytes c k o at q m
 unit-put-pair f bytes c k i o at p r q m h e w d = unit-put f bytes c k i o at p r q m h (e .0) w d
 
@@ -97,8 +97,8 @@ pub taken-small : (f b u : ℕ) (lengths bytes : List ℕ) (c : Cursor) (at k : 
     → k ≡ taken f b u (c .left) → k ≤ 99999
 taken-small f b u lengths bytes c at k g e h = omega (arith, entered f b u (c .left) e .within, g .most)
 
-pub fillable-inside : (b : ℕ) (lengths bytes : List ℕ) (c : Cursor) (at : ℕ) → Fillable b lengths bytes c at → c .at + c .left ≤ length bytes
-fillable-inside b lengths bytes c at g = good-inside lengths bytes c (g .good)
+pub fillable-holds : (b : ℕ) (lengths bytes : List ℕ) (c : Cursor) (at : ℕ) → Fillable b lengths bytes c at → Holds bytes c
+fillable-holds b lengths bytes c at g = g .good .holds
 
 pub fillable-live : (b : ℕ) (lengths bytes : List ℕ) (c : Cursor) (at : ℕ) → Fillable b lengths bytes c at → c .live ≡ true
 fillable-live b lengths bytes c at g = g .live
@@ -243,7 +243,7 @@ pub used-fits : (f b u : ℕ) (lengths bytes : List ℕ) (c : Cursor) (at k w : 
     → k ≡ taken f b u (c .left) → w ≡ wordOf f → Fits w64 (u + w + k)
 used-fits f b u lengths bytes c at k w g e h q = record { fits = omega (arith, entered f b u (c .left) e .within, g .most) }
 
-pub ruleset turns = (taken-most, taken-small, fillable-inside, fillable-live, unit-good, unit-spent, turned-full, turned-broken, turned-on, used-word-fits, used-fits, so-true, needs)
+pub ruleset turns = (taken-most, taken-small, fillable-holds, fillable-live, unit-good, unit-spent, turned-full, turned-broken, turned-on, used-word-fits, used-fits, so-true, needs)
 
 -- ---- the loop
 

@@ -12,4 +12,6 @@ pub mod Filling
 pub mod Items
 pub mod Reeling
 pub mod Filing
+pub mod FromSheet
+pub mod FromImage
 pub mod Answering

@@ -28,7 +28,7 @@ use Rattle.writer.specs.declared.reel.Laying.{Laying}
 use Rattle.writer.specs.Pack.{Left, finished, going, fill, after, blocksLeft, RoomLeft}
 use Rattle.writer.specs.Lay.{Laid, laid, short, put, headers, fileEnd, volumeEnd, rest}
 use Rattle.writer.specs.Output.{Wrote, overLong}
-use Rattle.writer.specs.Source.{bytesAt, laterAt, endAt, leftAt, Good}
+use Rattle.writer.specs.Source.{bytesAt, laterAt, endAt, stopAt, leftAt, Good}
 use Rattle.writer.specs.Fills.{fillAt, afterAt, Fillable, BlockPut}
 use Rattle.writer.specs.Reels.{Lays, Next, namesAt, Sound, restAt, nextAt, Roomed, Ready, oneMore, LaidHere, Passed, Passing, Spent, Layable, Ended, FilePut}
 use Rattle.writer.proofs.Packing.{by-test, blocks-finished, blocks-going, after-room}
@@ -502,7 +502,7 @@ file-put lengths bytes quota set e sequence names c r o p at q x s y w m n =
     record {
       end =
           λ z.
-          ap (λ (d : Cursor). d .at) (n .cur)
+          ap stopAt (n .cur)
           ∙ m .passed .good .over (m .passed .over (m .off) (sym (n .short) ∙ z))
           ∙ m .passed .end;
       kept = n .kept ∙ m .passed .kept ∙ w .kept;

@@ -1,37 +1,80 @@
--- The cursor over the slices of a sheet: how it moves. Assumes nothing.
+-- The cursor over the slices of a sheet, and over an image: how it moves. Assumes nothing.
 use mathlib.Core.Path.{_≡_, refl, sym, ap, _∙_, subst}
 use mathlib.Core.Bool.{Bool, true, false, false≢true}
 use mathlib.Core.List.{List, [], _∷_, _++_}
-use Prim.Native.Nat.{ℕ, zero, suc, _+_, _-_, _≤_, _<_}
+use Prim.Native.Nat.{ℕ, zero, suc, _+_, _-_, _≤_, _<_, min}
 use native.Mathlib.Omega.{arith}
 use native.Mathlib.Numerals.{add-one}
 use borrow.Author.Needs.{needs}
-use lib.ListN.{length, take, drop, getD, length-take, length-drop}
-use lib.Seq.{drop-cons, drop-drop, take-take, length-take-le}
+use borrow.Author.Tests.{leb-true, leb-false, eqb-true, eqb-false}
+use lib.Dec.{leb, eqb}
+use lib.ListN.{length, take, drop, getD, length-append, length-take, length-drop}
+use lib.Seq.{drop-cons, drop-drop, take-take, take-all, take-at, take-add, take-append-le, drop-append-le, length-take-le}
+use Rattle.base.specs.If.{ifB, if-true, if-false, if-case}
 use Rattle.base.specs.Part.{part}
 use Rattle.base.proofs.Parts.{length-part, drop-take}
 use Rattle.sheet.specs.Flat.{sum, cutBy}
+use Rattle.content.specs.Walk.{isInside, unitFrom, unitNext, firstSegment, nextSegment, recordAt}
+use Rattle.content.specs.Measure.{GoesOn, bytesBehind, measuredBy, recordBytes}
+use Rattle.content.specs.Records.{recordsAt}
+use Rattle.content.specs.declared.Walk.{Walk}
+use Rattle.content.specs.declared.unit.Taken.{Taken}
+use Rattle.content.specs.declared.unit.Taken.the-variants.{One, Nothing}
+use Rattle.content.specs.declared.measuring.Measured.{Measured}
+use Rattle.content.specs.declared.measuring.Measured.the-variants.{Whole, Split, Nothing as None}
+use Rattle.content.proofs.Units.{inside-true}
+use Rattle.content.proofs.Rests.{Behind, next-behind, from-behind}
+use Rattle.content.proofs.Joins.{Going, Splitting}
+use Rattle.content.proofs.Records.{measured-nothing, measured-whole, measured-split, split-long, whole-within, first-split, first-some, next-going, next-some}
 use Rattle.writer.specs.declared.source.Cursor.{Cursor}
 use Rattle.writer.specs.declared.source.Moved.{Moved}
 use Rattle.writer.specs.Output.{Wrote}
-use Rattle.writer.specs.Source.{bytesAt, lengthsAt, laterAt, endAt, Good, Handed, Copied, Opened}
+use Rattle.writer.specs.Source.{bytesAt, lengthsAt, laterAt, endAt, stopAt, Further, Holds, Good, Handed, Copied, Spelled, Onward, Segmented, past, opened, Opened}
+use Rattle.writer.proofs.Packing.{by-test}
+use Rattle.output.proofs.Writing.{wrote-wrote}
 
-abbrev cursor : ℕ → ℕ → ℕ → ℕ → ℕ → Bool → Cursor
-cursor at left next stop begun live = record { at = at; left = left; next = next; stop = stop; begun = begun; live = live }
+abbrev cursor : ℕ → ℕ → ℕ → ℕ → Bool → ℕ → ℕ → Bool → Walk → Walk → Cursor
+cursor at here left begun live next stop image walk behind =
+    record {
+      at = at;
+      here = here;
+      left = left;
+      begun = begun;
+      live = live;
+      next = next;
+      stop = stop;
+      image = image;
+      walk = walk;
+      behind = behind;
+    }
 
--- the open record lies within the bytes
-pub good-inside : (lengths bytes : List ℕ) (c : Cursor) → Good lengths bytes c → c .at + c .left ≤ length bytes
-unfolding endAt
-good-inside lengths bytes c g = omega (arith, g .inside)
+-- ---- what is left of the open record
 
-pub length-bytes : (bytes : List ℕ) (c : Cursor) → c .at + c .left ≤ length bytes → length (bytesAt bytes c) ≡ c .left
+-- the open segment, and what the walk behind it would give
+abbrev onwards : List ℕ → Cursor → List ℕ
+onwards bytes c = part (c .at) (c .here) bytes ++ bytesBehind bytes (c .walk)
+
+length-here : (bytes : List ℕ) (c : Cursor) → Holds bytes c → length (part (c .at) (c .here) bytes) ≡ c .here
+length-here bytes c h = length-part (c .at) (c .here) bytes (h .inside)
+
+length-onwards : (bytes : List ℕ) (c : Cursor) → Holds bytes c → length (onwards bytes c) ≡ c .here + length (bytesBehind bytes (c .walk))
+length-onwards bytes c h =
+    length-append (part (c .at) (c .here) bytes) (bytesBehind bytes (c .walk)) ∙ ap (λ (n : ℕ). n + length (bytesBehind bytes (c .walk))) (length-here bytes c h)
+
+pub length-bytes : (bytes : List ℕ) (c : Cursor) → Holds bytes c → length (bytesAt bytes c) ≡ c .left
 unfolding bytesAt
-length-bytes bytes c h = length-part (c .at) (c .left) bytes h
+length-bytes bytes c h =
+    let all : length (onwards bytes c) ≡ c .here + length (bytesBehind bytes (c .walk)) = length-onwards bytes c h in
+    by-test (leb (c .left) (c .here)) (λ t. let few = leb-true (c .left) (c .here) t in length-take-le (c .left) (onwards bytes c) (omega arith))
+    (λ t. let some = h .further (leb-false (c .left) (c .here) t) .all in length-take-le (c .left) (onwards bytes c) (omega arith))
+
+pub good-holds : (lengths bytes : List ℕ) (c : Cursor) → Good lengths bytes c → Holds bytes c
+good-holds lengths bytes c g = g .holds
 
 pub good-length : (lengths bytes : List ℕ) (c : Cursor) → Good lengths bytes c → length (bytesAt bytes c) ≡ c .left
-good-length lengths bytes c g = length-bytes bytes c (good-inside lengths bytes c g)
+good-length lengths bytes c g = length-bytes bytes c (g .holds)
 
--- ---- bytes handed over
+-- ---- bytes of the open segment handed over
 
 part-taken : (a n k : ℕ) (s : List ℕ) → k ≤ n → take k (part a n s) ≡ part a k s
 unfolding part
@@ -41,39 +84,311 @@ part-dropped : (a n k : ℕ) (s : List ℕ) → drop k (part a n s) ≡ part (a 
 unfolding part
 part-dropped a n k s = drop-take k n (drop a s) ∙ ap (take (n - k)) (drop-drop k a s)
 
-handed : (bytes : List ℕ) (c : Cursor) (k : ℕ) → k ≤ c .left → Handed bytes c k (cursor (c .at + k) (c .left - k) (c .next) (c .stop) 1 true)
-unfolding bytesAt laterAt lengthsAt endAt
-handed bytes c k h =
-    let place : c .at + k + (c .left - k) ≡ c .at + c .left = omega arith in
+module _ (bytes : List ℕ) (c : Cursor) (k : ℕ) (h : Holds bytes c) (m : k ≤ c .here) (l : k ≤ c .left) where
+  abbrev d : Cursor
+  d = past c k
+
+  within : k ≤ length (part (c .at) (c .here) bytes)
+  within = omega (arith, length-here bytes c h)
+
+  front : take k (bytesAt bytes c) ≡ part (c .at) k bytes
+  unfolding bytesAt
+  front =
+      take-take k (c .left) (onwards bytes c) l
+      ∙ take-append-le k (part (c .at) (c .here) bytes) (bytesBehind bytes (c .walk)) within
+      ∙ part-taken (c .at) (c .here) k bytes m
+
+  behind : bytesAt bytes d ≡ drop k (bytesAt bytes c)
+  unfolding bytesAt
+  behind =
+      ap (λ (s : List ℕ). take (c .left - k) (s ++ bytesBehind bytes (c .walk))) (sym (part-dropped (c .at) (c .here) k bytes))
+      ∙ ap (take (c .left - k)) (sym (drop-append-le k (part (c .at) (c .here) bytes) (bytesBehind bytes (c .walk)) within))
+      ∙ sym (drop-take k (c .left) (onwards bytes c))
+
+  place : c .at + k + (c .left - k) ≡ c .at + c .left
+  place = omega arith
+
+  holds : Holds bytes d
+  holds =
+      record {
+        inside = omega (arith, h .inside);
+        sheet = λ e. let q = h .sheet e in omega arith;
+        further =
+            λ less.
+            let f = h .further (omega arith) in
+            let all = f .all in
+            record { goes = record { inside = f .goes .inside; ended = f .goes .ended; fits = omega arith }; all = omega arith };
+      }
+
+  end : (lengths : List ℕ) → endAt lengths d ≡ endAt lengths c
+  unfolding endAt lengthsAt
+  end lengths = ap (λ (n : ℕ). ifB (c .image) 0 (suc (n + sum (lengthsAt lengths c)))) place
+
+  handed : Handed bytes c k d
+  unfolding laterAt lengthsAt
+  handed =
+      record {
+        remains = behind;
+        left = omega arith;
+        begun = refl;
+        live = refl;
+        holds = holds;
+        good =
+            λ lengths g.
+            record {
+              holds = holds;
+              order = g .order;
+              within = g .within;
+              inside = subst (λ (n : ℕ). n ≤ suc (length bytes)) (sym (end lengths)) (g .inside);
+              over = λ e. absurd (false≢true (sym e));
+            };
+        end = end;
+        later = λ lengths. ap (λ (n : ℕ). ifB (c .image) (recordsAt bytes (c .behind)) (cutBy (lengthsAt lengths c) (drop n bytes))) place;
+      }
+
+  pub spelled : (s o : List ℕ) (at : ℕ) (p : List ℕ) (r : ℕ) (x : Cursor) → s ≡ part (c .at) k bytes → Wrote o at s p r → x ≡ past c k
+      → Spelled bytes c k o at p (record { at = r; cur = x })
+  spelled s o at p r x e w q =
+      subst (λ (y : Cursor). Spelled bytes c k o at p (record { at = r; cur = y })) (sym q)
+      (record {
+        copied = record { wrote = subst (λ (bs : List ℕ). Wrote o at bs p r) (e ∙ sym front) w; handed = handed };
+        here = omega arith;
+        walk = refl;
+      })
+
+pub holds-fits : (bytes : List ℕ) (c : Cursor) → Holds bytes c → c .at + c .here ≤ length bytes
+holds-fits bytes c h = h .inside
+
+pub ruleset spells = (spelled, holds-fits, needs)
+
+-- ---- the next segment of a record that goes on
+
+-- one after the other
+handed-handed : (bytes : List ℕ) (c : Cursor) (j : ℕ) (d : Cursor) (k : ℕ) (e : Cursor) → Handed bytes c j d → Handed bytes d k e → Handed bytes c (j + k) e
+handed-handed bytes c j d k e x y =
     record {
-      remains = sym (part-dropped (c .at) (c .left) k bytes);
-      left = omega arith;
-      begun = refl;
-      live = refl;
-      good =
-          λ lengths g.
+      remains = y .remains ∙ ap (drop k) (x .remains) ∙ drop-drop k j (bytesAt bytes c);
+      left = omega (arith, x .left, y .left);
+      begun = y .begun;
+      live = y .live;
+      holds = y .holds;
+      good = λ lengths g. y .good lengths (x .good lengths g);
+      end = λ lengths. y .end lengths ∙ x .end lengths;
+      later = λ lengths. y .later lengths ∙ x .later lengths;
+    }
+
+copied-copied : (bytes : List ℕ) (c : Cursor) (j : ℕ) (o : List ℕ) (at : ℕ) (p : List ℕ) (m : Moved) (k : ℕ) (q : List ℕ) (n : Moved)
+    → Copied bytes c j o at p m → Copied bytes (m .cur) k p (m .at) q n → Copied bytes c (j + k) o at q n
+copied-copied bytes c j o at p m k q n x y =
+    let w : Wrote p (m .at) (take k (drop j (bytesAt bytes c))) q (n .at)
+    = subst (λ (s : List ℕ). Wrote p (m .at) (take k s) q (n .at)) (x .handed .remains) (y .wrote) in
+    record {
+      wrote = subst (λ (s : List ℕ). Wrote o at s q (n .at)) (sym (take-add j k (bytesAt bytes c))) (wrote-wrote o at _ p (m .at) _ q (n .at) (x .wrote) w);
+      handed = handed-handed bytes c j (m .cur) k (n .cur) (x .handed) (y .handed);
+    }
+
+-- a segment is further on and inside the image
+next-at : (s : List ℕ) (w : Walk) (i start n : ℕ) (v : Walk) → nextSegment s w ≡ One i start n v → Behind s w start n v
+unfolding nextSegment
+next-at s w i start n v =
+    if-case (λ (t : Taken). t ≡ One i start n v → Behind s w start n v) (isInside s w) (unitNext s w) Nothing (λ _ e. next-behind s w i start n v e)
+    (λ _ e. let z : _≡_ {A = ℕ} 0 1 = cc in absurd (omega arith))
+
+first-at : (s : List ℕ) (w : Walk) (i start n : ℕ) (v : Walk) → firstSegment s w ≡ One i start n v → Behind s w start n v
+unfolding firstSegment
+first-at s w i start n v =
+    if-case (λ (t : Taken). t ≡ One i start n v → Behind s w start n v) (isInside s w) (unitFrom s w) Nothing
+    (λ h e. from-behind s w i start n v (inside-true s w true (sym h) refl) e) (λ _ e. let z : _≡_ {A = ℕ} 0 1 = cc in absurd (omega arith))
+
+nothing-here : (at : ℕ) (s : List ℕ) → part at 0 s ≡ []
+unfolding part
+nothing-here at s = refl
+
+module _ (bytes : List ℕ) (c : Cursor) (h : Holds bytes c) (z : c .here ≡ 0) (l : 0 < c .left) (b : c .begun ≡ 1) (v : c .live ≡ true) where
+  f : Further bytes (c .walk) (c .here) (c .left)
+  f = h .further (omega arith)
+
+  all-behind : bytesAt bytes c ≡ bytesBehind bytes (c .walk)
+  unfolding bytesAt
+  all-behind =
+      ap (λ (n : ℕ). take (c .left) (part (c .at) n bytes ++ bytesBehind bytes (c .walk))) z
+      ∙ ap (λ (s : List ℕ). take (c .left) (s ++ bytesBehind bytes (c .walk))) (nothing-here (c .at) bytes)
+      ∙ take-all (c .left) (bytesBehind bytes (c .walk)) (omega (arith, f .all))
+
+  -- only an image has a record that goes on
+  is-image : c .image ≡ true
+  is-image = by-test (c .image) (λ e. e) (λ e. let q = h .sheet e in absurd (omega arith))
+
+  pub onward-none : (t : Taken) → t ≡ nextSegment bytes (c .walk) → t ≡ Nothing → Onward bytes c c
+  onward-none t e q = absurd (next-some bytes (c .walk) t (f .goes .inside) (f .goes .ended) e q)
+
+  module _ (i at here : ℕ) (walk : Walk) (t : Taken) (e : t ≡ nextSegment bytes (c .walk)) (q : t ≡ One i at here walk) where
+    g : Going bytes (c .walk) i at here walk
+    g = next-going bytes (c .walk) i at here walk t (f .goes .inside) (f .goes .ended) e q
+
+    a : Behind bytes (c .walk) at here walk
+    a = next-at bytes (c .walk) i at here walk (sym e ∙ q)
+
+    abbrev o : Cursor
+    o = cursor at here (c .left) 1 true (c .next) (c .stop) (c .image) walk (c .behind)
+
+    joined : (eqb i 3 ≡ false) → length (part at here bytes ++ bytesBehind bytes walk) ≡ c .left
+    joined s = ap length (sym (g .more (eqb-false i 3 s) .0)) ∙ omega (arith, f .all)
+
+    same-bytes : bytesAt bytes o ≡ bytesAt bytes c
+    unfolding bytesAt
+    same-bytes =
+        by-test (eqb i 3)
+        (λ s.
+        let last = g .last (eqb-true i 3 s) in
+        take-at (part at here bytes) (bytesBehind bytes walk) (c .left) (ap length (sym last) ∙ omega (arith, f .all)) ∙ sym last)
+        (λ s. take-all (c .left) (part at here bytes ++ bytesBehind bytes walk) (omega (arith, joined s)) ∙ sym (g .more (eqb-false i 3 s) .0))
+        ∙ sym all-behind
+
+    holds-on : Holds bytes o
+    holds-on =
+        record {
+          inside = a .within;
+          sheet = λ s. absurd (false≢true (sym s ∙ is-image));
+          further =
+              λ less.
+              by-test (eqb i 3)
+              (λ s.
+              let last : length (bytesBehind bytes (c .walk)) ≡ length (part at here bytes) = ap length (g .last (eqb-true i 3 s)) in
+              absurd (omega (arith, f .all, g .long)))
+              (λ s.
+              let sum : length (part at here bytes ++ bytesBehind bytes walk) ≡ length (part at here bytes) + length (bytesBehind bytes walk)
+              = length-append (part at here bytes) (bytesBehind bytes walk) in
+              record {
+                goes = record { inside = g .inside; ended = g .more (eqb-false i 3 s) .1; fits = omega (arith, joined s, g .long) };
+                all = omega (arith, joined s, g .long);
+              });
+        }
+
+    ends-on : (lengths : List ℕ) → endAt lengths o ≡ endAt lengths c
+    unfolding endAt
+    ends-on lengths = if-true _ _ _ is-image ∙ sym (if-true _ _ _ is-image)
+
+    pub onward-one : Onward bytes c o
+    unfolding laterAt
+    onward-one =
+        record {
+          handed =
+              record {
+                remains = same-bytes;
+                left = omega arith;
+                begun = refl;
+                live = refl;
+                holds = holds-on;
+                good =
+                    λ lengths y.
+                    record {
+                      holds = holds-on;
+                      order = y .order;
+                      within = y .within;
+                      inside = subst (λ (n : ℕ). n ≤ suc (length bytes)) (sym (ends-on lengths)) (y .inside);
+                      over = λ s. absurd (false≢true (sym s));
+                    };
+                end = ends-on;
+                later = λ lengths. if-true _ _ _ is-image ∙ sym (if-true _ _ _ is-image);
+              };
+          falls = omega (arith, a .onward, a .inside);
+        }
+
+pub ruleset onwardly = (onward-none, onward-one, needs)
+
+-- ---- segment after segment
+
+-- the whole segment was written, and there is more of the record
+pub spelled-here : (bytes : List ℕ) (c : Cursor) (o : List ℕ) (at : ℕ) (p : List ℕ) (m : Moved) → Spelled bytes c (c .here) o at p m → m .cur .here ≡ 0
+spelled-here bytes c o at p m x = omega (arith, x .here)
+
+pub spelled-left : (bytes : List ℕ) (c : Cursor) (o : List ℕ) (at : ℕ) (p : List ℕ) (m : Moved) → c .here < c .left → Spelled bytes c (c .here) o at p m → 0 < m .cur .left
+spelled-left bytes c o at p m h x = omega (arith, x .copied .handed .left)
+
+pub spelled-holds : (bytes : List ℕ) (c : Cursor) (k : ℕ) (o : List ℕ) (at : ℕ) (p : List ℕ) (m : Moved) → Spelled bytes c k o at p m → Holds bytes (m .cur)
+spelled-holds bytes c k o at p m x = x .copied .handed .holds
+
+pub spelled-begun : (bytes : List ℕ) (c : Cursor) (k : ℕ) (o : List ℕ) (at : ℕ) (p : List ℕ) (m : Moved) → Spelled bytes c k o at p m → m .cur .begun ≡ 1
+spelled-begun bytes c k o at p m x = x .copied .handed .begun
+
+pub spelled-live : (bytes : List ℕ) (c : Cursor) (k : ℕ) (o : List ℕ) (at : ℕ) (p : List ℕ) (m : Moved) → Spelled bytes c k o at p m → m .cur .live ≡ true
+spelled-live bytes c k o at p m x = x .copied .handed .live
+
+pub segmented : (bytes : List ℕ) (c : Cursor) (o : List ℕ) (at : ℕ) (p : List ℕ) (m : Moved) (d : Cursor) → Spelled bytes c (c .here) o at p m → Onward bytes (m .cur) d
+    → Segmented bytes c o at p (record { at = m .at; cur = d })
+segmented bytes c o at p m d x y =
+    let none : c .here + 0 ≡ c .here = omega arith in
+    record {
+      copied =
           record {
-            order = g .order;
-            within = g .within;
-            inside = subst (λ (n : ℕ). n + sum (lengthsAt lengths c) ≤ length bytes) (sym place) (g .inside);
-            over = λ e. absurd (false≢true (sym e));
+            wrote = x .copied .wrote;
+            handed = subst (λ (k : ℕ). Handed bytes c k d) none (handed-handed bytes c (c .here) (m .cur) 0 d (x .copied .handed) (y .handed));
           };
-      end = λ lengths. ap (λ (n : ℕ). n + sum (lengthsAt lengths c)) place;
-      later = λ lengths. ap (λ (n : ℕ). cutBy (lengthsAt lengths c) (drop n bytes)) place;
+      falls = subst (λ (w : Walk). length bytes - d .walk .at < length bytes - w .at) (x .walk) (y .falls);
     }
 
-pub copied : (bytes : List ℕ) (c : Cursor) (k : ℕ) (s o : List ℕ) (at : ℕ) (p : List ℕ) (r : ℕ) → k ≤ c .left → s ≡ part (c .at) k bytes → Wrote o at s p r
-    → Copied bytes c k o at p (record { at = r; cur = cursor (c .at + k) (c .left - k) (c .next) (c .stop) 1 true })
-unfolding bytesAt
-copied bytes c k s o at p r h e w =
-    record {
-      wrote = subst (λ (bs : List ℕ). Wrote o at bs p r) (e ∙ sym (part-taken (c .at) (c .left) k bytes h)) w;
-      handed = handed bytes c k h;
-    }
+pub all-here : (c : Cursor) → c .here < c .left → c .here ≤ c .left
+all-here c h = omega arith
 
-pub ruleset copies = (copied, needs)
+pub ruleset segments = (spelled-here, spelled-left, spelled-holds, spelled-begun, spelled-live, segmented, all-here, needs)
 
--- ---- the next record
+-- whatever writes what is left of k bytes from there writes k bytes from here
+pub record Copying (bytes : List ℕ) (c : Cursor) (k : ℕ) (o : List ℕ) (at : ℕ) (d : Cursor) (left : ℕ) (p : List ℕ) (place : ℕ) : Type 0 where
+  pub holds : Holds bytes d
+  pub most : left ≤ d .left
+  pub live : d .live ≡ true
+  pub kept : length p ≡ length o
+  pub same : (q : List ℕ) (m : Moved) → Copied bytes d left p place q m → Copied bytes c k o at q m
+
+pub copying-none : (bytes : List ℕ) (c : Cursor) (k : ℕ) (o : List ℕ) (at : ℕ) → Holds bytes c → k ≤ c .left → c .live ≡ true → Copying bytes c k o at c k o at
+copying-none bytes c k o at h l v = record { holds = h; most = l; live = v; kept = refl; same = λ q m x. x }
+
+module _ (bytes : List ℕ) (c : Cursor) (k : ℕ) (o : List ℕ) (at : ℕ) (d : Cursor) (left : ℕ) (p : List ℕ) (place : ℕ) (x : Copying bytes c k o at d left p place) where
+  pub copying-more : (q : List ℕ) (m : Moved) → d .here < left → Segmented bytes d p place q m → Copying bytes c k o at (m .cur) (left - d .here) q (m .at)
+  copying-more q m less y =
+      let back : d .here + (left - d .here) ≡ left = omega arith in
+      record {
+        holds = y .copied .handed .holds;
+        most = omega (arith, x .most, y .copied .handed .left);
+        live = y .copied .handed .live;
+        kept = y .copied .wrote .kept ∙ x .kept;
+        same =
+            λ r n w.
+            x .same r n
+            (subst (λ (j : ℕ). Copied bytes d j p place r n) back (copied-copied bytes d (d .here) p place q m (left - d .here) r n (y .copied) w));
+      }
+
+  pub copying-last : (q : List ℕ) (m : Moved) → left ≤ d .here → Spelled bytes d left p place q m → Copied bytes c k o at q m
+  copying-last q m few y = x .same q m (y .copied)
+
+  pub copying-holds : Holds bytes d
+  copying-holds = x .holds
+
+  pub copying-live : d .live ≡ true
+  copying-live = x .live
+
+  pub copying-most : left ≤ d .left
+  copying-most = x .most
+
+  pub copying-less : d .here < left → d .here < d .left
+  copying-less h = omega (arith, x .most)
+
+  pub copying-kept : length p ≡ length o
+  copying-kept = x .kept
+
+pub segment-falls : (bytes : List ℕ) (d : Cursor) (p : List ℕ) (place : ℕ) (q : List ℕ) (m : Moved) → Segmented bytes d p place q m
+    → length bytes - m .cur .walk .at < length bytes - d .walk .at
+segment-falls bytes d p place q m y = y .falls
+
+pub ruleset copying = (copying-none, copying-more, copying-last, copying-holds, copying-live, copying-most, copying-less, copying-kept, segment-falls, needs)
+
+pub copied-here : (bytes : List ℕ) (c : Cursor) (k : ℕ) (o : List ℕ) (at : ℕ) (p : List ℕ) (m : Moved) → Spelled bytes c k o at p m → Copied bytes c k o at p m
+copied-here bytes c k o at p m x = x .copied
+
+pub ruleset copies = (copied-here, needs)
+
+-- ---- the next record of a sheet
 
 none-left : (lengths : List ℕ) (i n : ℕ) → n ≤ i → part i (n - i) lengths ≡ []
 unfolding part
@@ -87,50 +402,180 @@ one-left lengths i n h k =
     ∙ ap (take (suc (n - (i + 1)))) (drop-cons lengths i 0 (omega arith))
     ∙ ap (λ (j : ℕ). getD lengths i 0 ∷ take (n - (i + 1)) (drop j lengths)) (sym (add-one i))
 
-pub opened-none : (lengths bytes : List ℕ) (c : Cursor) → Good lengths bytes c → c .left ≡ 0 → c .stop ≤ c .next
-    → Opened lengths bytes c (cursor (c .at) 0 (c .next) (c .stop) 0 false)
-unfolding bytesAt laterAt lengthsAt endAt cutBy sum
-opened-none lengths bytes c g l h =
-    let none : part (c .next) (c .stop - c .next) lengths ≡ [] = none-left lengths (c .next) (c .stop) h in
-    let empty : sum (part (c .next) (c .stop - c .next) lengths) ≡ 0 = ap sum none in
-    record {
-      good =
-          record {
-            order = g .order;
-            within = g .within;
-            inside = omega (arith, g .inside);
-            over = λ _. omega arith;
-          };
-      end = omega arith;
-      begun = refl;
-      none = λ _. ap (λ (ns : List ℕ). cutBy ns (drop (c .at + c .left) bytes)) none;
-      some = λ e. absurd (false≢true e);
-    }
+-- a record of a sheet is a part of its bytes
+one-part : (bytes : List ℕ) (w : Walk) (at n : ℕ) → at + n ≤ length bytes → take n (part at n bytes ++ bytesBehind bytes w) ≡ take n (drop at bytes)
+unfolding part
+one-part bytes w at n h = take-at (part at n bytes) (bytesBehind bytes w) n (length-part at n bytes h)
 
-pub opened-some : (lengths bytes : List ℕ) (c : Cursor) (n : ℕ) → Good lengths bytes c → c .left ≡ 0 → c .next < c .stop → n ≡ getD lengths (c .next) 0
-    → Opened lengths bytes c (cursor (c .at) n (c .next + 1) (c .stop) 0 true)
-unfolding bytesAt laterAt lengthsAt endAt cutBy sum part
-opened-some lengths bytes c n g l h e =
-    let one : part (c .next) (c .stop - c .next) lengths ≡ n ∷ part (c .next + 1) (c .stop - (c .next + 1)) lengths
-    = one-left lengths (c .next) (c .stop) h (g .within) ∙ ap (λ (k : ℕ). k ∷ part (c .next + 1) (c .stop - (c .next + 1)) lengths) (sym e) in
-    let total : sum (part (c .next) (c .stop - c .next) lengths) ≡ n + sum (part (c .next + 1) (c .stop - (c .next + 1)) lengths) = ap sum one in
-    let here : c .at + c .left ≡ c .at = omega arith in
-    record {
-      good =
-          record {
-            order = omega arith;
-            within = g .within;
-            inside = omega (arith, g .inside);
-            over = λ q. absurd (false≢true (sym q));
-          };
-      end = omega arith;
-      begun = refl;
-      none = λ q. absurd (false≢true (sym q));
-      some =
-          λ _.
-          ap (λ (ns : List ℕ). cutBy ns (drop (c .at + c .left) bytes)) one
-          ∙ ap (λ (k : ℕ). take n (drop k bytes) ∷ cutBy (part (c .next + 1) (c .stop - (c .next + 1)) lengths) (drop n (drop k bytes))) here
-          ∙ ap (λ (t : List ℕ). take n (drop (c .at) bytes) ∷ cutBy (part (c .next + 1) (c .stop - (c .next + 1)) lengths) t) (drop-drop n (c .at) bytes);
-    }
+module _ (lengths bytes : List ℕ) (c : Cursor) (g : Good lengths bytes c) (l : c .left ≡ 0) (s : c .image ≡ false) where
+  -- the end of the file, in numbers
+  end-is : endAt lengths c ≡ suc (c .at + sum (part (c .next) (c .stop - c .next) lengths))
+  unfolding endAt lengthsAt
+  end-is =
+      if-false _ _ _ s
+      ∙ ap (λ (n : ℕ). suc (c .at + n + sum (part (c .next) (c .stop - c .next) lengths))) l
+      ∙ omega arith
 
-pub ruleset opens = (opened-none, opened-some, needs)
+  later-is : laterAt lengths bytes c ≡ cutBy (part (c .next) (c .stop - c .next) lengths) (drop (c .at) bytes)
+  unfolding laterAt lengthsAt
+  later-is =
+      let here : c .at + c .left ≡ c .at = omega arith in
+      if-false _ _ _ s ∙ ap (λ (n : ℕ). cutBy (part (c .next) (c .stop - c .next) lengths) (drop n bytes)) here
+
+  pub opened-none : c .stop ≤ c .next → Opened lengths bytes c (cursor (c .at) 0 0 0 false (c .next) (c .stop) false (c .walk) (c .behind))
+  unfolding endAt stopAt lengthsAt cutBy sum
+  opened-none h =
+      let none : part (c .next) (c .stop - c .next) lengths ≡ [] = none-left lengths (c .next) (c .stop) h in
+      let empty : sum (part (c .next) (c .stop - c .next) lengths) ≡ 0 = ap sum none in
+      let ends : ifB false 0 (suc (c .at + 0 + sum (part (c .next) (c .stop - c .next) lengths))) ≡ suc (c .at + 0 + sum (part (c .next) (c .stop - c .next) lengths)) = if-false _ _ _ refl in
+      let stops : ifB false 0 (suc (c .at)) ≡ suc (c .at) = if-false _ _ _ refl in
+      record {
+        good =
+            record {
+              holds = record { inside = omega (arith, g .inside, end-is); sheet = λ _. refl; further = λ z. absurd (omega arith) };
+              order = g .order;
+              within = g .within;
+              inside = omega (arith, g .inside, end-is);
+              over = λ _. omega arith;
+            };
+        end = omega (arith, end-is);
+        begun = refl;
+        none = λ _. later-is ∙ ap (λ (ns : List ℕ). cutBy ns (drop (c .at) bytes)) none;
+        some = λ e. absurd (false≢true e);
+      }
+
+  pub opened-some : (n : ℕ) → c .next < c .stop → n ≡ getD lengths (c .next) 0
+      → Opened lengths bytes c (cursor (c .at) n n 0 true (c .next + 1) (c .stop) false (c .walk) (c .behind))
+  unfolding bytesAt laterAt endAt lengthsAt cutBy sum
+  opened-some n h e =
+      let one : part (c .next) (c .stop - c .next) lengths ≡ n ∷ part (c .next + 1) (c .stop - (c .next + 1)) lengths
+      = one-left lengths (c .next) (c .stop) h (g .within) ∙ ap (λ (k : ℕ). k ∷ part (c .next + 1) (c .stop - (c .next + 1)) lengths) (sym e) in
+      let total : sum (part (c .next) (c .stop - c .next) lengths) ≡ n + sum (part (c .next + 1) (c .stop - (c .next + 1)) lengths) = ap sum one in
+      let ends : ifB false 0 (suc (c .at + n + sum (part (c .next + 1) (c .stop - (c .next + 1)) lengths))) ≡ suc (c .at + n + sum (part (c .next + 1) (c .stop - (c .next + 1)) lengths)) = if-false _ _ _ refl in
+      let room : c .at + n ≤ length bytes = omega (arith, g .inside, end-is) in
+      record {
+        good =
+            record {
+              holds = record { inside = room; sheet = λ _. refl; further = λ z. absurd (omega arith) };
+              order = omega arith;
+              within = g .within;
+              inside = omega (arith, g .inside, end-is);
+              over = λ q. absurd (false≢true (sym q));
+            };
+        end = omega (arith, end-is);
+        begun = refl;
+        none = λ q. absurd (false≢true (sym q));
+        some =
+            λ _.
+            later-is
+            ∙ ap (λ (ns : List ℕ). cutBy ns (drop (c .at) bytes)) one
+            ∙ ap (λ (t : List ℕ). t ∷ cutBy (part (c .next + 1) (c .stop - (c .next + 1)) lengths) (drop n (drop (c .at) bytes))) (sym (one-part bytes (c .walk) (c .at) n room))
+            ∙ ap (λ (t : List ℕ). take n (part (c .at) n bytes ++ bytesBehind bytes (c .walk)) ∷ cutBy (part (c .next + 1) (c .stop - (c .next + 1)) lengths) t) (drop-drop n (c .at) bytes)
+            ∙ ap (λ (t : List (List ℕ)). take n (part (c .at) n bytes ++ bytesBehind bytes (c .walk)) ∷ t) (sym (if-false _ _ _ refl));
+      }
+
+pub ruleset listed = (opened-none, opened-some, needs)
+
+-- ---- the next record of an image
+
+module _ (lengths bytes : List ℕ) (c : Cursor) (g : Good lengths bytes c) (s : c .image ≡ true) (m : Measured) (e : m ≡ measuredBy (recordAt bytes (c .behind))) where
+  later-image : laterAt lengths bytes c ≡ recordsAt bytes (c .behind)
+  unfolding laterAt
+  later-image = if-true _ _ _ s
+
+  no-end : (live : Bool) (at here left : ℕ) (walk behind : Walk) → endAt lengths (opened c live at here left walk behind) ≡ 0
+  unfolding endAt
+  no-end live at here left walk behind = if-true _ _ _ refl
+
+  no-stop : (live : Bool) (at here left : ℕ) (walk behind : Walk) → stopAt (opened c live at here left walk behind) ≡ 0
+  unfolding stopAt
+  no-stop live at here left walk behind = if-true _ _ _ refl
+
+  same-end : (live : Bool) (at here left : ℕ) (walk behind : Walk) → endAt lengths (opened c live at here left walk behind) ≡ endAt lengths c
+  unfolding endAt
+  same-end live at here left walk behind = if-true _ _ _ refl ∙ sym (if-true _ _ _ s)
+
+  good-on : (live : Bool) (at here left : ℕ) (walk behind : Walk) → Holds bytes (opened c live at here left walk behind)
+      → Good lengths bytes (opened c live at here left walk behind)
+  good-on live at here left walk behind h =
+      record {
+        holds = h;
+        order = g .order;
+        within = g .within;
+        inside = omega (arith, no-end live at here left walk behind);
+        over = λ _. no-stop live at here left walk behind ∙ sym (no-end live at here left walk behind);
+      }
+
+  pub image-none : (d : Cursor) → m ≡ None → d ≡ opened c false 0 0 0 (c .behind) (c .behind) → Opened lengths bytes c d
+  image-none d q k =
+      subst (Opened lengths bytes c) (sym k)
+      (record {
+        good =
+            good-on false 0 0 0 (c .behind) (c .behind)
+            (record { inside = omega arith; sheet = λ _. refl; further = λ z. absurd (omega arith) });
+        end = same-end false 0 0 0 (c .behind) (c .behind);
+        begun = refl;
+        none = λ _. later-image ∙ measured-nothing bytes (c .behind) m e q;
+        some = λ z. absurd (false≢true z);
+      })
+
+  -- an open record of an image, from its first segment on
+  image-some : (at here left : ℕ) (walk behind : Walk) → Holds bytes (opened c true at here left walk behind)
+      → recordsAt bytes (c .behind) ≡ take left (part at here bytes ++ bytesBehind bytes walk) ∷ recordsAt bytes behind
+      → Opened lengths bytes c (opened c true at here left walk behind)
+  unfolding bytesAt laterAt
+  image-some at here left walk behind h r =
+      record {
+        good = good-on true at here left walk behind h;
+        end = same-end true at here left walk behind;
+        begun = refl;
+        none = λ z. absurd (false≢true (sym z));
+        some =
+            λ _.
+            later-image ∙ r ∙ ap (λ (t : List (List ℕ)). take left (part at here bytes ++ bytesBehind bytes walk) ∷ t) (sym (if-true _ _ _ refl));
+      }
+
+  pub image-whole : (d : Cursor) (at n : ℕ) (v : Walk) → m ≡ Whole at n v → d ≡ opened c true at n n v v → Opened lengths bytes c d
+  image-whole d at n v q k =
+      let room : at + n ≤ length bytes = whole-within bytes (c .behind) at n v m e q in
+      subst (Opened lengths bytes c) (sym k)
+      (image-some at n n v v (record { inside = room; sheet = λ _. refl; further = λ z. absurd (omega arith) })
+      (measured-whole bytes (c .behind) at n v m e q
+      ∙ ap (λ (t : List ℕ). t ∷ recordsAt bytes v) (sym (take-at (part at n bytes) (bytesBehind bytes v) n (length-part at n bytes room)))))
+
+  module _ (n : ℕ) (v : Walk) (q : m ≡ Split n v) (t : Taken) (f : t ≡ firstSegment bytes (c .behind)) where
+    first-none : (d : Cursor) → t ≡ Nothing → Opened lengths bytes c d
+    first-none d z = absurd (first-some bytes (c .behind) n v m t e q f z)
+
+    first-one : (d : Cursor) (i at here : ℕ) (u : Walk) → t ≡ One i at here u → d ≡ opened c true at here n u v → Opened lengths bytes c d
+    first-one d i at here u z k =
+        let p : Splitting bytes (c .behind) at here u = first-split bytes (c .behind) n v m i at here u t e q f z in
+        let long : length (recordBytes (recordAt bytes (c .behind))) ≡ n = split-long bytes (c .behind) n v m e q in
+        let sum : length (part at here bytes ++ bytesBehind bytes u) ≡ n = ap length (sym (p .bytes)) ∙ long in
+        let sides : length (part at here bytes ++ bytesBehind bytes u) ≡ length (part at here bytes) + length (bytesBehind bytes u)
+        = length-append (part at here bytes) (bytesBehind bytes u) in
+        let all : here + length (bytesBehind bytes u) ≡ n = omega (arith, p .long) in
+        subst (Opened lengths bytes c) (sym k)
+        (image-some at here n u v
+        (record {
+          inside = first-at bytes (c .behind) i at here u (sym f ∙ z) .within;
+          sheet = λ y. absurd (false≢true (sym y));
+          further = λ _. record { goes = record { inside = p .inside; ended = p .ended; fits = omega arith }; all = all };
+        })
+        (measured-split bytes (c .behind) n v m e q
+        ∙ ap (λ (x : List ℕ). x ∷ recordsAt bytes v) (p .bytes ∙ sym (take-all n (part at here bytes ++ bytesBehind bytes u) (omega arith)))))
+
+  pub image-split : (n : ℕ) (v : Walk) → m ≡ Split n v → Split n v ≡ measuredBy (recordAt bytes (c .behind))
+  image-split n v q = sym q ∙ e
+
+pub ruleset imaged = (image-none, image-whole, image-split, needs)
+
+module _ (lengths bytes : List ℕ) (c : Cursor) (g : Good lengths bytes c) (s : c .image ≡ true) (n : ℕ) (v : Walk) (e : Split n v ≡ measuredBy (recordAt bytes (c .behind)))
+    (t : Taken) (f : t ≡ firstSegment bytes (c .behind)) where
+  pub split-none : (d : Cursor) → t ≡ Nothing → Opened lengths bytes c d
+  split-none = first-none lengths bytes c g s (Split n v) e n v refl t f
+
+  pub split-one : (d : Cursor) (i at here : ℕ) (u : Walk) → t ≡ One i at here u → d ≡ opened c true at here n u v → Opened lengths bytes c d
+  split-one = first-one lengths bytes c g s (Split n v) e n v refl t f
+
+pub ruleset split = (split-none, split-one, needs)

@@ -1,6 +1,7 @@
 pub mod Pack
 pub mod Lay
 pub mod Write
+pub mod Rewrite
 pub mod Output
 pub mod Source
 pub mod Fills

@@ -16,7 +16,7 @@ use Rattle.writer.specs.declared.reel.Laying.{Laying}
 use Rattle.writer.specs.Pack.{blocksLeft, RoomLeft}
 use Rattle.writer.specs.Lay.{Laid, laid, short, put, headers, rest}
 use Rattle.writer.specs.Output.{Wrote, overLong}
-use Rattle.writer.specs.Source.{endAt, leftAt, Good}
+use Rattle.writer.specs.Source.{endAt, stopAt, leftAt, Good}
 use Rattle.writer.specs.Fills.{BlockPut}
 
 -- buffer o with l written at place a became p, and r is the place behind; or l is short, and so says z
@@ -120,7 +120,7 @@ pub record Ended (set e : List ℕ) (sequence : ℕ) (x : Laying) (o p : List �
 
 -- a whole file was laid, with its labels
 pub record FilePut (lengths bytes : List ℕ) (quota : ℕ) (set e : List ℕ) (sequence : ℕ) (names : List ℕ) (c : Cursor) (r : Reel) (o p : List ℕ) (x : Laying) : Type 0 where
-  pub end : x .reel .short ≡ false → x .cur .at ≡ endAt lengths c
+  pub end : x .reel .short ≡ false → stopAt (x .cur) ≡ endAt lengths c
   pub kept : length p ≡ length o
   pub sound : Sound quota names (x .reel)
   pub same : (next : Next) (q : List ℕ) (s : ℕ) (z : Bool)

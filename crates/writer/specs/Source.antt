@@ -1,45 +1,65 @@
--- What the writer is given to write of a file: records, one after the other, from a cursor by value over the slices of an order sheet.
+-- What the writer is given to write of a file: records, one after the other, from a cursor by value over a source. There are two sources: the slices of
+-- an order sheet, and an accepted image, in which a record may stand in several segments.
 -- The writer knows of a cursor whether a record is open, its bytes that are left, the records behind it, and where the file ends; and the two
--- moves, `Handed` and `Opened`. How the slices hold a record is known here alone.
+-- moves, `Handed` and `Opened`. How a source holds a record is known here alone.
 use mathlib.Core.Path.{_≡_}
 use mathlib.Core.Bool.{Bool, true, false}
-use mathlib.Core.List.{List, [], _∷_}
-use Prim.Native.Nat.{ℕ, _+_, _-_, _≤_}
+use mathlib.Core.List.{List, [], _∷_, _++_}
+use Prim.Native.Nat.{ℕ, suc, _+_, _-_, _≤_, _<_}
 use lib.ListN.{length, take, drop}
 use Rattle.base.specs.If.{ifB}
 use Rattle.base.specs.Part.{part}
 use Rattle.sheet.specs.Flat.{sum, cutBy}
+use Rattle.content.specs.Measure.{GoesOn, bytesBehind}
+use Rattle.content.specs.Records.{recordsAt}
+use Rattle.content.specs.declared.Walk.{Walk}
 use Rattle.writer.specs.declared.source.Cursor.{Cursor}
 use Rattle.writer.specs.declared.source.Moved.{Moved}
 use Rattle.writer.specs.Pack.{Left, finished, going}
 use Rattle.writer.specs.Output.{Wrote}
 
--- what is left of the open record
+-- what is left of the open record: of the open segment, and, where it goes on behind it, of the others
 unfoldable pub bytesAt : List ℕ → Cursor → List ℕ
-bytesAt bytes c = part (c .at) (c .left) bytes
+bytesAt bytes c = take (c .left) (part (c .at) (c .here) bytes ++ bytesBehind bytes (c .walk))
 
--- the lengths of the records behind it
+-- the lengths of the records behind it on a sheet
 unfoldable pub lengthsAt : List ℕ → Cursor → List ℕ
 lengthsAt lengths c = part (c .next) (c .stop - c .next) lengths
 
 -- the records behind it
 unfoldable pub laterAt : List ℕ → List ℕ → Cursor → List (List ℕ)
-laterAt lengths bytes c = cutBy (lengthsAt lengths c) (drop (c .at + c .left) bytes)
+laterAt lengths bytes c = ifB (c .image) (recordsAt bytes (c .behind)) (cutBy (lengthsAt lengths c) (drop (c .at + c .left) bytes))
 
--- where the bytes of the file end
+-- on a sheet, one more than the place where the bytes of the file end; a file of an image does not end at a place, and has 0
 unfoldable pub endAt : List ℕ → Cursor → ℕ
-endAt lengths c = c .at + c .left + sum (lengthsAt lengths c)
+endAt lengths c = ifB (c .image) 0 (suc (c .at + c .left + sum (lengthsAt lengths c)))
+
+-- the same for the place of the cursor
+unfoldable pub stopAt : Cursor → ℕ
+stopAt c = ifB (c .image) 0 (suc (c .at))
 
 -- what is left of the file
 unfoldable pub leftAt : List ℕ → List ℕ → Cursor → Left
 leftAt lengths bytes c = ifB (c .live) (going (c .begun) (bytesAt bytes c) (laterAt lengths bytes c)) finished
 
--- a cursor within its slices; behind the last record it stands at the end of the file
+-- the open record goes on behind w up to its end, with `here` bytes before that and `left` in all
+pub record Further (bytes : List ℕ) (w : Walk) (here left : ℕ) : Type 0 where
+  pub goes : GoesOn bytes w here left
+  pub all : here + length (bytesBehind bytes w) ≡ left
+
+-- the open segment stands within the bytes, and the record goes on where there is more of it; on a sheet a record is one segment
+pub record Holds (bytes : List ℕ) (c : Cursor) : Type 0 where
+  pub inside : c .at + c .here ≤ length bytes
+  pub sheet : c .image ≡ false → c .here ≡ c .left
+  pub further : c .here < c .left → Further bytes (c .walk) (c .here) (c .left)
+
+-- a cursor within its source; behind the last record of a sheet's file it stands at the end of the file
 pub record Good (lengths bytes : List ℕ) (c : Cursor) : Type 0 where
+  pub holds : Holds bytes c
   pub order : c .next ≤ c .stop
   pub within : c .stop ≤ length lengths
-  pub inside : endAt lengths c ≤ length bytes
-  pub over : c .live ≡ false → c .at ≡ endAt lengths c
+  pub inside : endAt lengths c ≤ suc (length bytes)
+  pub over : c .live ≡ false → stopAt c ≡ endAt lengths c
 
 -- cursor d is c with k bytes of the open record handed over
 pub record Handed (bytes : List ℕ) (c : Cursor) (k : ℕ) (d : Cursor) : Type 0 where
@@ -47,14 +67,63 @@ pub record Handed (bytes : List ℕ) (c : Cursor) (k : ℕ) (d : Cursor) : Type 
   pub left : d .left + k ≡ c .left
   pub begun : d .begun ≡ 1
   pub live : d .live ≡ true
+  pub holds : Holds bytes d
   pub good : (lengths : List ℕ) → Good lengths bytes c → Good lengths bytes d
   pub end : (lengths : List ℕ) → endAt lengths d ≡ endAt lengths c
   pub later : (lengths : List ℕ) → laterAt lengths bytes d ≡ laterAt lengths bytes c
+
+-- cursor c behind k bytes of the open segment
+abbrev pub past : Cursor → ℕ → Cursor
+past c k =
+    record {
+      at = c .at + k;
+      here = c .here - k;
+      left = c .left - k;
+      begun = 1;
+      live = true;
+      next = c .next;
+      stop = c .stop;
+      image = c .image;
+      walk = c .walk;
+      behind = c .behind;
+    }
 
 -- k bytes of the open record were written
 pub record Copied (bytes : List ℕ) (c : Cursor) (k : ℕ) (o : List ℕ) (at : ℕ) (p : List ℕ) (m : Moved) : Type 0 where
   pub wrote : Wrote o at (take k (bytesAt bytes c)) p (m .at)
   pub handed : Handed bytes c k (m .cur)
+
+-- k bytes of the open segment were written
+pub record Spelled (bytes : List ℕ) (c : Cursor) (k : ℕ) (o : List ℕ) (at : ℕ) (p : List ℕ) (m : Moved) : Type 0 where
+  pub copied : Copied bytes c k o at p m
+  pub here : m .cur .here + k ≡ c .here
+  pub walk : m .cur .walk ≡ c .walk
+
+-- cursor d is c with the next segment of its record opened: the walk is further on in the image
+pub record Onward (bytes : List ℕ) (c d : Cursor) : Type 0 where
+  pub handed : Handed bytes c 0 d
+  pub falls : length bytes - d .walk .at < length bytes - c .walk .at
+
+-- what was left of the open segment was written, and the next one opened
+pub record Segmented (bytes : List ℕ) (c : Cursor) (o : List ℕ) (at : ℕ) (p : List ℕ) (m : Moved) : Type 0 where
+  pub copied : Copied bytes c (c .here) o at p m
+  pub falls : length bytes - m .cur .walk .at < length bytes - c .walk .at
+
+-- cursor c with another record of an image open, from that place on, or none
+abbrev pub opened : Cursor → Bool → ℕ → ℕ → ℕ → Walk → Walk → Cursor
+opened c live at here left walk behind =
+    record {
+      at = at;
+      here = here;
+      left = left;
+      begun = 0;
+      live = live;
+      next = c .next;
+      stop = c .stop;
+      image = true;
+      walk = walk;
+      behind = behind;
+    }
 
 -- cursor d is c with the next record opened, or without a record where there is no next
 pub record Opened (lengths bytes : List ℕ) (c d : Cursor) : Type 0 where

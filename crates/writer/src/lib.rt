@@ -1,4 +1,5 @@
-// Writing an order sheet as an image. It knows in which order the numbers are given back, and asks the layers below for each part.
+// Writing an order sheet as an image, and rewriting an accepted image. It knows in which order the numbers are given back, and asks the layers below
+// for each part.
 mod fill; // fill.rt: data blocks
 mod item; // item.rt: labels, marks and ends of reels
 mod out; // out.rt: the lent buffer
@@ -8,18 +9,87 @@ mod source; // source.rt: the records of a file
 mod unit; // unit.rt: units and control words
 
 ghost use mathlib.Core.Path.{_≡_};
-ghost use Rattle.sheet.specs.Flat.{sheetNumber, sheetOf};
+ghost use Rattle.volume.specs.Run.{imageVerdict};
+ghost use Rattle.sheet.specs.Flat.{sheetNumber, sheetOf, reelsNumber};
+ghost use Rattle.content.specs.File.{firstFile};
+ghost use Rattle.content.specs.declared.NextFile.the-variants.{At};
 ghost use Rattle.writer.specs.Write.{writeSheet, write as writing};
+ghost use Rattle.writer.specs.Rewrite.{sheetFrom, rewrite as rewriting, Rewrites};
 ghost use Rattle.output.specs.Output.{Answers};
-ghost use Rattle.writer.specs.Sets.{flat};
+ghost use Rattle.writer.specs.Sets.{flat, originOf, sheetAt, Writable};
+use base::part_of;
+use content::FileAt;
+use content::NextFile;
+use content::Walk;
+use content::first_file;
+use label::set_of;
 use out::OVER_LONG;
 use output::Written;
 use output::done;
 use output::refusal;
-use set::lay_sheet;
+use set::LABEL;
+use set::Place;
+use set::lay_set;
+use sheet::reels_number;
 use sheet::sheet_number;
+use volume::check;
 
-// Writes a legal sheet. Its reels and its length are found in a buffer in which nothing has room, before the first byte is written.
+// Writes a set, its files from the first on. Its reels and its length are found in a buffer in which nothing has room, before the first byte is
+// written.
+fn write_set(
+    set: &[u8],
+    files: &[u8],
+    counts: &[u64],
+    lengths: &[u64],
+    bytes: &[u8],
+    image: bool,
+    start: Place,
+    quota: u64,
+    names: &[u8],
+    out: &mut [u8],
+) -> Written
+    requires { ⌜ Writable (originOf image (now files) (now counts)) (now set) (now lengths) (now bytes) start quota (now names) ⌝ }
+    ensures { λ r. ⌜ Answers (writeSheet (sheetAt (originOf image (now (files .entry)) (now (counts .entry))) (now (set .entry)) (now (lengths .entry)) (now (bytes .entry)) start quota (now (names .entry))) (now (out .entry))) r (now (out .exit)) ⌝ }
+{
+    let mut none = [0u8; 1];
+    let m = lay_set(
+        set,
+        files,
+        counts,
+        lengths,
+        bytes,
+        image,
+        start,
+        quota,
+        names,
+        &mut none,
+    );
+    if m.short {
+        return refusal(12);
+    }
+    let end = m.at;
+    if OVER_LONG <= end {
+        return refusal(14);
+    }
+    if out.len() < end {
+        return refusal(10);
+    }
+    lay_set(
+        set,
+        files,
+        counts,
+        lengths,
+        bytes,
+        image,
+        start,
+        quota,
+        names,
+        out,
+    );
+    done(end)
+}
+
+// Writes a legal sheet.
 fn write_legal(
     set: &[u8],
     files: &[u8],
@@ -33,20 +103,35 @@ fn write_legal(
     requires { ⌜ sheetNumber (flat (now set) (now files) (now counts) (now lengths) (now bytes) quota (now names)) ≡ 0 ⌝ }
     ensures { λ r. ⌜ Answers (writeSheet (sheetOf (flat (now (set .entry)) (now (files .entry)) (now (counts .entry)) (now (lengths .entry)) (now (bytes .entry)) quota (now (names .entry)))) (now (out .entry))) r (now (out .exit)) ⌝ }
 {
-    let mut none = [0u8; 1];
-    let m = lay_sheet(set, files, counts, lengths, bytes, quota, names, &mut none);
-    if m.short {
-        return refusal(12);
-    }
-    let end = m.at;
-    if OVER_LONG <= end {
-        return refusal(14);
-    }
-    if out.len() < end {
-        return refusal(10);
-    }
-    lay_sheet(set, files, counts, lengths, bytes, quota, names, out);
-    done(end)
+    let walk = Walk {
+        format: 0,
+        size: 0,
+        offset: 0,
+        at: 0,
+        left: 0,
+    };
+    let start = Place {
+        nth: 0,
+        first: 0,
+        byte: 0,
+        file: FileAt {
+            first: 0,
+            second: 0,
+            walk,
+        },
+    };
+    write_set(
+        set,
+        files,
+        counts,
+        lengths,
+        bytes,
+        false,
+        start,
+        quota,
+        names,
+        out,
+    )
 }
 
 // Writes an order sheet into a lent buffer: 9, 11, 12, 14 or 10 with place 0, which change no byte of it, or 0 and the image's length.
@@ -67,4 +152,61 @@ pub fn write(
         return refusal(n);
     }
     write_legal(set, files, counts, lengths, bytes, quota, names, out)
+}
+
+// Writes the set of an accepted image, whose first file stands there.
+fn rewrite_from(image: &[u8], f: FileAt, quota: u64, names: &[u8], out: &mut [u8]) -> Written
+    requires { ⌜ imageVerdict (now image) .number ≡ 0 ⌝ }
+    requires { ⌜ reelsNumber quota (now names) ≡ 0 ⌝ }
+    requires { ⌜ firstFile (now image) ≡ At f ⌝ }
+    ensures { λ r. ⌜ Answers (writeSheet (sheetFrom (now (image .entry)) quota (now (names .entry))) (now (out .entry))) r (now (out .exit)) ⌝ }
+{
+    let none = [0u64; 1];
+    let start = Place {
+        nth: 0,
+        first: 0,
+        byte: 0,
+        file: f,
+    };
+    let set = set_of(part_of(image, f.first, LABEL));
+    write_set(
+        set,
+        set,
+        &none,
+        &none,
+        image,
+        true,
+        start,
+        quota,
+        names,
+        out,
+    )
+}
+
+// Writes the set of an accepted image, by its files.
+fn rewrite_accepted(image: &[u8], quota: u64, names: &[u8], out: &mut [u8]) -> Written
+    requires { ⌜ imageVerdict (now image) .number ≡ 0 ⌝ }
+    requires { ⌜ reelsNumber quota (now names) ≡ 0 ⌝ }
+    ensures { λ r. ⌜ Answers (writeSheet (sheetFrom (now (image .entry)) quota (now (names .entry))) (now (out .entry))) r (now (out .exit)) ⌝ }
+{
+    match first_file(image) {
+        NextFile::Nowhere => refusal(11),
+        NextFile::At(f) => rewrite_from(image, f, quota, names, out),
+    }
+}
+
+// Rewrites an accepted image into a lent buffer with a quota and reel names: the image's own answer, then 9, 11, 12, 14 or 10 with place 0, all of
+// which change no byte of the buffer, or 0 and the length of the image written.
+pub fn rewrite(image: &[u8], quota: u64, names: &[u8], out: &mut [u8]) -> Written
+    ensures { λ r. ⌜ Rewrites (rewriting (now (image .entry)) quota (now (names .entry)) (now (out .entry))) r (now (out .exit)) ⌝ }
+{
+    let verdict = check(image);
+    if verdict.number != 0 {
+        return Written { verdict, len: 0 };
+    }
+    let n = reels_number(quota, names);
+    if n != 0 {
+        return refusal(n);
+    }
+    rewrite_accepted(image, quota, names, out)
 }

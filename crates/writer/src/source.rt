@@ -1,21 +1,37 @@
-// The records of a file, one after the other, from the slices of an order sheet. It knows how the slices hold a record, and nothing of blocks.
+// The records of a file, one after the other, from the slices of an order sheet or from an accepted image. It knows how each of them holds a
+// record, and nothing of blocks.
 ghost use mathlib.Core.Path.{_≡_};
-ghost use mathlib.Core.Bool.{true};
-ghost use Prim.Native.Nat.{_+_, _≤_};
+ghost use mathlib.Core.Bool.{true, false};
+ghost use Prim.Native.Nat.{_+_, _≤_, _<_};
 ghost use lib.ListN.{length};
-ghost use Rattle.writer.specs.Source.{Good, Copied, Opened};
+ghost use Rattle.writer.specs.Source.{Holds, Good, Copied, Spelled, Onward, Segmented, past, opened, Opened};
+ghost use Rattle.content.specs.Walk.{recordAt};
+ghost use Rattle.content.specs.Measure.{measuredBy};
+ghost use Rattle.content.specs.declared.measuring.Measured.the-variants.{Split};
 use crate::out::put_bytes;
 use base::part_of;
+use content::Measured;
+use content::Taken;
+use content::Walk;
+use content::first_segment;
+use content::measure;
+use content::next_segment;
 
-// Where the writer is in a file: the place and number of the bytes that are left of the open record; the next length and the end of the file's
-// lengths; 1 where some of the open record has been handed over, else 0; and whether a record is open at all.
+// Where the writer is in a file: the place and number of the bytes that are left of the open segment, and the number of those that are left of the
+// open record; 1 where some of that record has been handed over, else 0; and whether a record is open at all.
+// Of a sheet, whose records are one segment each, the next length and the end of the file's lengths; of an image, the walk behind the open segment and
+// the walk behind the open record.
 pub struct Cursor {
     pub at: usize,
+    pub here: usize,
     pub left: usize,
-    pub next: usize,
-    pub stop: usize,
     pub begun: u8,
     pub live: bool,
+    pub next: usize,
+    pub stop: usize,
+    pub image: bool,
+    pub walk: Walk,
+    pub behind: Walk,
 }
 
 // A cursor moved on, and the place behind what was written.
@@ -31,24 +47,204 @@ pub(crate) fn wide(n: u64) -> usize
     n as usize
 }
 
-// Writes k bytes of the open record.
-pub(crate) fn copy(bytes: &[u8], c: Cursor, k: usize, out: &mut [u8], at: usize) -> Moved
-    requires { ⌜ c .at + c .left ≤ length (now bytes) ⌝ }
+// The cursor behind k bytes of the open segment.
+fn past(bytes: &[u8], c: Cursor, k: usize) -> Cursor
+    requires { ⌜ Holds (now bytes) c ⌝ }
+    requires { ⌜ k ≤ c .here ⌝ }
+    requires { ⌜ k ≤ c .left ⌝ }
+    ensures { λ r. ⌜ r ≡ past c k ⌝ }
+{
+    let walk = c.walk;
+    let behind = c.behind;
+    Cursor {
+        at: c.at + k,
+        here: c.here - k,
+        left: c.left - k,
+        begun: 1,
+        live: true,
+        next: c.next,
+        stop: c.stop,
+        image: c.image,
+        walk,
+        behind,
+    }
+}
+
+// Writes k bytes of the open segment.
+fn spell(bytes: &[u8], c: Cursor, k: usize, out: &mut [u8], at: usize) -> Moved
+    requires { ⌜ Holds (now bytes) c ⌝ }
+    requires { ⌜ k ≤ c .here ⌝ }
+    requires { ⌜ k ≤ c .left ⌝ }
+    ensures { λ r. ⌜ Spelled (now (bytes .entry)) c k (now (out .entry)) at (now (out .exit)) r ⌝ }
+{
+    let end = put_bytes(out, at, part_of(bytes, c.at, k));
+    let cur = past(bytes, c, k);
+    Moved { at: end, cur }
+}
+
+// Opens the next segment of the open record, behind one that has been handed over.
+fn go_on(bytes: &[u8], c: Cursor) -> Cursor
+    requires { ⌜ Holds (now bytes) c ⌝ }
+    requires { ⌜ c .here ≡ 0 ⌝ }
+    requires { ⌜ 0 < c .left ⌝ }
+    requires { ⌜ c .begun ≡ 1 ⌝ }
+    requires { ⌜ c .live ≡ true ⌝ }
+    ensures { λ r. ⌜ Onward (now (bytes .entry)) c r ⌝ }
+{
+    let behind = c.behind;
+    match next_segment(bytes, c.walk) {
+        Taken::Nothing => c,
+        Taken::One(_, at, here, walk) => Cursor {
+            at,
+            here,
+            left: c.left,
+            begun: 1,
+            live: true,
+            next: c.next,
+            stop: c.stop,
+            image: c.image,
+            walk,
+            behind,
+        },
+    }
+}
+
+// Writes what is left of the open segment, behind which the record goes on, and opens the next.
+fn spell_out(bytes: &[u8], c: Cursor, out: &mut [u8], at: usize) -> Moved
+    requires { ⌜ Holds (now bytes) c ⌝ }
+    requires { ⌜ c .here < c .left ⌝ }
+    requires { ⌜ c .live ≡ true ⌝ }
+    ensures { λ r. ⌜ Segmented (now (bytes .entry)) c (now (out .entry)) at (now (out .exit)) r ⌝ }
+{
+    let m = spell(bytes, c, c.here, out, at);
+    let d = m.cur;
+    let cur = go_on(bytes, d);
+    Moved { at: m.at, cur }
+}
+
+// Writes k bytes of the open record, segment after segment.
+fn copy_segments(bytes: &[u8], c: Cursor, k: usize, out: &mut [u8], at: usize) -> Moved
+    requires { ⌜ Holds (now bytes) c ⌝ }
     requires { ⌜ k ≤ c .left ⌝ }
     requires { ⌜ c .live ≡ true ⌝ }
     ensures { λ r. ⌜ Copied (now (bytes .entry)) c k (now (out .entry)) at (now (out .exit)) r ⌝ }
 {
-    let end = put_bytes(out, at, part_of(bytes, c.at, k));
-    Moved {
-        at: end,
-        cur: Cursor {
-            at: c.at + k,
-            left: c.left - k,
-            next: c.next,
+    let mut cur = c;
+    let mut left = k;
+    let mut place = at;
+    while cur.here < left {
+        let n = cur.here;
+        let m = spell_out(bytes, cur, out, place);
+        cur = m.cur;
+        place = m.at;
+        left -= n;
+    }
+    spell(bytes, cur, left, out, place)
+}
+
+// Writes k bytes of the open record.
+pub(crate) fn copy(bytes: &[u8], c: Cursor, k: usize, out: &mut [u8], at: usize) -> Moved
+    requires { ⌜ Holds (now bytes) c ⌝ }
+    requires { ⌜ k ≤ c .left ⌝ }
+    requires { ⌜ c .live ≡ true ⌝ }
+    ensures { λ r. ⌜ Copied (now (bytes .entry)) c k (now (out .entry)) at (now (out .exit)) r ⌝ }
+{
+    if k <= c.here {
+        return spell(bytes, c, k, out, at);
+    }
+    copy_segments(bytes, c, k, out, at)
+}
+
+// Opens the next record of a sheet's file.
+fn next_of_sheet(lengths: &[u64], bytes: &[u8], c: Cursor) -> Cursor
+    requires { ⌜ Good (now lengths) (now bytes) c ⌝ }
+    requires { ⌜ c .left ≡ 0 ⌝ }
+    requires { ⌜ c .image ≡ false ⌝ }
+    ensures { λ r. ⌜ Opened (now (lengths .entry)) (now (bytes .entry)) c r ⌝ }
+{
+    let walk = c.walk;
+    let behind = c.behind;
+    let i = c.next;
+    if c.stop <= i {
+        return Cursor {
+            at: c.at,
+            here: 0,
+            left: 0,
+            begun: 0,
+            live: false,
+            next: i,
             stop: c.stop,
-            begun: 1,
-            live: true,
-        },
+            image: false,
+            walk,
+            behind,
+        };
+    }
+    let n = wide(lengths[i]);
+    Cursor {
+        at: c.at,
+        here: n,
+        left: n,
+        begun: 0,
+        live: true,
+        next: i + 1,
+        stop: c.stop,
+        image: false,
+        walk,
+        behind,
+    }
+}
+
+// The cursor with another record of an image open, or none.
+fn opened(
+    c: Cursor,
+    live: bool,
+    at: usize,
+    here: usize,
+    left: usize,
+    walk: Walk,
+    behind: Walk,
+) -> Cursor
+    ensures { λ r. ⌜ r ≡ opened c live at here left walk behind ⌝ }
+{
+    Cursor {
+        at,
+        here,
+        left,
+        begun: 0,
+        live,
+        next: c.next,
+        stop: c.stop,
+        image: true,
+        walk,
+        behind,
+    }
+}
+
+// Opens the record of n bytes in several segments that stands behind the open one of an image's file; v is the walk behind it.
+fn open_split(lengths: &[u64], bytes: &[u8], c: Cursor, n: usize, v: Walk) -> Cursor
+    requires { ⌜ Good (now lengths) (now bytes) c ⌝ }
+    requires { ⌜ c .image ≡ true ⌝ }
+    requires { ⌜ Split n v ≡ measuredBy (recordAt (now bytes) (c .behind)) ⌝ }
+    ensures { λ r. ⌜ Opened (now (lengths .entry)) (now (bytes .entry)) c r ⌝ }
+{
+    let w = c.behind;
+    match first_segment(bytes, w) {
+        Taken::Nothing => opened(c, false, 0, 0, 0, w, w),
+        Taken::One(_, at, here, u) => opened(c, true, at, here, n, u, v),
+    }
+}
+
+// Opens the next record of an image's file.
+fn next_of_image(lengths: &[u64], bytes: &[u8], c: Cursor) -> Cursor
+    requires { ⌜ Good (now lengths) (now bytes) c ⌝ }
+    requires { ⌜ c .image ≡ true ⌝ }
+    ensures { λ r. ⌜ Opened (now (lengths .entry)) (now (bytes .entry)) c r ⌝ }
+{
+    let w = c.behind;
+    match measure(bytes, w) {
+        Measured::Nothing => opened(c, false, 0, 0, 0, w, w),
+        Measured::Whole(at, n, v) => opened(c, true, at, n, n, v, v),
+        Measured::Split(n, v) => open_split(lengths, bytes, c, n, v),
     }
 }
 
@@ -58,23 +254,8 @@ pub(crate) fn next(lengths: &[u64], bytes: &[u8], c: Cursor) -> Cursor
     requires { ⌜ c .left ≡ 0 ⌝ }
     ensures { λ r. ⌜ Opened (now (lengths .entry)) (now (bytes .entry)) c r ⌝ }
 {
-    let i = c.next;
-    if c.stop <= i {
-        return Cursor {
-            at: c.at,
-            left: 0,
-            next: i,
-            stop: c.stop,
-            begun: 0,
-            live: false,
-        };
+    if c.image {
+        return next_of_image(lengths, bytes, c);
     }
-    Cursor {
-        at: c.at,
-        left: wide(lengths[i]),
-        next: i + 1,
-        stop: c.stop,
-        begun: 0,
-        live: true,
-    }
+    next_of_sheet(lengths, bytes, c)
 }

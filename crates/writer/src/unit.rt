@@ -5,9 +5,9 @@ ghost use mathlib.Core.List.{_∷_};
 ghost use Prim.Native.Nat.{_+_, _-_, _≤_, min};
 ghost use lib.Dec.{leb};
 ghost use Rattle.base.specs.Digits.{digits};
-ghost use lib.ListN.{length};
 ghost use Rattle.writer.specs.Pack.{wordOf, enters, taken, indicatorOf, controlWord};
 ghost use Rattle.writer.specs.Output.{Wrote};
+ghost use Rattle.writer.specs.Source.{Holds};
 ghost use Rattle.writer.specs.Fills.{UnitPut};
 use crate::out::put_byte;
 use crate::out::put_bytes;
@@ -136,7 +136,7 @@ fn put_control(out: &mut [u8], at: usize, f: u8, i: u8, k: usize) -> usize
 
 // Writes a unit of k bytes of the open record.
 pub(crate) fn put_unit(f: u8, bytes: &[u8], c: Cursor, k: usize, out: &mut [u8], at: usize) -> Moved
-    requires { ⌜ c .at + c .left ≤ length (now bytes) ⌝ }
+    requires { ⌜ Holds (now bytes) c ⌝ }
     requires { ⌜ k ≤ c .left ⌝ }
     requires { ⌜ k ≤ 99999 ⌝ }
     requires { ⌜ c .live ≡ true ⌝ }

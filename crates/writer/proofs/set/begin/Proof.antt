@@ -1,4 +1,4 @@
-use Rattle.writer.proofs.Filing.{begins}
+use Rattle.writer.proofs.FromSheet.{begins}
 use Rattle.writer.proofs.set.begin.Statement.{statement}
 use Rattle.writer.proofs.set.begin.Tie as tie
 

@@ -1,35 +1,26 @@
-use Rattle.writer.proofs.Filing.{filing, fileable-filed}
+use Rattle.writer.proofs.Filing.{origins}
 use Rattle.writer.proofs.set.lay_file.Statement.{statement}
 use Rattle.writer.proofs.set.lay_file.Tie as tie
 
-stop-of-requires : tie.Need-stop-of-requires
-stop-of-requires c κs = search filing
-
-begin-requires : tie.Need-begin-requires
-begin-requires c κs = search filing
-
-lay-entry-requires : tie.Need-lay-entry-requires
-lay-entry-requires c κs = search filing
-
-behind-requires : tie.Need-behind-requires
-behind-requires c κs = c .before .before .before .before .before .before .before .before .before .before .before .before .before .pre .more
+lay-read-requires : tie.Need-lay-read-requires
+lay-read-requires c κs = search origins
 
 same-length : tie.Need-same-length
-same-length c = search filing
+same-length c = search origins
 
 returns : tie.Need-returns
-returns c =
-    fileable-filed _ _ _ _ _ _ _ _ _ _ _ _ _ _ _ (c .before .before .before .before .before .before .before .before .before .before .before .before .before .before .pre)
-    (c .before .before .before .before .before .before .stop-of .ensures) (c .before .before .before .before .before .begin .ensures)
-    (c .before .before .before .lay-entry .ensures) (c .behind .ensures)
+returns c = search origins
+
+lay-listed-requires : tie.Need-lay-listed-requires
+lay-listed-requires c κs = search origins
+
+same-length-2 : tie.Need-same-length-2
+same-length-2 c = search origins
+
+returns-2 : tie.Need-returns-2
+returns-2 c = search origins
 
 pub lay-file-spec : {M : Type 1} → statement M
 lay-file-spec =
     tie.close
-    (tie.spec
-    stop-of-requires
-    begin-requires
-    lay-entry-requires
-    behind-requires
-    same-length
-    returns)
+    (tie.spec lay-read-requires same-length returns lay-listed-requires same-length-2 returns-2)

@@ -1,14 +1,14 @@
-use Rattle.writer.proofs.Filing.{files}
 use Rattle.writer.proofs.Filing.{filesOn}
-use Rattle.writer.specs.Sets.{Filed}
+use Rattle.writer.specs.Sets.{originOf, Filed}
+use Rattle.writer.proofs.Filing.{files}
 use Rattle.writer.proofs.set.lay_files.Statement.{statement}
 use Rattle.writer.proofs.set.lay_files.Tie as tie
 
 abbrev Inv-loop : tie.InvT-loop
-Inv-loop set files counts lengths bytes quota names out₀ x₀ out x = Filed quota set files counts lengths bytes names (x₀ .place) (x₀ .reel) out₀ out x
+Inv-loop set files counts lengths bytes image quota names out₀ x₀ out x = Filed (originOf image files counts) quota set lengths bytes names (x₀ .place) (x₀ .reel) out₀ out x
 
 abbrev μ-loop : tie.MeasureT-loop
-μ-loop set files counts lengths bytes quota names out₀ x₀ out x = filesOn counts x
+μ-loop set files counts lengths bytes image quota names out₀ x₀ out x = filesOn (originOf image files counts) bytes x
 
 loop-holds : tie.Need-loop-holds Inv-loop μ-loop
 loop-holds c = search files

@@ -1,4 +1,4 @@
-use Rattle.writer.proofs.Filing.{stops}
+use Rattle.writer.proofs.FromSheet.{stops}
 use Rattle.writer.proofs.set.stop_of.Statement.{statement}
 use Rattle.writer.proofs.set.stop_of.Tie as tie
 

@@ -1,5 +1,6 @@
 -- Rewriting. Document 01, "Meaning, and the one way to write it": rewriting an accepted set is the writer on the sheet with its meaning and the given
 -- quota and names; the reading numbers go first, then 9, 11, 12, 14, 10 with place 0.
+use mathlib.Core.Path.{_≡_}
 use mathlib.Core.List.{List}
 use Prim.Native.Nat.{ℕ}
 use lib.Dec.{eqb}
@@ -11,8 +12,9 @@ use Rattle.volume.specs.Run.{imageVerdict}
 use Rattle.volume.specs.Meaning.{content}
 use Rattle.sheet.specs.Legal.{Sheet}
 use Rattle.sheet.specs.Flat.{inParts, reelsNumber}
+use Rattle.output.specs.declared.Written.{Written as Answer}
 use Rattle.output.specs.Output.{Written}
 use Rattle.writer.specs.Write.{writeSheet}
 
 -- what rewriting gives: the answer, the length of the image (0 with a refusal), and what the lent buffer then holds
 pub record Rewritten : Type 0 where
@@ -40,3 +42,9 @@ rewrite s quota names out =
 -- the image that was written
 unfoldable pub imageIn : Rewritten → List ℕ
 imageIn r = take (r .len) (r .out)
+
+-- what the code answers, and the buffer behind it, are what rewriting gives
+pub record Rewrites (w : Rewritten) (r : Answer) (p : List ℕ) : Type 0 where
+  pub said : r .verdict ≡ w .verdict
+  pub len : r .len ≡ w .len
+  pub out : p ≡ w .out
