@@ -11,6 +11,7 @@ ghost use Rattle.content.specs.Walk.{stepAt, joinAt};
 ghost use Rattle.listing.specs.Text.{textOf};
 ghost use Rattle.writer.specs.Write.{write};
 ghost use Rattle.writer.specs.Sets.{flat};
+ghost use Rattle.writer.specs.Rewrite.{rewrite, Rewrites};
 ghost use Rattle.tardorelga.specs.Numbers.{recordOf, beginningOf, steppedOf};
 use base::Verdict;
 use content::Begun;
@@ -208,4 +209,17 @@ pub extern "C" fn tardorelga_write(
     ensures { λ r. ⌜ Answers (write (flat (now (set .entry)) (now (files .entry)) (now (counts .entry)) (now (lengths .entry)) (now (bytes .entry)) quota (now (names .entry))) (now (out .entry))) r (now (out .exit)) ⌝ }
 {
     writer::write(set, files, counts, lengths, bytes, quota, names, out)
+}
+
+// Rewrites an accepted image into a lent buffer, with this quota and these reel names.
+#[no_mangle]
+pub extern "C" fn tardorelga_rewrite(
+    image: &[u8],
+    quota: u64,
+    names: &[u8],
+    out: &mut [u8],
+) -> Written
+    ensures { λ r. ⌜ Rewrites (rewrite (now (image .entry)) quota (now (names .entry)) (now (out .entry))) r (now (out .exit)) ⌝ }
+{
+    normal::rewrite(image, quota, names, out)
 }
