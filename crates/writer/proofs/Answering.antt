@@ -1,14 +1,13 @@
 -- The numbers given back by the writer, in their order. Assumes nothing.
 use mathlib.Core.Path.{_≡_, refl, sym, ap, _∙_, subst}
 use mathlib.Core.Bool.{Bool, true, false, false≢true}
-use mathlib.Core.List.{List, [], _∷_, _++_}
+use mathlib.Core.List.{List, _++_}
 use Prim.Native.Nat.{ℕ, _+_, _≤_, _<_, min}
 use native.Mathlib.Omega.{arith}
 use borrow.Author.Needs.{needs}
 use borrow.Author.Tests.{le-leb, lt-leb, eq-eqb, ne-eqb}
-use lib.Dec.{eqb, leb}
-use lib.ListN.{length, take, drop}
-use Rattle.base.specs.If.{ifB, if-true, if-false}
+use lib.ListN.{length, drop}
+use Rattle.base.specs.If.{if-true, if-false}
 use Rattle.base.specs.Part.{putAt}
 use Rattle.base.specs.Answer.{verdict}
 use Rattle.base.specs.declared.Verdict.{Verdict}
@@ -18,11 +17,11 @@ use Rattle.volume.specs.Run.{imageVerdict}
 use Rattle.sheet.specs.Legal.{Sheet}
 use Rattle.sheet.specs.Flat.{Flat, sheetNumber, sheetOf, reelsNumber}
 use Rattle.output.specs.declared.Written.{Written as Answer}
-use Rattle.output.specs.Output.{Written, refused, refusalOf, writtenOf, Answers}
+use Rattle.output.specs.Output.{Written, refusalOf, writtenOf, Answers}
 use Rattle.output.proofs.Writing.{answers-refused}
 use Rattle.writer.specs.Lay.{Laid, laid, short, lay}
 use Rattle.writer.specs.Write.{stored, storedLaid, writeSheet, write}
-use Rattle.writer.specs.Output.{Wrote, overLong}
+use Rattle.writer.specs.Output.{overLong}
 use Rattle.writer.specs.Rewrite.{Rewritten, refusedWith, placed, sheetFrom, rewrite, Rewrites}
 use Rattle.writer.specs.Sets.{Sheeted}
 

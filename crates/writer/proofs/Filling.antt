@@ -2,14 +2,13 @@
 use mathlib.Core.Path.{_≡_, refl, sym, ap, _∙_, subst}
 use mathlib.Core.Bool.{Bool, true, false, false≢true}
 use mathlib.Core.List.{List, [], _∷_, _++_, append-nil, append-assoc}
-use Prim.Native.Nat.{ℕ, zero, suc, _+_, _-_, _≤_, _<_, min}
+use Prim.Native.Nat.{ℕ, suc, _+_, _-_, _≤_, _<_, min}
 use native.Mathlib.Omega.{arith}
 use borrow.Author.Needs.{needs}
 use borrow.Author.Tests.{eq-eqb, ne-eqb}
 use mir.Val.{Fits}
 use mir.Syntax.{w64}
-use lib.Dec.{eqb, leb}
-use lib.ListN.{length, take, drop, length-append, length-take}
+use lib.ListN.{length, take, drop, length-append}
 use lib.Seq.{length-take-le, take-at, drop-at}
 use Rattle.base.specs.If.{ifB, if-true, if-false, so-true}
 use Rattle.base.specs.Part.{putAt}
@@ -18,11 +17,11 @@ use Rattle.image.specs.Item.{block, three, bytesOf, encode}
 use Rattle.writer.specs.declared.source.Cursor.{Cursor}
 use Rattle.writer.specs.declared.source.Moved.{Moved}
 use Rattle.writer.specs.declared.fill.Turn.{Turn}
-use Rattle.writer.specs.Pack.{Left, finished, going, wordOf, enters, taken, indicatorOf, controlWord, unitIn, fill, after}
+use Rattle.writer.specs.Pack.{finished, going, wordOf, enters, taken, indicatorOf, controlWord, unitIn, fill, after}
 use Rattle.writer.specs.Output.{Wrote, overLong}
-use Rattle.writer.specs.Source.{bytesAt, laterAt, endAt, leftAt, Holds, Good, Handed, Copied, Opened}
+use Rattle.writer.specs.Source.{bytesAt, laterAt, leftAt, Holds, Good, Copied, Opened}
 use Rattle.writer.specs.Fills.{unitOf, UnitPut, fillAt, afterAt, Fillable, Turned, Turning, Filled, BlockPut}
-use Rattle.writer.proofs.Packing.{Entered, entered, by-test}
+use Rattle.writer.proofs.Packing.{entered, by-test}
 use Rattle.writer.proofs.Units.{length-unit}
 use Rattle.output.proofs.Writing.{wrote-wrote}
 use Rattle.writer.proofs.Sources.{good-length, length-bytes}

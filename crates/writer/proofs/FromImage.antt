@@ -1,24 +1,22 @@
 -- The files of an accepted image: how they are met one after the other, and what each step of the code over them does. Assumes nothing.
 use mathlib.Core.Path.{_≡_, refl, sym, ap, ap₂, _∙_, subst}
-use mathlib.Core.Bool.{Bool, true, false, not, false≢true}
+use mathlib.Core.Bool.{true, false, not, false≢true}
 use mathlib.Core.List.{List, [], _∷_, _++_, append-nil, append-assoc}
-use Prim.Native.Nat.{ℕ, zero, suc, _+_, _-_, _*_, _/_, _%_, _≤_, _<_, min}
+use Prim.Native.Nat.{ℕ, _+_, _-_, _/_, _≤_, _<_}
 use native.Mathlib.Omega.{arith}
 use native.Mathlib.Numerals.{add-one}
 use borrow.Author.Needs.{needs}
-use borrow.Author.Tests.{eqb-true, ltb-false, not-true}
-use lib.Dec.{eqb, ltb}
+use borrow.Author.Tests.{ltb-false, not-true}
 use lib.ListN.{length, drop, getD, replicate, length-append, length-drop, drop-of-length-le}
 use lib.Seq.{drop-cons}
-use Rattle.base.specs.If.{ifB, if-true, if-false, if-case}
+use Rattle.base.specs.If.{if-true, if-case}
 use Rattle.base.specs.Part.{part, putAt}
 use Rattle.base.proofs.Parts.{length-part, put-put}
 use Rattle.label.specs.Field.{setOf}
 use Rattle.volume.specs.Run.{imageVerdict}
-use Rattle.volume.specs.Meaning.{File, Meaning, fieldsFrom, content}
-use Rattle.sheet.specs.Legal.{Sheet, formatFrom, blockLengthFrom, legalFiles, legalSheet, legalQuota, legalNames}
+use Rattle.volume.specs.Meaning.{File, fieldsFrom, content}
+use Rattle.sheet.specs.Legal.{formatFrom, blockLengthFrom, legalFiles, legalSheet, legalQuota, legalNames}
 use Rattle.sheet.specs.Flat.{inParts, reelsNumber}
-use Rattle.sheet.proofs.Cutting.{parts-none}
 use Rattle.sheet.proofs.Legality.{accepted-sheet}
 use Rattle.content.specs.File.{firstFile, nextFile}
 use Rattle.content.specs.Records.{recordsAt}
@@ -39,9 +37,9 @@ use Rattle.writer.specs.declared.set.Filing.{Filing}
 use Rattle.writer.specs.Pack.{startOf}
 use Rattle.writer.specs.Write.{writeSheet}
 use Rattle.writer.specs.Rewrite.{sheetFrom}
-use Rattle.writer.specs.Output.{Wrote, overLong}
+use Rattle.writer.specs.Output.{Wrote}
 use Rattle.writer.specs.Source.{laterAt, endAt, leftAt, Good, Opened}
-use Rattle.writer.specs.Reels.{Sound, Layable, FilePut}
+use Rattle.writer.specs.Reels.{Layable, FilePut}
 use Rattle.writer.specs.Sets.{Origin, read, originOf, totalOf, filesAt, Placed, Walked, behindRead, Fileable, OneFiled, sheetAt, Writable}
 use Rattle.writer.proofs.RoundTrip.{LegalSheet, legal-sheet}
 use Rattle.writer.proofs.Filing.{opened-left, legal-others, file-layable, one-filed, sheet-named}

@@ -1,22 +1,22 @@
 -- The files of a sheet: how the slices hold them, and what each step of the code over them does. Assumes nothing.
 use mathlib.Core.Path.{_≡_, refl, sym, ap, _∙_, subst}
 use mathlib.Core.Bool.{Bool, true, false, false≢true}
-use mathlib.Core.List.{List, [], _∷_, _++_}
-use Prim.Native.Nat.{ℕ, suc, _+_, _*_, _-_, _/_, _%_, _^_, _≤_, _<_}
+use mathlib.Core.List.{List, [], _∷_}
+use Prim.Native.Nat.{ℕ, suc, _+_, _*_, _-_, _/_, _^_, _≤_, _<_}
 use native.Mathlib.Omega.{arith}
 use native.Mathlib.Numerals.{add-one}
 use borrow.Author.Needs.{needs}
-use borrow.Author.Tests.{eqb-true, ltb-true, ltb-false, leb-true}
+use borrow.Author.Tests.{eqb-true, ltb-true, ltb-false}
 use mir.Val.{Fits}
 use mir.Syntax.{w64}
-use lib.Dec.{eqb, leb, ltb}
+use lib.Dec.{eqb, ltb}
 use lib.ListN.{length, take, drop, getD, length-drop, take-append-drop}
 use lib.Seq.{drop-drop, drop-cons}
 use Rattle.base.specs.If.{ifB, if-true, if-false, if-case}
 use Rattle.base.specs.Part.{part}
-use Rattle.sheet.specs.Legal.{Sheet, formatFrom, blockLengthFrom, legalFiles, legalSheet, legalNames, legalQuota}
+use Rattle.sheet.specs.Legal.{formatFrom, blockLengthFrom, legalFiles, legalSheet}
 use Rattle.sheet.specs.Flat.{Flat, sum, inParts, cutBy, filesFrom, addsUp, sheetOf, sheetNumber}
-use Rattle.sheet.proofs.Cutting.{parts-none, parts-some}
+use Rattle.sheet.proofs.Cutting.{parts-some}
 use Rattle.sheet.proofs.Sums.{sum-at, sum-append}
 use Rattle.content.specs.declared.Walk.{Walk}
 use Rattle.content.specs.declared.FileAt.{FileAt}

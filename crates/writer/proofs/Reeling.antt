@@ -2,7 +2,7 @@
 use mathlib.Core.Path.{_≡_, refl, sym, ap, _∙_, subst}
 use mathlib.Core.Bool.{Bool, true, false, false≢true}
 use mathlib.Core.List.{List, [], _∷_, _++_, append-assoc}
-use Prim.Native.Nat.{ℕ, zero, suc, pred, _+_, _-_, _≤_, _<_, min}
+use Prim.Native.Nat.{ℕ, suc, pred, _+_, _-_, _≤_, _<_}
 use native.Mathlib.Omega.{arith}
 use native.Mathlib.Numerals.{add-one}
 use borrow.Author.Needs.{needs}
@@ -25,14 +25,13 @@ use Rattle.writer.specs.declared.source.Cursor.{Cursor}
 use Rattle.writer.specs.declared.source.Moved.{Moved}
 use Rattle.writer.specs.declared.reel.Reel.{Reel}
 use Rattle.writer.specs.declared.reel.Laying.{Laying}
-use Rattle.writer.specs.Pack.{Left, finished, going, fill, after, blocksLeft, RoomLeft}
+use Rattle.writer.specs.Pack.{Left, finished, going, blocksLeft, RoomLeft}
 use Rattle.writer.specs.Lay.{Laid, laid, short, put, headers, fileEnd, volumeEnd, rest}
-use Rattle.writer.specs.Output.{Wrote, overLong}
-use Rattle.writer.specs.Source.{bytesAt, laterAt, endAt, stopAt, leftAt, Good}
+use Rattle.writer.specs.Output.{Wrote}
+use Rattle.writer.specs.Source.{bytesAt, laterAt, stopAt, leftAt}
 use Rattle.writer.specs.Fills.{fillAt, afterAt, Fillable, BlockPut}
 use Rattle.writer.specs.Reels.{Lays, Next, namesAt, Sound, restAt, nextAt, Roomed, Ready, oneMore, LaidHere, Passed, Passing, Spent, Layable, Ended, FilePut}
 use Rattle.writer.proofs.Packing.{by-test, blocks-finished, blocks-going, after-room}
-use Rattle.output.proofs.Writing.{wrote-wrote, wrote-same}
 use Rattle.writer.proofs.Items.{wrote-items}
 
 abbrev reel : ℕ → ℕ → ℕ → ℕ → ℕ → Bool → Reel

@@ -2,20 +2,20 @@
 use mathlib.Core.Path.{_≡_, refl, sym, ap, _∙_, subst}
 use mathlib.Core.Bool.{Bool, true, false, false≢true}
 use mathlib.Core.List.{List, [], _∷_, _++_}
-use Prim.Native.Nat.{ℕ, zero, suc, _+_, _-_, _≤_, _<_, min}
+use Prim.Native.Nat.{ℕ, suc, _+_, _-_, _≤_, _<_}
 use native.Mathlib.Omega.{arith}
 use native.Mathlib.Numerals.{add-one}
 use borrow.Author.Needs.{needs}
 use borrow.Author.Tests.{leb-true, leb-false, eqb-true, eqb-false}
 use lib.Dec.{leb, eqb}
-use lib.ListN.{length, take, drop, getD, length-append, length-take, length-drop}
+use lib.ListN.{length, take, drop, getD, length-append}
 use lib.Seq.{drop-cons, drop-drop, take-take, take-all, take-at, take-add, take-append-le, drop-append-le, length-take-le}
 use Rattle.base.specs.If.{ifB, if-true, if-false, if-case}
 use Rattle.base.specs.Part.{part}
 use Rattle.base.proofs.Parts.{length-part, drop-take}
 use Rattle.sheet.specs.Flat.{sum, cutBy}
 use Rattle.content.specs.Walk.{isInside, unitFrom, unitNext, firstSegment, nextSegment, recordAt}
-use Rattle.content.specs.Measure.{GoesOn, bytesBehind, measuredBy, recordBytes}
+use Rattle.content.specs.Measure.{bytesBehind, measuredBy, recordBytes}
 use Rattle.content.specs.Records.{recordsAt}
 use Rattle.content.specs.declared.Walk.{Walk}
 use Rattle.content.specs.declared.unit.Taken.{Taken}

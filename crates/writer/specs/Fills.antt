@@ -1,14 +1,14 @@
 -- The steps by which the writer's code fills a block, over the definitions of Pack.antt and the cursor of Source.antt.
 use mathlib.Core.Path.{_≡_}
-use mathlib.Core.Bool.{Bool, true, false}
+use mathlib.Core.Bool.{true, false}
 use mathlib.Core.List.{List, [], _∷_, _++_}
-use Prim.Native.Nat.{ℕ, _+_, _-_, _≤_, _<_}
-use lib.ListN.{length, take, drop}
+use Prim.Native.Nat.{ℕ, _+_, _≤_, _<_}
+use lib.ListN.{length, take}
 use Rattle.image.specs.Item.{block, encode}
 use Rattle.writer.specs.declared.source.Cursor.{Cursor}
 use Rattle.writer.specs.declared.source.Moved.{Moved}
 use Rattle.writer.specs.declared.fill.Turn.{Turn}
-use Rattle.writer.specs.Pack.{Left, enters, taken, indicatorOf, controlWord, fill, after}
+use Rattle.writer.specs.Pack.{Left, indicatorOf, controlWord, fill, after}
 use Rattle.writer.specs.Output.{Wrote, overLong}
 use Rattle.writer.specs.Source.{bytesAt, laterAt, endAt, leftAt, Good, Handed}
 

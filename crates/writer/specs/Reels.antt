@@ -10,7 +10,6 @@ use Rattle.image.specs.Item.{Item, encode}
 use Rattle.sheet.specs.Legal.{formatFrom, blockLengthFrom}
 use Rattle.sheet.specs.Flat.{inParts}
 use Rattle.writer.specs.declared.source.Cursor.{Cursor}
-use Rattle.writer.specs.declared.source.Moved.{Moved}
 use Rattle.writer.specs.declared.reel.Reel.{Reel}
 use Rattle.writer.specs.declared.reel.Laying.{Laying}
 use Rattle.writer.specs.Pack.{blocksLeft, RoomLeft}
