@@ -18,13 +18,13 @@ use Rattle.order.specs.declared.Kind.{Kind}
 use Rattle.order.specs.declared.Phase.{Phase}
 use Rattle.order.specs.declared.Phase.the-variants.{Reel, Volume, UserVolume, FirstHeader, Header, UserHeader, Data, Trailer, FirstEof, Eof, EofUser, FirstEov, Eov, EovUser, FileEnd, VolumeEnd, SetClosed, ReelClosed, Over, Accepted}
 use Rattle.order.specs.declared.Due.the-variants.{To}
-use Rattle.label.specs.Name.{required, family, numbered, optional, orElse, named, kindOf}
 use Rattle.label.specs.Field.{formatOf, blockLengthOf, recordLengthOf, offsetOf, leastRecord, suitsBoth, isLength, isRecordLength, hasRecordLength, good}
 use Rattle.label.specs.Table.{second, fieldsOf}
 use Rattle.label.specs.Judged.{goodAt, labelFault}
 use Rattle.volume.specs.Fault.{valueOf}
 use Rattle.volume.specs.Step.{kindIn, isDue}
-use Rattle.sheet.proofs.Moves.{Each, nine, chosen}
+use Rattle.order.proofs.Laws.{Each, nine, chosen}
+use Rattle.volume.proofs.Reels.{block-other}
 use Rattle.sheet.proofs.Entries.{Rows, label-rows}
 
 -- ---- the table of what is due
@@ -190,46 +190,8 @@ label-labels p k q h m e =
 
 -- ---- a block is no mark
 
-abbrev NoMark : Kind → Type 0
-NoMark k = isKind k tapeMark ≡ false
-
-required-no-mark : (n : List ℕ) → NoMark (required n)
-unfolding required isKind
-required-no-mark n =
-    if-case NoMark (same n _) _ _ (λ _. refl)
-    (λ _. if-case NoMark (same n _) _ _ (λ _. refl)
-    (λ _. if-case NoMark (same n _) _ _ (λ _. refl)
-    (λ _. if-case NoMark (same n _) _ _ (λ _. refl)
-    (λ _. if-case NoMark (same n _) _ _ (λ _. refl)
-    (λ _. if-case NoMark (same n _) _ _ (λ _. refl)
-    (λ _. if-case NoMark (same n _) _ _ (λ _. refl) (λ _. refl)))))))
-
-family-no-mark : (i : List ℕ) (n : ℕ) → NoMark (family i n)
-unfolding family isKind
-family-no-mark i n =
-    if-case NoMark (same i _) _ _ (λ _. refl)
-    (λ _. if-case NoMark (same i _) _ _ (λ _. refl)
-    (λ _. if-case NoMark (same i _) _ _ (λ _. refl)
-    (λ _. if-case NoMark (same i _) _ _ (λ _. refl)
-    (λ _. if-case NoMark (same i _) _ _ (λ _. refl) (λ _. refl)))))
-
-optional-no-mark : (i : List ℕ) (d : ℕ) → NoMark (optional i d)
-unfolding optional numbered isKind
-optional-no-mark i d =
-    if-case NoMark (same i _) _ _ (λ _. refl)
-    (λ _. if-case NoMark (same i _) _ _ (λ _. refl)
-    (λ _. if-case NoMark (leb 49 d) _ _ (λ _. if-case NoMark (leb d 57) _ _ (λ _. family-no-mark i (d - 48)) (λ _. refl)) (λ _. refl)))
-
-kind-no-mark : (l : List ℕ) → NoMark (kindOf l)
-unfolding kindOf named orElse isKind
-kind-no-mark l =
-    if-case NoMark (eqb (length l) 80) _ _
-    (λ _. if-case NoMark _ (optional (part 0 3 l) (getD l 3 0)) (required (part 0 4 l)) (λ _. optional-no-mark (part 0 3 l) (getD l 3 0)) (λ _. required-no-mark (part 0 4 l)))
-    (λ _. refl)
-
 pub block-no-mark : (p : Phase) (l : List ℕ) → isKind (kindIn p (block l)) tapeMark ≡ false
-unfolding kindIn isKind
-block-no-mark p l = if-case NoMark (isDue (dueAfter p dataBlock)) dataBlock (kindOf l) (λ _. refl) (λ _. kind-no-mark l)
+block-no-mark p l = block-other p l 9 0 (omega arith)
 
 -- ---- a record length is 1 or more
 

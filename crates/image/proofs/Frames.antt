@@ -1,11 +1,11 @@
 -- Laws of the framing, as the loop over the items of an image wants them: what is left from a place answers as the whole. Assumes nothing.
 use mathlib.Core.Path.{_≡_, refl, sym, ap, _∙_, subst}
-use mathlib.Core.Bool.{Bool, true, false}
+use mathlib.Core.Bool.{Bool, true, false, false≢true}
 use mathlib.Core.List.{List, _∷_}
 use Prim.Native.Nat.{ℕ, _+_, _≤_, _<_}
 use native.Mathlib.Omega.{arith}
 use borrow.Author.Needs.{needs}
-use borrow.Author.Tests.{eq-eqb, ne-eqb, le-leb, ltb-false}
+use borrow.Author.Tests.{eq-eqb, ne-eqb, le-leb, le-ltb, ltb-false}
 use lib.Dec.{eqb, ltb}
 use lib.ListN.{length, take, drop}
 use Rattle.base.specs.If.{ifB, if-true, if-false, if-case, and-true}
@@ -13,11 +13,11 @@ use Rattle.base.specs.Part.{part, same}
 use Rattle.base.specs.Answer.{verdict}
 use Rattle.base.specs.declared.Verdict.{Verdict}
 use Rattle.base.proofs.Parts.{length-part}
-use Rattle.base.proofs.Bytes.{same-true}
+use Rattle.base.proofs.Bytes.{same-refl, same-true}
 use Rattle.image.specs.declared.Shape.{Shape}
 use Rattle.image.specs.declared.Shape.the-variants.{Block, Mark, ReelEnd, Broken}
 use Rattle.image.specs.Item.{Item, block, mark, reelEnd, broken, mostBytes, shape, itemOf, decode, isItem, allItems}
-use Rattle.image.specs.Framing.{mostImage, mostReels, head, framedFrom, items, framing}
+use Rattle.image.specs.Framing.{mostImage, mostReels, head, framedFrom, items, opens, framing}
 use Rattle.image.proofs.Items.{BlockAt, block-at, block-fits, decode-none, decode-more, by-items, decode-past, decode-at, decode-block, decode-mark, decode-reel-end, decode-broken}
 
 -- the first five bytes, as the code takes them
@@ -34,16 +34,16 @@ framed-full n r closed reelEnd xs e = if-true _ _ _ (eq-eqb r mostReels e)
 framed-full n r closed broken xs e = refl
 
 -- one item further, while reels are left
-framed-block : (n r : ℕ) (closed : Bool) (bs : List ℕ) (xs : List Item) → (r ≡ mostReels → ⊥)
+pub framed-block : (n r : ℕ) (closed : Bool) (bs : List ℕ) (xs : List Item) → (r ≡ mostReels → ⊥)
     → framedFrom n r closed (block bs ∷ xs) ≡ framedFrom (n + 1) r false xs
 unfolding framedFrom
 framed-block n r closed bs xs h = if-false _ _ _ (ne-eqb r mostReels h)
 
-framed-mark : (n r : ℕ) (closed : Bool) (xs : List Item) → (r ≡ mostReels → ⊥) → framedFrom n r closed (mark ∷ xs) ≡ framedFrom (n + 1) r false xs
+pub framed-mark : (n r : ℕ) (closed : Bool) (xs : List Item) → (r ≡ mostReels → ⊥) → framedFrom n r closed (mark ∷ xs) ≡ framedFrom (n + 1) r false xs
 unfolding framedFrom
 framed-mark n r closed xs h = if-false _ _ _ (ne-eqb r mostReels h)
 
-framed-reel-end : (n r : ℕ) (closed : Bool) (xs : List Item) → (r ≡ mostReels → ⊥)
+pub framed-reel-end : (n r : ℕ) (closed : Bool) (xs : List Item) → (r ≡ mostReels → ⊥)
     → framedFrom n r closed (reelEnd ∷ xs) ≡ framedFrom (n + 1) (r + 1) true xs
 unfolding framedFrom
 framed-reel-end n r closed xs h = if-false _ _ _ (ne-eqb r mostReels h)
@@ -167,3 +167,28 @@ framing-zero s =
 pub framing-items : (s : List ℕ) → framing s .number ≡ 0 → allItems (items s) ≡ true
 unfolding items
 framing-items s h = framed-items (drop 5 s) 0 0 false (framing-zero s h .right)
+
+-- ---- an image that opens as one
+
+pub record Opened (s : List ℕ) : Type 0 where
+  pub small : length s ≤ mostImage
+  pub headed : take 5 s ≡ head
+
+pub opens-right : (s : List ℕ) → opens s ≡ true → Opened s
+unfolding opens
+opens-right s =
+    if-case (λ (b : Bool). b ≡ true → Opened s) (ltb mostImage (length s)) false (same (take 5 s) head) (λ _ q. absurd (false≢true q))
+    (λ l q. record { small = ltb-false mostImage (length s) l; headed = same-true (take 5 s) head q })
+
+-- its framing is that of its items; that of any other is a refusal
+pub framing-opened : (s : List ℕ) → opens s ≡ true → framing s ≡ framedFrom 0 0 false (items s)
+unfolding opens framing
+framing-opened s =
+    if-case (λ (b : Bool). b ≡ true → framing s ≡ framedFrom 0 0 false (items s)) (ltb mostImage (length s)) false (same (take 5 s) head) (λ _ q. absurd (false≢true q))
+    (λ l q. if-false _ _ _ l ∙ if-true _ _ _ q)
+
+pub framing-shut : (s : List ℕ) → opens s ≡ false → framing s .number ≡ 0 → ⊥
+unfolding opens
+framing-shut s e z =
+    let f : Framed s = framing-zero s z in
+    false≢true (sym e ∙ if-false _ _ _ (le-ltb mostImage (length s) (f .small)) ∙ ap (λ (l : List ℕ). same l head) (f .headed) ∙ same-refl head)

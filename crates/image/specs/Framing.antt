@@ -35,6 +35,10 @@ framedFrom n r closed (broken ∷ xs) = verdict 2 n 0
 unfoldable pub items : List ℕ → List Item
 items s = decode (drop 5 s)
 
+-- an image that is not too long and begins with its mark and version
+unfoldable pub opens : List ℕ → Bool
+opens s = ifB (ltb mostImage (length s)) false (same (take 5 s) head)
+
 unfoldable pub framing : List ℕ → Verdict
 framing s =
     ifB (ltb mostImage (length s)) (verdict 9 0 0)

@@ -7,7 +7,7 @@ ghost use lib.ListN.{length, take, drop};
 ghost use Rattle.base.specs.Part.{same};
 ghost use Rattle.base.specs.Answer.{verdict};
 ghost use Rattle.image.specs.Item.{ledBy, shape};
-ghost use Rattle.image.specs.Framing.{mostImage, head, framedFrom, items, framing};
+ghost use Rattle.image.specs.Framing.{mostImage, head, framedFrom, items, opens, framing};
 
 // The most bytes of a block, and the length word that ends a reel.
 const MOST_BYTES: usize = 99999;
@@ -77,6 +77,16 @@ fn has_head(s: &[u8]) -> bool
     ensures { λ r. ⌜ r ≡ same (take 5 (now (s .entry))) head ⌝ }
 {
     base::equal(base::part_of(s, 0, 5), b"TGI\0\x01")
+}
+
+// Whether an image is not too long and begins as one: all of its framing that can be told without walking its items.
+pub fn opens(s: &[u8]) -> bool
+    ensures { λ r. ⌜ r ≡ opens (now (s .entry)) ⌝ }
+{
+    if MOST_IMAGE < s.len() {
+        return false;
+    }
+    has_head(s)
 }
 
 // The answer of this number at an item; the container has no byte to name.

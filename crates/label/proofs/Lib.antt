@@ -7,3 +7,4 @@ pub mod Setting
 pub mod Making
 pub mod Fine
 pub mod Read
+pub mod Families

@@ -1,5 +1,5 @@
 -- The laws behind the functions of the order. Assumes nothing.
-use mathlib.Core.Path.{_≡_, refl, sym, ap, _∙_}
+use mathlib.Core.Path.{_≡_, refl, sym, ap, _∙_, subst₂}
 use mathlib.Core.Bool.{Bool, true, false, _&&_}
 use mathlib.Core.List.{List, [], _∷_}
 use Prim.Native.Nat.{ℕ, _+_, _<_, _≤_, _^_}
@@ -9,7 +9,7 @@ use mir.Syntax.{w32}
 use borrow.Author.Needs.{needs}
 use borrow.Author.Tests.{eq-eqb, ne-eqb, lt-ltb, le-ltb, ltb-true, eqb-true}
 use lib.Dec.{eqb, ltb}
-use Rattle.base.specs.If.{ifB, if-true, if-false, and-left, and-first, and-second}
+use Rattle.base.specs.If.{ifB, if-true, if-false, if-case, and-left, and-first, and-second}
 use Rattle.order.specs.Kind.{kind, isKind, vol, hdr, eof, eov, dataBlock, tapeMark, endOfReel, endOfImage}
 use Rattle.order.specs.Due.{Turn, turn, dues, choose, dueAfter, upToNine}
 use Rattle.order.specs.declared.Kind.{Kind}
@@ -122,3 +122,21 @@ kind-is a b h =
     let f : a .family ≡ b .family = eqb-true (a .family) (b .family) (and-first (eqb (a .family) (b .family)) (eqb (a .number) (b .number)) h) in
     let n : a .number ≡ b .number = eqb-true (a .number) (b .number) (and-second (eqb (a .family) (b .family)) (eqb (a .number) (b .number)) h) in
     λ i. record { family = f i; number = n i }
+
+-- ---- what holds of all that is due
+
+abbrev pub Each : (Kind → Phase → Type 0) → List Turn → Type 0
+Each P [] = Unit {0}
+Each P (t ∷ ts) = P (t .item) (t .phase) × Each P ts
+
+pub nine : (P : Kind → Phase → Type 0) (n : ℕ) (t : Turn) (ts : List Turn) → P (t .item) (t .phase) → Each P ts → Each P (upToNine n t ts)
+unfolding upToNine
+nine P n t ts h k = if-case (Each P) (ltb n 9) (t ∷ ts) ts (λ _. (h, k)) (λ _. k)
+
+-- what holds of every turn that is due holds of the one that is taken
+pub chosen : (P : Kind → Phase → Type 0) (ts : List Turn) (k : Kind) (q : Phase) → Each P ts → choose ts k ≡ To q → P k q
+unfolding choose
+chosen P [] k q each e = let z : _≡_ {A = ℕ} 0 1 = cc in absurd (omega arith)
+chosen P (t ∷ ts) k q (here, later) e =
+    if-case (λ (d : Due). d ≡ To q → P k q) (isKind k (t .item)) (To (t .phase)) (choose ts k)
+    (λ s h. let same : t .phase ≡ q = cc in subst₂ P (sym (kind-is k (t .item) s)) same here) (λ _ h. chosen P ts k q later h) e

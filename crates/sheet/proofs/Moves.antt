@@ -1,20 +1,19 @@
 -- The stages of a reading, and which kinds of items lead from one to another. Only five kinds matter to the meaning: HDR1 and HDR2, a data
 -- block, EOF1 and EOV1. All others, which leave alone what the meaning hangs on, are quiet. Assumes nothing.
-use mathlib.Core.Path.{_≡_, refl, sym, subst₂}
-use mathlib.Core.Bool.{Bool, true, false, _&&_, false≢true}
-use mathlib.Core.List.{List, [], _∷_}
+use mathlib.Core.Path.{_≡_, refl}
+use mathlib.Core.Bool.{Bool, true, false}
+use mathlib.Core.List.{List}
 use Prim.Native.Nat.{ℕ, _+_, _≤_}
 use native.Mathlib.Omega.{arith}
-use borrow.Author.Tests.{eqb-true, ne-eqb}
-use lib.Dec.{eqb, ltb}
-use Rattle.base.specs.If.{if-case, and-left}
+use borrow.Author.Tests.{ne-eqb}
+use lib.Dec.{eqb}
+use Rattle.base.specs.If.{and-left}
 use Rattle.order.specs.Kind.{kind, vol, uvl, hdr, uhl, eof, eov, utl, dataBlock, tapeMark, endOfReel, endOfImage, isKind}
-use Rattle.order.proofs.Laws.{kind-is}
-use Rattle.order.specs.Due.{Turn, upToNine, dues, choose, dueAfter}
+use Rattle.order.proofs.Laws.{Each, nine, chosen}
+use Rattle.order.specs.Due.{dues, dueAfter}
 use Rattle.order.specs.declared.Kind.{Kind}
 use Rattle.order.specs.declared.Phase.{Phase}
 use Rattle.order.specs.declared.Phase.the-variants.{Reel, Volume, UserVolume, FirstHeader, Header, UserHeader, Data, Trailer, FirstEof, Eof, EofUser, FirstEov, Eov, EovUser, FileEnd, VolumeEnd, SetClosed, ReelClosed, Over, Accepted}
-use Rattle.order.specs.declared.Due.{Due}
 use Rattle.order.specs.declared.Due.the-variants.{To}
 
 -- ---- stages
@@ -157,14 +156,6 @@ quiet-reel = quiet-family 10 0 refl refl refl refl refl
 
 -- ---- what is due, phase by phase
 
-abbrev pub Each : (Kind → Phase → Type 0) → List Turn → Type 0
-Each P [] = Unit {0}
-Each P (t ∷ ts) = P (t .item) (t .phase) × Each P ts
-
-pub nine : (P : Kind → Phase → Type 0) (n : ℕ) (t : Turn) (ts : List Turn) → P (t .item) (t .phase) → Each P ts → Each P (upToNine n t ts)
-unfolding upToNine
-nine P n t ts h k = if-case (Each P) (ltb n 9) (t ∷ ts) ts (λ _. (h, k)) (λ _. k)
-
 moves : (p : Phase) → Numbered p → Each (Goes p) (dues p)
 unfolding dues
 moves Reel h = (record { move = stays (quiet-vol 1); numbered = tt }, tt)
@@ -199,14 +190,6 @@ moves SetClosed h = (record { move = stays quiet-reel; numbered = tt }, tt)
 moves ReelClosed h = (record { move = nextReel quiet-reel; numbered = tt }, tt)
 moves Over h = (record { move = finish; numbered = tt }, tt)
 moves Accepted h = tt
-
--- what holds of every turn that is due holds of the one that is taken
-pub chosen : (P : Kind → Phase → Type 0) (ts : List Turn) (k : Kind) (q : Phase) → Each P ts → choose ts k ≡ To q → P k q
-unfolding choose
-chosen P [] k q each e = let z : _≡_ {A = ℕ} 0 1 = cc in absurd (omega arith)
-chosen P (t ∷ ts) k q (here, later) e =
-    if-case (λ (d : Due). d ≡ To q → P k q) (isKind k (t .item)) (To (t .phase)) (choose ts k)
-    (λ s h. let same : t .phase ≡ q = cc in subst₂ P (sym (kind-is k (t .item) s)) same here) (λ _ h. chosen P ts k q later h) e
 
 pub due-goes : (p : Phase) (k : Kind) (q : Phase) → Numbered p → dueAfter p k ≡ To q → Goes p k q
 unfolding dueAfter

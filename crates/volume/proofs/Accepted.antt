@@ -111,7 +111,7 @@ told s (x ∷ xs) =
 -- ---- the verdict
 
 -- number 0 is given exactly where reading ends
-zero-ends : (s : State) (xs : List Item) → answerOf 0 (runs s xs) .number ≡ 0 → Ends (runs s xs)
+pub zero-ends : (s : State) (xs : List Item) → answerOf 0 (runs s xs) .number ≡ 0 → Ends (runs s xs)
 unfolding Told Ends answerOf verdict
 zero-ends s xs = by-run (runs s xs) (told s xs)
   where

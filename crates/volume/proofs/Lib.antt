@@ -4,3 +4,4 @@ pub mod Bodies
 pub mod Afters
 pub mod Faults
 pub mod Walks
+pub mod Reels

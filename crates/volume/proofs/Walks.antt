@@ -11,10 +11,10 @@ use mir.Syntax.{w64}
 use lib.Dec.{eqb}
 use lib.ListN.{length, take, drop, length-take}
 use lib.Seq.{drop-length}
-use Rattle.image.specs.Framing.{mostImage, head, framing, items as allItems}
-use Rattle.image.proofs.Frames.{framing-zero}
+use Rattle.image.specs.Framing.{mostImage, head, opens, framing, items as allItems}
+use Rattle.image.proofs.Frames.{opens-right, framing-opened, framing-shut}
 use Rattle.order.specs.declared.Phase.the-variants.{Data, Reel}
-use Rattle.base.specs.If.{ifB, if-true, if-false, if-case}
+use Rattle.base.specs.If.{ifB, if-true, if-false, if-case, so-true}
 use Rattle.base.specs.Part.{part}
 use Rattle.base.specs.Answer.{verdict}
 use Rattle.base.specs.declared.Verdict.{Verdict}
@@ -44,6 +44,9 @@ use Rattle.volume.specs.Run.{Run, runs, next, further, answerOf, imageVe
 use Rattle.volume.specs.Place.{contents, labelAt, namesAt}
 use Rattle.volume.specs.Walk.{answerFrom, answerBy, answerJudged, answerAfter, stopTurn, acceptTurn, BlockHere, BareHere, Begun, Past, Sized, Bounded, Small, Room, Ahead, Onward, Owes}
 use Rattle.volume.proofs.Runs.{answer-further, answer-end, answer-early}
+use Rattle.volume.specs.Accepted.{All, MayEnd}
+use Rattle.volume.proofs.Accepted.{ends-all, zero-ends}
+use Rattle.volume.proofs.Reels.{framed-run}
 use Rattle.volume.proofs.Afters.{room-for-name}
 
 -- ---- counts
@@ -354,15 +357,27 @@ pub ruleset walks = (begun, walk-on, walk-falls, walk-done, still-bounded, past-
 
 -- ---- the verdict
 
--- an image of good framing has its head and is not too long
-pub framed-long : (s : List ℕ) (f : Verdict) → f ≡ framing s → f .number ≡ 0 → 5 ≤ length s
-framed-long s f e z =
-    let headed : take 5 s ≡ head = framing-zero s (ap (λ (v : Verdict). v .number) (sym e) ∙ z) .headed in
+-- an image that opens as one has its head and is not too long
+pub opened-long : (s : List ℕ) (b : Bool) → b ≡ opens s → b ≡ true → 5 ≤ length s
+opened-long s b e h =
+    let headed : take 5 s ≡ head = opens-right s (sym e ∙ h) .headed in
     let five : length (take 5 s) ≡ 5 = ap length headed in
     omega (arith, length-take 5 s)
 
-pub framed-short : (s : List ℕ) (f : Verdict) → f ≡ framing s → f .number ≡ 0 → length s ≤ mostImage
-framed-short s f e z = framing-zero s (ap (λ (v : Verdict). v .number) (sym e) ∙ z) .small
+pub opened-short : (s : List ℕ) (b : Bool) → b ≡ opens s → b ≡ true → length s ≤ mostImage
+opened-short s b e h = opens-right s (sym e ∙ h) .small
+
+pub verdict-shut : (s : List ℕ) (b : Bool) (f : Verdict) → b ≡ opens s → b ≡ false → f ≡ framing s → f ≡ imageVerdict s
+unfolding imageVerdict
+verdict-shut s b f e h q = q ∙ sym (if-false _ _ _ (ne-eqb (framing s .number) 0 (framing-shut s (sym e ∙ h))))
+
+-- where reading finds no fault, the framing has none
+pub verdict-none : (s : List ℕ) (v : Verdict) → opens s ≡ true → v ≡ answerOf 0 (runs start (allItems s)) → v .number ≡ 0 → v ≡ imageVerdict s
+unfolding imageVerdict verdict
+verdict-none s v o e z =
+    let read : All MayEnd start (allItems s) = ends-all start (allItems s) (zero-ends start (allItems s) (ap (λ (x : Verdict). x .number) (sym e) ∙ z)) in
+    let good : framing s .number ≡ 0 = ap (λ (x : Verdict). x .number) (framing-opened s o ∙ framed-run (allItems s) read) in
+    e ∙ sym (if-true _ _ _ (eq-eqb (framing s .number) 0 good))
 
 pub verdict-framing : (s : List ℕ) (f : Verdict) → f ≡ framing s → (f .number ≡ 0 → ⊥) → f ≡ imageVerdict s
 unfolding imageVerdict
@@ -372,4 +387,4 @@ pub verdict-items : (s : List ℕ) (f r : Verdict) → f ≡ framing s → f .nu
 unfolding imageVerdict
 verdict-items s f r e z q = q ∙ sym (if-true _ _ _ (eq-eqb (framing s .number) 0 (ap (λ (v : Verdict). v .number) (sym e) ∙ z)))
 
-pub ruleset verdicts = (framed-long, framed-short, verdict-framing, verdict-items, needs)
+pub ruleset verdicts = (opened-long, opened-short, verdict-shut, verdict-none, verdict-framing, verdict-items, so-true, needs)

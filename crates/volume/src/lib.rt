@@ -7,9 +7,13 @@ mod fault; // fault.rt: the fault of an item against what was read before it
 mod walk; // walk.rt: the items of an image, one after the other
 
 ghost use mathlib.Core.Path.{_≡_};
-ghost use Rattle.volume.specs.Run.{imageVerdict};
+ghost use mathlib.Core.Bool.{true};
+ghost use Rattle.image.specs.Framing.{items, opens};
+ghost use Rattle.volume.specs.State.{start as begin};
+ghost use Rattle.volume.specs.Run.{runs, answerOf, imageVerdict};
 use base::Verdict;
 use image::framing;
+use image::opens;
 use order::Phase;
 
 // What is known behind an item: numbers, and places in the image. A place past the end stands for no label.
@@ -26,13 +30,28 @@ pub struct Reading {
     pub pending: usize,
 }
 
-// The verdict on an image, whatever its bytes: number 0 exactly for an accepted set, else the number and place of the first wrong item.
-pub fn check(image: &[u8]) -> Verdict
+// The verdict on an image whose walk ends with v. A walk without fault has shown that the framing is good; a fault gives way to one of the framing.
+fn first_fault(image: &[u8], v: Verdict) -> Verdict
+    requires { ⌜ opens (now image) ≡ true ⌝ }
+    requires { ⌜ v ≡ answerOf 0 (runs begin (items (now image))) ⌝ }
     ensures { λ r. ⌜ r ≡ imageVerdict (now (image .entry)) ⌝ }
 {
+    if v.number == 0 {
+        return v;
+    }
     let f = framing(image);
     if f.number != 0 {
         return f;
     }
-    walk::walk(image)
+    v
+}
+
+// The verdict on an image, whatever its bytes: number 0 exactly for an accepted set, else the number and place of the first wrong item.
+pub fn check(image: &[u8]) -> Verdict
+    ensures { λ r. ⌜ r ≡ imageVerdict (now (image .entry)) ⌝ }
+{
+    if opens(image) {
+        return first_fault(image, walk::walk(image));
+    }
+    framing(image)
 }
