@@ -1,13 +1,13 @@
 -- Whole records are in turn where nothing is open; and with that, the answer on a block of each format. Assumes nothing.
 use mathlib.Core.Path.{_≡_, refl, sym, ap, _∙_}
-use mathlib.Core.Bool.{Bool, true, false}
+use mathlib.Core.Bool.{Bool, true, false, false≢true}
 use mathlib.Core.List.{List, [], _∷_}
 use mathlib.Core.Option.{Option, none, some}
 use Prim.Native.Nat.{ℕ, zero, suc, _+_, _≤_, _<_}
 use native.Mathlib.Omega.{arith}
 use borrow.Author.Needs.{needs}
 use native.Mathlib.Nat.{le-of-lt}
-use borrow.Author.Tests.{leb-false, le-leb, lt-leb, eq-eqb, ne-eqb}
+use borrow.Author.Tests.{leb-false, leb-true, le-leb, lt-leb, eq-eqb, ne-eqb}
 use lib.Dec.{leb, eqb}
 use lib.ListN.{length, drop, drop-of-length-le}
 use Rattle.base.specs.If.{ifB, if-true, if-false, if-case}
@@ -22,7 +22,7 @@ use Rattle.block.specs.declared.Outcome.{Outcome}
 use Rattle.block.proofs.Units.{unit-stands}
 use Rattle.block.proofs.Cuts.{cut-end}
 use Rattle.block.proofs.Lengths.{other-unit}
-use Rattle.block.proofs.Loops.{some-padding}
+use Rattle.block.proofs.Loops.{some-padding, some-none, some-more, some-last, as-variable, length-fits}
 use Rattle.block.proofs.Turns.{turn-new, turn-late, so-outcome}
 
 -- ---- the units of F and D are whole records of at most R bytes
@@ -104,13 +104,16 @@ none-in f r (Of i w n) e = let c = unit-stands f r [] i w n e in absurd (nothing
 none-in f r None e = ap someUnits (cut-end f r [] e) ∙ some-padding (allAre 94 [])
 
 -- a block of at most b bytes; of one under o bytes nothing is left
-block-fits : (f b r o q : ℕ) (s : List ℕ) → length s ≤ b → blockOutcome f b r o q s ≡ turned r q true (someUnits (cut f r (drop o s)))
-unfolding blockOutcome units
-block-fits f b r o q s h =
-    ap (turned r q true)
-    (if-true _ _ _ (le-leb (length s) b h)
+units-fit : (f b r o : ℕ) (s : List ℕ) → length s ≤ b → units f b r o s ≡ someUnits (cut f r (drop o s))
+unfolding units
+units-fit f b r o s h =
+    if-true _ _ _ (le-leb (length s) b h)
     ∙ if-case (λ (c : Option (List Segment)). c ≡ someUnits (cut f r (drop o s))) (leb o (length s)) _ none (λ t. refl)
-    (λ t. sym (ap (λ (l : List ℕ). someUnits (cut f r l)) (drop-of-length-le s (le-of-lt (leb-false o (length s) t))) ∙ none-in f r (unitOf f r []) refl)))
+    (λ t. sym (ap (λ (l : List ℕ). someUnits (cut f r l)) (drop-of-length-le s (le-of-lt (leb-false o (length s) t))) ∙ none-in f r (unitOf f r []) refl))
+
+block-fits : (f b r o q : ℕ) (s : List ℕ) → length s ≤ b → blockOutcome f b r o q s ≡ turned r q true (someUnits (cut f r (drop o s)))
+unfolding blockOutcome
+block-fits f b r o q s h = ap (turned r q true) (units-fit f b r o s h)
 
 pub block-long : (f b r o q : ℕ) (s : List ℕ) → b < length s → outcome 7 0 ≡ blockOutcome f b r o q s
 unfolding blockOutcome units turned
@@ -146,3 +149,22 @@ block-other f b r o q s x y z h =
     ∙ turned-none r q)
 
 pub ruleset blocks = (block-long, block-fixed, block-variable, block-segments, block-other, so-outcome, needs)
+
+-- ---- whether a block can be cut, without its turns
+
+pub cuts-long : (f b r o : ℕ) (s : List ℕ) → b < length s → false ≡ isCut (units f b r o s)
+unfolding units isCut
+cuts-long f b r o s h = sym (ap isCut (if-false _ _ _ (lt-leb (length s) b h)))
+
+pub cuts-fit : (f b r o : ℕ) (s : List ℕ) (p : Bool) → length s ≤ b → p ≡ isCut (someUnits (cut f r (drop o s))) → p ≡ isCut (units f b r o s)
+cuts-fit f b r o s p h e = e ∙ sym (ap isCut (units-fit f b r o s h))
+
+pub ruleset variables = (cuts-long, cuts-fit, some-none, some-more, some-last, as-variable, length-fits, needs)
+
+-- a D block that can be cut is in turn where nothing is pending
+pub variable-passes : (f b r o q : ℕ) (s : List ℕ) (p : Bool) → f ≡ 68 → q ≡ 0 → p ≡ isCut (units 68 b r o s) → p ≡ true → outcome 0 0 ≡ blockOutcome f b r o q s
+unfolding units isCut
+variable-passes f b r o q s p e z m t =
+    let short : length s ≤ b
+    = leb-true (length s) b (if-case (λ (c : Option (List Segment)). isCut c ≡ true → leb (length s) b ≡ true) (leb (length s) b) _ none (λ h _. h) (λ _ k. absurd (false≢true k)) (sym m ∙ t)) in
+    block-variable f b r o q s true (outcome 0 0) e short (sym t ∙ m ∙ ap isCut (units-fit 68 b r o s short)) (sym (if-true _ _ _ refl ∙ if-true _ _ _ (eq-eqb q 0 z)))

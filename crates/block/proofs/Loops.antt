@@ -10,7 +10,7 @@ use borrow.Author.Tests.{eq-eqb, ne-eqb}
 use mir.Val.{Fits}
 use mir.Syntax.{w64}
 use lib.Dec.{eqb}
-use lib.ListN.{length, drop, length-drop}
+use lib.ListN.{length, drop, length-drop, drop-of-length-le}
 use lib.Seq.{drop-drop}
 use Rattle.base.specs.If.{ifB, if-true, if-false, if-case, if-same}
 use Rattle.base.specs.Part.{part, allAre}
@@ -144,3 +144,53 @@ cutting-end f r s from at k p c e z h a =
     a ∙ sym (ap isCut (due-later at from (cut f r (drop at s)) h ∙ over f r s at k e z) ∙ cut-padding (allAre 94 (drop at s))) ∙ c .left
 
 pub ruleset cuttings = (cutting-first, cutting-more, cutting-none, cutting-end, length-fits, length-less, segment-fits, segment-less, as-fixed, as-variable, as-segment, needs)
+
+-- ---- whether units stand there, none or more, then padding
+
+-- a loop that began at `from` is at `at`
+pub record Resting (f r : ℕ) (s : List ℕ) (from at : ℕ) : Type 0 where
+  pub room : length s < 18446744073709551616
+  pub left : isCut (cut f r (drop at s)) ≡ isCut (cut f r (drop from s))
+
+-- one unit further
+cut-past : (f r : ℕ) (s : List ℕ) (at k : ℕ) → k ≡ lengthOf (unitOf f r (drop at s)) → (k ≡ 0 → ⊥) → isCut (cut f r (drop (at + k) s)) ≡ isCut (cut f r (drop at s))
+cut-past f r s at k e z =
+    let n = after f r s at k e z in
+    ap (λ (l : List ℕ). isCut (cut f r l)) (sym (drop-drop k at s)) ∙ sym (ap isCut (n .cuts) ∙ cut-onto (n .first) (cut f r (drop k (drop at s))))
+
+pub resting-more : (f r : ℕ) (s : List ℕ) (from at k : ℕ) → Resting f r s from at → k ≡ lengthOf (unitOf f r (drop at s)) → (k ≡ 0 → ⊥) → Resting f r s from (at + k)
+resting-more f r s from at k c e z = record { room = c .room; left = cut-past f r s at k e z ∙ c .left }
+
+pub resting-end : (f r : ℕ) (s : List ℕ) (from at k : ℕ) (p : Bool) → Resting f r s from at → k ≡ lengthOf (unitOf f r (drop at s)) → k ≡ 0 → p ≡ allAre 94 (drop at s)
+    → p ≡ isCut (cut f r (drop from s))
+resting-end f r s from at k p c e z a = a ∙ sym (ap isCut (over f r s at k e z) ∙ cut-padding (allAre 94 (drop at s))) ∙ c .left
+
+-- one or more: a first unit, and what follows it
+pub some-none : (f r : ℕ) (s : List ℕ) (from k : ℕ) → k ≡ lengthOf (unitOf f r (drop from s)) → k ≡ 0 → false ≡ isCut (someUnits (cut f r (drop from s)))
+some-none f r s from k e z = sym (ap isCut (ap someUnits (over f r s from k e z) ∙ some-padding (allAre 94 (drop from s))) ∙ none-cut)
+
+pub some-more : (f r : ℕ) (s : List ℕ) (from k : ℕ) (p : Bool) → k ≡ lengthOf (unitOf f r (drop from s)) → (k ≡ 0 → ⊥) → p ≡ isCut (cut f r (drop (from + k) s))
+    → p ≡ isCut (someUnits (cut f r (drop from s)))
+some-more f r s from k p e z q =
+    let n = after f r s from k e z in
+    q
+    ∙ cut-past f r s from k e z
+    ∙ sym (ap (λ (c : Option (List Segment)). isCut (someUnits c)) (n .cuts)
+    ∙ ap isCut (some-onto (n .first) (cut f r (drop k (drop from s))))
+    ∙ sym (ap isCut (n .cuts)))
+
+pub ruleset restings = (resting-more, resting-end, some-none, some-more, length-fits, length-less, as-variable, needs)
+
+-- nothing is left behind a unit that ends where the bytes end
+nothing-cuts : (f r : ℕ) → isCut (cut f r []) ≡ true
+unfolding allAre
+nothing-cuts f r = ap isCut (no-next f r [] (unitOf f r []) refl (none-stands (unitOf f r []) refl)) ∙ cut-padding (allAre 94 [])
+  where
+    none-stands : (u : Unit) → unitOf f r [] ≡ u → lengthOf u ≡ 0
+    none-stands (Of i w n) e = let c = unit-stands f r [] i w n e in absurd (omega (arith, c .some, c .within))
+    none-stands None e = unfold lengthOf in refl
+
+pub some-last : (f r : ℕ) (s : List ℕ) (from k : ℕ) → k ≡ lengthOf (unitOf f r (drop from s)) → (k ≡ 0 → ⊥) → length s ≤ from + k
+    → true ≡ isCut (someUnits (cut f r (drop from s)))
+some-last f r s from k e z h =
+    some-more f r s from k true e z (sym (ap (λ (l : List ℕ). isCut (cut f r l)) (drop-of-length-le s h) ∙ nothing-cuts f r))

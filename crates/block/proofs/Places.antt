@@ -1,6 +1,6 @@
 -- What the code reads at a place: a digit, four of them, and from these the length of the unit that stands there. Assumes nothing.
 use mathlib.Core.Path.{_≡_, refl, sym, ap, _∙_}
-use mathlib.Core.Bool.{Bool, true, false, and-eq-true-iff}
+use mathlib.Core.Bool.{Bool, true, false, _&&_}
 use mathlib.Core.List.{List, [], _∷_}
 use Prim.Native.Nat.{ℕ, suc, _+_, _*_, _-_, _≤_, _<_}
 use native.Mathlib.Omega.{arith}
@@ -9,7 +9,7 @@ use borrow.Author.Tests.{le-leb, lt-leb, eq-eqb, ne-eqb, leb-true}
 use lib.Dec.{leb}
 use lib.ListN.{length, take, drop, getD, length-drop}
 use lib.Seq.{drop-cons, getD-drop}
-use Rattle.base.specs.If.{ifB, if-true, if-false, if-case, ap-if, and-true, and-left, and-right}
+use Rattle.base.specs.If.{ifB, if-true, if-false, if-case, ap-if, and-left, and-first, and-second, so-true}
 use Rattle.base.specs.Part.{part, allAre}
 use Rattle.base.specs.Digits.{isDigit, allDigits, value}
 use Rattle.base.proofs.Parts.{part-drop}
@@ -22,43 +22,35 @@ use Rattle.block.specs.declared.Unit.{Unit}
 use Rattle.block.specs.declared.Unit.the-variants.{Of, None}
 use Rattle.block.proofs.Units.{measured-short}
 
--- ---- a digit: its value, or 10
+-- ---- a digit
 
-pub digit-low : (b : ℕ) → b < 48 → 10 ≡ ifB (isDigit b) (b - 48) 10
+pub digit-low : (b : ℕ) → b < 48 → false ≡ isDigit b
 unfolding isDigit
-digit-low b h = sym (if-false _ _ _ (and-left (leb 48 b) (leb b 57) (lt-leb 48 b h)))
+digit-low b h = sym (and-left (leb 48 b) (leb b 57) (lt-leb 48 b h))
 
-pub digit-high : (b : ℕ) → 57 < b → 10 ≡ ifB (isDigit b) (b - 48) 10
+pub digit-rest : (b : ℕ) (p : Bool) → 48 ≤ b → p ≡ leb b 57 → p ≡ isDigit b
 unfolding isDigit
-digit-high b h = sym (if-false _ _ _ (and-right (leb 48 b) (leb b 57) (lt-leb b 57 h)))
+digit-rest b p h e = e ∙ sym (ap (λ (t : Bool). t && leb b 57) (le-leb 48 b h))
 
-pub digit-right : (b : ℕ) → 48 ≤ b → b ≤ 57 → b - 48 ≡ ifB (isDigit b) (b - 48) 10
+pub digit-least : (b : ℕ) → isDigit b ≡ true → 48 ≤ b
 unfolding isDigit
-digit-right b h k = sym (if-true _ _ _ (and-true (leb 48 b) (leb b 57) (le-leb 48 b h) (le-leb b 57 k)))
+digit-least b t = leb-true 48 b (and-first (leb 48 b) (leb b 57) t)
 
-pub ruleset digit = (digit-low, digit-high, digit-right, needs)
-
--- a value of 9 at most is that of a digit, and a greater one of no digit
-is-digit : (b v : ℕ) → v ≡ ifB (isDigit b) (b - 48) 10 → v ≤ 9 → isDigit b ≡ true
-is-digit b v e h = if-case (λ (x : ℕ). v ≡ x → isDigit b ≡ true) (isDigit b) (b - 48) 10 (λ t q. t) (λ t q. absurd (omega arith)) e
-
-digit-most : (b : ℕ) → isDigit b ≡ true → b - 48 ≤ 9
+pub digit-most : (b : ℕ) → isDigit b ≡ true → b - 48 ≤ 9
 unfolding isDigit
-digit-most b t = let h = leb-true b 57 (and-eq-true-iff (leb 48 b) (leb b 57) .0 t .1) in omega arith
+digit-most b t = let h = leb-true b 57 (and-second (leb 48 b) (leb b 57) t) in omega arith
 
-no-digit : (b v : ℕ) → v ≡ ifB (isDigit b) (b - 48) 10 → 9 < v → isDigit b ≡ false
-no-digit b v e h =
-    if-case (λ (x : ℕ). v ≡ x → isDigit b ≡ false) (isDigit b) (b - 48) 10 (λ t q. let m = digit-most b t in absurd (omega arith)) (λ t q. t) e
+pub ruleset digit = (digit-low, digit-rest, digit-least, digit-most, needs)
 
 -- ---- four digits
 
-pub wrong-here : (b v : ℕ) (s : List ℕ) → v ≡ ifB (isDigit b) (b - 48) 10 → 9 < v → allDigits (b ∷ s) ≡ false
+pub wrong-here : (b : ℕ) (p : Bool) (s : List ℕ) → p ≡ isDigit b → p ≡ false → allDigits (b ∷ s) ≡ false
 unfolding allDigits
-wrong-here b v s e h = if-false _ _ _ (no-digit b v e h)
+wrong-here b p s e h = if-false _ _ _ (sym e ∙ h)
 
-pub wrong-later : (b v : ℕ) (s : List ℕ) → v ≡ ifB (isDigit b) (b - 48) 10 → v ≤ 9 → allDigits s ≡ false → allDigits (b ∷ s) ≡ false
+pub wrong-later : (b : ℕ) (p : Bool) (s : List ℕ) → p ≡ isDigit b → p ≡ true → allDigits s ≡ false → allDigits (b ∷ s) ≡ false
 unfolding allDigits
-wrong-later b v s e h w = if-true _ _ _ (is-digit b v e h) ∙ w
+wrong-later b p s e h w = if-true _ _ _ (sym e ∙ h) ∙ w
 
 pub number-wrong : (s : List ℕ) → allDigits s ≡ false → Wrong ≡ numberIn s
 unfolding numberIn
@@ -68,28 +60,21 @@ right-none : allDigits [] ≡ true
 unfolding allDigits
 right-none = refl
 
-right-here : (b v : ℕ) (s : List ℕ) → v ≡ ifB (isDigit b) (b - 48) 10 → v ≤ 9 → allDigits s ≡ true → allDigits (b ∷ s) ≡ true
+right-here : (b : ℕ) (p : Bool) (s : List ℕ) → p ≡ isDigit b → p ≡ true → allDigits s ≡ true → allDigits (b ∷ s) ≡ true
 unfolding allDigits
-right-here b v s e h w = if-true _ _ _ (is-digit b v e h) ∙ w
+right-here b p s e h w = if-true _ _ _ (sym e ∙ h) ∙ w
 
-digit-value : (b v : ℕ) → v ≡ ifB (isDigit b) (b - 48) 10 → v ≤ 9 → v ≡ b - 48
-digit-value b v e h = e ∙ if-true _ _ _ (is-digit b v e h)
-
-pub four-right : (a b c d t u v w : ℕ)
-    → t ≡ ifB (isDigit a) (a - 48) 10 → t ≤ 9 → u ≡ ifB (isDigit b) (b - 48) 10 → u ≤ 9
-    → v ≡ ifB (isDigit c) (c - 48) 10 → v ≤ 9 → w ≡ ifB (isDigit d) (d - 48) 10 → w ≤ 9
+pub four-right : (a b c d t u v w : ℕ) (p q x y : Bool)
+    → p ≡ isDigit a → p ≡ true → q ≡ isDigit b → q ≡ true → x ≡ isDigit c → x ≡ true → y ≡ isDigit d → y ≡ true
+    → t ≡ a - 48 → u ≡ b - 48 → v ≡ c - 48 → w ≡ d - 48
     → Value ((t * 10 + u) * 100 + (v * 10 + w)) ≡ numberIn (a ∷ b ∷ c ∷ d ∷ [])
 unfolding numberIn value
-four-right a b c d t u v w e₁ h₁ e₂ h₂ e₃ h₃ e₄ h₄ =
-    let q₁ = digit-value a t e₁ h₁ in
-    let q₂ = digit-value b u e₂ h₂ in
-    let q₃ = digit-value c v e₃ h₃ in
-    let q₄ = digit-value d w e₄ h₄ in
-    let all : allDigits (a ∷ b ∷ c ∷ d ∷ []) ≡ true = right-here a t _ e₁ h₁ (right-here b u _ e₂ h₂ (right-here c v _ e₃ h₃ (right-here d w [] e₄ h₄ right-none))) in
+four-right a b c d t u v w p q x y e₁ h₁ e₂ h₂ e₃ h₃ e₄ h₄ q₁ q₂ q₃ q₄ =
+    let all : allDigits (a ∷ b ∷ c ∷ d ∷ []) ≡ true = right-here a p _ e₁ h₁ (right-here b q _ e₂ h₂ (right-here c x _ e₃ h₃ (right-here d y [] e₄ h₄ right-none))) in
     let sum : (t * 10 + u) * 100 + (v * 10 + w) ≡ value 0 (a ∷ b ∷ c ∷ d ∷ []) = omega arith in
     ap Value sum ∙ sym (if-true _ _ _ refl ∙ if-true _ _ _ all)
 
-pub ruleset four = (wrong-here, wrong-later, number-wrong, four-right, needs)
+pub ruleset four = (wrong-here, wrong-later, number-wrong, four-right, so-true, needs)
 
 -- ---- the bytes of a fixed-length record
 

@@ -12,7 +12,7 @@ ghost use Rattle.base.specs.Digits.{isDigit};
 ghost use Rattle.charset.specs.Number.{numberIn};
 ghost use Rattle.base.specs.Format.{F, D, S};
 ghost use Rattle.block.specs.Unit.{pad, fixed, measured, variable, segment, unitOf, lengthOf};
-ghost use Rattle.block.specs.Cut.{cut, someUnits, isCut};
+ghost use Rattle.block.specs.Cut.{cut, someUnits, isCut, units};
 ghost use Rattle.block.specs.Turn.{outcome, isTurn, openAfter, turned, blockOutcome};
 use base::FIXED;
 use base::SEGMENTED;
@@ -92,16 +92,21 @@ fn padding_from(s: &[u8], at: usize) -> bool
 
 // ---- control words
 
-// The value of a digit, or 10 for any other byte.
-fn digit(b: u8) -> u32
-    ensures { λ r. ⌜ r ≡ ifB (isDigit b) (b - 48) 10 ⌝ }
+// Whether a byte is a digit: by two comparisons, since a walk waits for each control word.
+fn is_digit(b: u8) -> bool
+    ensures { λ r. ⌜ r ≡ isDigit b ⌝ }
 {
     if b < b'0' {
-        return 10;
+        return false;
     }
-    if b'9' < b {
-        return 10;
-    }
+    b <= b'9'
+}
+
+// The value of a digit.
+fn value_of(b: u8) -> u32
+    requires { ⌜ isDigit b ≡ true ⌝ }
+    ensures { λ r. ⌜ (r ≡ b - 48) × (r ≤ 9) ⌝ }
+{
     (b - b'0') as u32
 }
 
@@ -109,23 +114,17 @@ fn digit(b: u8) -> u32
 fn four_digits(a: u8, b: u8, c: u8, d: u8) -> Number
     ensures { λ r. ⌜ r ≡ numberIn (a ∷ b ∷ c ∷ d ∷ []) ⌝ }
 {
-    let thousands = digit(a);
-    if 9 < thousands {
-        return Number::Wrong;
+    if is_digit(a) {
+        if is_digit(b) {
+            if is_digit(c) {
+                if is_digit(d) {
+                    let high = value_of(a) * 10 + value_of(b);
+                    return Number::Value(high * 100 + (value_of(c) * 10 + value_of(d)));
+                }
+            }
+        }
     }
-    let hundreds = digit(b);
-    if 9 < hundreds {
-        return Number::Wrong;
-    }
-    let tens = digit(c);
-    if 9 < tens {
-        return Number::Wrong;
-    }
-    let ones = digit(d);
-    if 9 < ones {
-        return Number::Wrong;
-    }
-    Number::Value((thousands * 10 + hundreds) * 100 + (tens * 10 + ones))
+    Number::Wrong
 }
 
 // ---- the unit at a place
@@ -269,24 +268,50 @@ fn fixed_cuts(size: u32, s: &[u8], from: usize) -> bool
     }
 }
 
-// The same for variable-length records.
-fn variable_cuts(size: u32, s: &[u8], from: usize) -> bool
-    ensures { λ r. ⌜ r ≡ isCut (someUnits (cut D size (drop from (now (s .entry))))) ⌝ }
+// Whether there are variable-length records from a place on, none or more, then padding.
+fn variable_rest(size: u32, s: &[u8], from: usize) -> bool
+    ensures { λ r. ⌜ r ≡ isCut (cut D size (drop from (now (s .entry)))) ⌝ }
 {
     let mut at = from;
     loop {
         let n = variable_length(size, s, at);
         if n == 0 {
-            if at == from {
-                return false;
-            }
             return padding_from(s, at);
         }
         at += n;
     }
 }
 
-// The same for segments, whatever their turns; `size` has no part in it.
+// The same for one or more.
+fn variable_cuts(size: u32, s: &[u8], from: usize) -> bool
+    ensures { λ r. ⌜ r ≡ isCut (someUnits (cut D size (drop from (now (s .entry))))) ⌝ }
+{
+    let n = variable_length(size, s, from);
+    if n == 0 {
+        return false;
+    }
+    variable_rest(size, s, from + n)
+}
+
+// Whether a block of a D file can be cut. A short block is most often one record, which needs no loop and so no call of one.
+pub fn is_variable_block(block: usize, size: u32, offset: usize, s: &[u8]) -> bool
+    ensures { λ r. ⌜ r ≡ isCut (units D block size offset (now (s .entry))) ⌝ }
+{
+    if block < s.len() {
+        return false;
+    }
+    let n = variable_length(size, s, offset);
+    if n == 0 {
+        return false;
+    }
+    let at = offset + n;
+    if s.len() <= at {
+        return true;
+    }
+    variable_rest(size, s, at)
+}
+
+// Whether there are one or more segments from a place on, then padding, whatever their turns; `size` has no part in it.
 fn segments_cut(size: u32, s: &[u8], from: usize) -> bool
     ensures { λ r. ⌜ r ≡ isCut (someUnits (cut S size (drop from (now (s .entry))))) ⌝ }
 {

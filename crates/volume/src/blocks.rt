@@ -1,6 +1,11 @@
 // Data blocks passed in a row: numbers only, since an image may hold millions of them. It knows of a section the lengths that its HDR2 gives.
+ghost use mathlib.Core.Path.{_≡_};
+ghost use Rattle.block.specs.Turn.{blockOutcome};
 ghost use Rattle.volume.specs.Body.{Inside, Skipped};
+use base::VARIABLE;
+use block::Outcome;
 use block::block_outcome;
+use block::is_variable_block;
 use image::Shape;
 
 // The lengths of a section's blocks, as HDR2 gives them.
@@ -19,6 +24,23 @@ pub struct Between {
     pub pending: usize,
 }
 
+// The answer on a data block. A D block that can be cut is passed here, most often with no call: an image may hold millions of short ones.
+fn outcome_of(h: Lengths, pending: usize, s: &[u8]) -> Outcome
+    ensures { λ r. ⌜ r ≡ blockOutcome (h .format) (h .block) (h .size) (h .offset) pending (now (s .entry)) ⌝ }
+{
+    if h.format == VARIABLE {
+        if pending == 0 {
+            if is_variable_block(h.block, h.size, h.offset, s) {
+                return Outcome {
+                    number: 0,
+                    pending: 0,
+                };
+            }
+        }
+    }
+    block_outcome(h.format, h.block, h.size, h.offset, pending, s)
+}
+
 // The place behind all the blocks from here on that have no fault.
 pub(crate) fn past_blocks(image: &[u8], h: Lengths, from: Between) -> Between
     requires { ⌜ Inside (now image) (from .at) (from .item) (from .count) ⌝ }
@@ -34,14 +56,7 @@ pub(crate) fn past_blocks(image: &[u8], h: Lengths, from: Between) -> Between
             Shape::Block(n) => {
                 let start = at + 3;
                 let end = start + n;
-                let o = block_outcome(
-                    h.format,
-                    h.block,
-                    h.size,
-                    h.offset,
-                    pending,
-                    &image[start..end],
-                );
+                let o = outcome_of(h, pending, &image[start..end]);
                 if o.number != 0 {
                     return Between {
                         at,

@@ -27,17 +27,17 @@ add-start c = search skips
 add-end : tie.Need-add-end Inv-loop μ-loop
 add-end c = search skips
 
-sub-block-outcome : tie.Need-sub-block-outcome Inv-loop μ-loop
-sub-block-outcome c = search skips
+sub-outcome-of : tie.Need-sub-outcome-of Inv-loop μ-loop
+sub-outcome-of c = search skips
 
-part-block-outcome-start : tie.Need-part-block-outcome-start Inv-loop μ-loop
-part-block-outcome-start c = search skips
+part-outcome-of-start : tie.Need-part-outcome-of-start Inv-loop μ-loop
+part-outcome-of-start c = search skips
 
-part-block-outcome-end : tie.Need-part-block-outcome-end Inv-loop μ-loop
-part-block-outcome-end c = search skips
+part-outcome-of-end : tie.Need-part-outcome-of-end Inv-loop μ-loop
+part-outcome-of-end c = search skips
 
-block-outcome-requires : tie.Need-block-outcome-requires Inv-loop μ-loop
-block-outcome-requires c κs = search skips
+outcome-of-requires : tie.Need-outcome-of-requires Inv-loop μ-loop
+outcome-of-requires c κs = search skips
 
 returns : tie.Need-returns Inv-loop μ-loop
 returns c = search skips
@@ -68,10 +68,10 @@ past-blocks-spec =
     enum-known-shape
     add-start
     add-end
-    sub-block-outcome
-    part-block-outcome-start
-    part-block-outcome-end
-    block-outcome-requires
+    sub-outcome-of
+    part-outcome-of-start
+    part-outcome-of-end
+    outcome-of-requires
     returns
     add-item
     add-count
