@@ -22,8 +22,8 @@ use Rattle.block.specs.declared.Outcome.{Outcome}
 use Rattle.block.proofs.Units.{unit-stands}
 use Rattle.block.proofs.Cuts.{cut-end}
 use Rattle.block.proofs.Lengths.{other-unit}
-use Rattle.block.proofs.Loops.{some-padding, some-none, some-more, some-last, as-variable, length-fits}
-use Rattle.block.proofs.Turns.{turn-new, turn-late, so-outcome}
+use Rattle.block.proofs.Loops.{some-padding, cut-nothing, some-none, some-more, some-last, as-variable, length-fits}
+use Rattle.block.proofs.Turns.{turn-new, turn-late, turning-begun, turning-second, turning-last, turning-empty, second-room, place-fits, word-fits, so-outcome}
 
 -- ---- the units of F and D are whole records of at most R bytes
 
@@ -96,12 +96,9 @@ turned-whole r q (some (x ∷ xs)) h = turns-answer r q x xs h ∙ sym (if-true 
 
 -- ---- the block
 
-nothing : (w n : ℕ) → 1 ≤ w + n → w + n ≤ 0 → ⊥
-nothing w n a b = omega arith
-
-none-in : (f r : ℕ) (u : Unit) → unitOf f r [] ≡ u → someUnits (cut f r []) ≡ none
-none-in f r (Of i w n) e = let c = unit-stands f r [] i w n e in absurd (nothing w n (c .some) (c .within))
-none-in f r None e = ap someUnits (cut-end f r [] e) ∙ some-padding (allAre 94 [])
+none-in : (f r : ℕ) → someUnits (cut f r []) ≡ none
+unfolding someUnits
+none-in f r = ap someUnits (cut-nothing f r)
 
 -- a block of at most b bytes; of one under o bytes nothing is left
 units-fit : (f b r o : ℕ) (s : List ℕ) → length s ≤ b → units f b r o s ≡ someUnits (cut f r (drop o s))
@@ -109,7 +106,7 @@ unfolding units
 units-fit f b r o s h =
     if-true _ _ _ (le-leb (length s) b h)
     ∙ if-case (λ (c : Option (List Segment)). c ≡ someUnits (cut f r (drop o s))) (leb o (length s)) _ none (λ t. refl)
-    (λ t. sym (ap (λ (l : List ℕ). someUnits (cut f r l)) (drop-of-length-le s (le-of-lt (leb-false o (length s) t))) ∙ none-in f r (unitOf f r []) refl))
+    (λ t. sym (ap (λ (l : List ℕ). someUnits (cut f r l)) (drop-of-length-le s (le-of-lt (leb-false o (length s) t))) ∙ none-in f r))
 
 block-fits : (f b r o q : ℕ) (s : List ℕ) → length s ≤ b → blockOutcome f b r o q s ≡ turned r q true (someUnits (cut f r (drop o s)))
 unfolding blockOutcome
@@ -134,9 +131,8 @@ pub block-variable : (f b r o q : ℕ) (s : List ℕ) (p : Bool) (x : Outcome) �
     → x ≡ ifB p (ifB (eqb q 0) (outcome 0 0) (outcome 8 0)) (outcome 7 0) → x ≡ blockOutcome f b r o q s
 block-variable f b r o q s p x e h m k = block-whole f 68 b r o q s p x e (λ z. omega arith) h m k
 
-pub block-segments : (f b r o q : ℕ) (s : List ℕ) (x : Outcome) → f ≡ 83 → length s ≤ b → x ≡ turned r q true (someUnits (cut 83 r (drop o s)))
-    → x ≡ blockOutcome f b r o q s
-block-segments f b r o q s x e h k = k ∙ sym (ap (λ (y : ℕ). blockOutcome y b r o q s) e ∙ block-fits 83 b r o q s h)
+pub block-segments : (b r o q : ℕ) (s : List ℕ) (x : Outcome) → length s ≤ b → x ≡ turned r q true (someUnits (cut 83 r (drop o s))) → x ≡ blockOutcome 83 b r o q s
+block-segments b r o q s x h k = k ∙ sym (block-fits 83 b r o q s h)
 
 turned-none : (r q : ℕ) → turned r q true none ≡ outcome 7 0
 unfolding turned
@@ -147,8 +143,6 @@ block-other f b r o q s x y z h =
     sym (block-fits f b r o q s h
     ∙ ap (turned r q true) (ap someUnits (cut-end f r (drop o s) (sym (other-unit f r (drop o s) x y z))) ∙ some-padding (allAre 94 (drop o s)))
     ∙ turned-none r q)
-
-pub ruleset blocks = (block-long, block-fixed, block-variable, block-segments, block-other, so-outcome, needs)
 
 -- ---- whether a block can be cut, without its turns
 
@@ -168,3 +162,12 @@ variable-passes f b r o q s p e z m t =
     let short : length s ≤ b
     = leb-true (length s) b (if-case (λ (c : Option (List Segment)). isCut c ≡ true → leb (length s) b ≡ true) (leb (length s) b) _ none (λ h _. h) (λ _ k. absurd (false≢true k)) (sym m ∙ t)) in
     block-variable f b r o q s true (outcome 0 0) e short (sym t ∙ m ∙ ap isCut (units-fit 68 b r o s short)) (sym (if-true _ _ _ refl ∙ if-true _ _ _ (eq-eqb q 0 z)))
+
+-- ---- a block of segments
+
+pub segments-named : (f b r o q : ℕ) (s : List ℕ) (x : Outcome) → f ≡ 83 → x ≡ blockOutcome 83 b r o q s → x ≡ blockOutcome f b r o q s
+segments-named f b r o q s x e h = h ∙ ap (λ (g : ℕ). blockOutcome g b r o q s) (sym e)
+
+pub ruleset segmented = (block-long, block-segments, turning-begun, turning-second, turning-last, turning-empty, second-room, place-fits, word-fits, so-outcome, needs)
+
+pub ruleset blocks = (block-long, block-fixed, block-variable, segments-named, block-other, so-outcome, needs)

@@ -15,7 +15,7 @@ use lib.Seq.{drop-drop}
 use Rattle.base.specs.If.{ifB, if-true, if-false, if-case, if-same}
 use Rattle.base.specs.Part.{part, allAre}
 use Rattle.block.specs.Unit.{fixed, variable, segment, unitOf, lengthOf}
-use Rattle.block.specs.Cut.{Segment, segmentOf, onto, cut, someUnits, isCut}
+use Rattle.block.specs.Cut.{Segment, segmentOf, onto, cut, someUnits, isCut, dueAt}
 use Rattle.block.specs.declared.Unit.{Unit}
 use Rattle.block.specs.declared.Unit.the-variants.{Of, None}
 use Rattle.block.proofs.Units.{unit-stands}
@@ -78,10 +78,6 @@ unfolding someUnits onto
 some-onto x none = refl
 some-onto x (some xs) = refl
 
--- at the head of the block there must be a unit, and later there need be none
-unfoldable pub dueAt : Bool → Option (List Segment) → Option (List Segment)
-dueAt head c = ifB head (someUnits c) c
-
 pub due-onto : (head : Bool) (x : Segment) (c : Option (List Segment)) → dueAt head (onto x c) ≡ onto x c
 unfolding dueAt
 due-onto head x c = ap (λ (y : Option (List Segment)). ifB head y (onto x c)) (some-onto x c) ∙ if-same head (onto x c)
@@ -143,7 +139,7 @@ pub cutting-end : (f r : ℕ) (s : List ℕ) (from at k : ℕ) (p : Bool) → Cu
 cutting-end f r s from at k p c e z h a =
     a ∙ sym (ap isCut (due-later at from (cut f r (drop at s)) h ∙ over f r s at k e z) ∙ cut-padding (allAre 94 (drop at s))) ∙ c .left
 
-pub ruleset cuttings = (cutting-first, cutting-more, cutting-none, cutting-end, length-fits, length-less, segment-fits, segment-less, as-fixed, as-variable, as-segment, needs)
+pub ruleset cuttings = (cutting-first, cutting-more, cutting-none, cutting-end, length-fits, length-less, segment-fits, segment-less, as-fixed, as-segment, needs)
 
 -- ---- whether units stand there, none or more, then padding
 
@@ -182,9 +178,9 @@ some-more f r s from k p e z q =
 pub ruleset restings = (resting-more, resting-end, some-none, some-more, length-fits, length-less, as-variable, needs)
 
 -- nothing is left behind a unit that ends where the bytes end
-nothing-cuts : (f r : ℕ) → isCut (cut f r []) ≡ true
+pub cut-nothing : (f r : ℕ) → cut f r [] ≡ some []
 unfolding allAre
-nothing-cuts f r = ap isCut (no-next f r [] (unitOf f r []) refl (none-stands (unitOf f r []) refl)) ∙ cut-padding (allAre 94 [])
+cut-nothing f r = no-next f r [] (unitOf f r []) refl (none-stands (unitOf f r []) refl) ∙ if-true _ _ _ refl
   where
     none-stands : (u : Unit) → unitOf f r [] ≡ u → lengthOf u ≡ 0
     none-stands (Of i w n) e = let c = unit-stands f r [] i w n e in absurd (omega (arith, c .some, c .within))
@@ -192,5 +188,6 @@ nothing-cuts f r = ap isCut (no-next f r [] (unitOf f r []) refl (none-stands (u
 
 pub some-last : (f r : ℕ) (s : List ℕ) (from k : ℕ) → k ≡ lengthOf (unitOf f r (drop from s)) → (k ≡ 0 → ⊥) → length s ≤ from + k
     → true ≡ isCut (someUnits (cut f r (drop from s)))
+unfolding isCut
 some-last f r s from k e z h =
-    some-more f r s from k true e z (sym (ap (λ (l : List ℕ). isCut (cut f r l)) (drop-of-length-le s h) ∙ nothing-cuts f r))
+    some-more f r s from k true e z (sym (ap (λ (l : List ℕ). isCut (cut f r l)) (drop-of-length-le s h) ∙ ap isCut (cut-nothing f r)))

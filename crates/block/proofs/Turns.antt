@@ -10,21 +10,21 @@ use borrow.Author.Tests.{le-leb, lt-leb, leb-true, leb-false, eq-eqb, ne-eqb, eq
 use mir.Val.{Fits}
 use mir.Syntax.{w64}
 use lib.Dec.{leb, eqb}
-use lib.ListN.{length, drop, length-drop}
+use lib.ListN.{length, drop, length-drop, drop-of-length-le}
 use lib.Seq.{drop-drop}
 use Rattle.base.specs.If.{ifB, if-true, if-false, if-case, if-same}
 use Rattle.base.specs.Part.{part, allAre}
 use Rattle.base.proofs.Parts.{length-part}
 use Rattle.block.specs.Unit.{segment, unitOf}
-use Rattle.block.specs.Cut.{Segment, segmentOf, onto, cut, someUnits, isCut}
-use Rattle.block.specs.Turn.{outcome, isTurn, openAfter, turnsFrom, turned}
+use Rattle.block.specs.Cut.{Segment, segmentOf, onto, cut, someUnits, isCut, dueAt}
+use Rattle.block.specs.Turn.{outcome, isTurn, openAfter, turnsFrom, turned, Turning}
 use Rattle.block.specs.declared.Unit.{Unit}
 use Rattle.block.specs.declared.Unit.the-variants.{Of, None}
 use Rattle.block.specs.declared.Outcome.{Outcome}
 use Rattle.block.proofs.Units.{unit-stands}
 use Rattle.block.proofs.Cuts.{cut-unit, cut-end}
 use Rattle.block.proofs.Lengths.{unit-segment}
-use Rattle.block.proofs.Loops.{dueAt, due-onto, due-later, due-first, cut-onto, some-padding, cutting-first}
+use Rattle.block.proofs.Loops.{due-onto, due-later, due-first, cut-onto, some-padding, cut-nothing, cutting-first}
 
 -- ---- one turn
 
@@ -129,14 +129,7 @@ word-fits s at i w n u l e q = let h = here 0 s at i w n u e q in omega arith
 pub unit-less : (s : List ℕ) (at i w n : ℕ) (u : Unit) → u ≡ segment (drop at s) → u ≡ Of i w n → length s - (at + w + n) < length s - at
 unit-less s at i w n u e q = let h = here 0 s at i w n u e q in omega arith
 
--- a loop that began at `from` with q open is at `at` with o open
-pub record Turning (r : ℕ) (s : List ℕ) (q from o at : ℕ) : Type 0 where
-  pub room : length s < 18446744073709551616
-  pub past : from ≤ at
-  pub cuts : isCut (dueAt (eqb at from) (cut 83 r (drop at s))) ≡ isCut (someUnits (cut 83 r (drop from s)))
-  pub left : turned r o (eqb at from) (dueAt (eqb at from) (cut 83 r (drop at s))) ≡ turned r q true (someUnits (cut 83 r (drop from s)))
-
-pub turning-first : (r : ℕ) (s : List ℕ) (q from : ℕ)
+turning-first : (r : ℕ) (s : List ℕ) (q from : ℕ)
     → turned r q (eqb from from) (dueAt (eqb from from) (cut 83 r (drop from s))) ≡ turned r q true (someUnits (cut 83 r (drop from s)))
 turning-first r s q from =
     ap (λ (h : Bool). turned r q h (dueAt (eqb from from) (cut 83 r (drop from s)))) (eq-eqb from from refl)
@@ -234,9 +227,37 @@ pub turning-stuck : (r : ℕ) (s : List ℕ) (q from o at : ℕ) (u : Unit) (p :
 turning-stuck r s q from o at u p c e k h a t =
     sym (ap (turned r o (eqb at from)) (if-false _ _ _ t) ∙ turned-none r o (eqb at from)) ∙ turning-left r s q from o at u p c e k h a
 
+-- begun at a place with q open, the walk is there
+pub turning-begun : (r : ℕ) (s : List ℕ) (q from : ℕ) → length s < 18446744073709551616 → Turning r s q from q from
+turning-begun r s q from l = record { room = l; past = omega arith; cuts = cutting-first 83 r s from; left = turning-first r s q from }
+
+-- behind a first segment that stands in its turn
+pub turning-second : (r : ℕ) (s : List ℕ) (q from i w n : ℕ) (u : Unit) (p : Bool) (o : ℕ) → length s < 18446744073709551616
+    → u ≡ segment (drop from s) → u ≡ Of i w n → p ≡ isTurn r q true i n → p ≡ true → o ≡ openAfter q i n → Turning r s q from o (from + w + n)
+turning-second r s q from i w n u p o l e k t y m =
+    turning-more r s q from q from i w n u p o (turning-begun r s q from l) e k (t ∙ ap (λ (h : Bool). isTurn r q h i n) (sym (eq-eqb from from refl))) (ap not y) m
+
+pub second-room : (r o i n : ℕ) (p : Bool) → r < 4294967296 → p ≡ isTurn r o true i n → p ≡ true → o + n ≤ 4294967296
+second-room r o i n p h e y = turn-room r o true i n p h e (ap not y)
+
+-- nothing is left
+pub turning-last : (r : ℕ) (s : List ℕ) (q from o i w n : ℕ) (u : Unit) → Turning r s q from o (from + w + n) → u ≡ segment (drop from s) → u ≡ Of i w n
+    → length s ≤ from + w + n → outcome 0 o ≡ turned r q true (someUnits (cut 83 r (drop from s)))
+turning-last r s q from o i w n u c e k h =
+    let long = here r s from i w n u e k .some in
+    let at : ℕ = from + w + n in
+    let far : at ≡ from → ⊥ = λ x. omega arith in
+    let none-left : cut 83 r (drop at s) ≡ some [] = ap (cut 83 r) (drop-of-length-le s h) ∙ cut-nothing 83 r in
+    sym (ap (turned r o (eqb at from)) (due-later at from (cut 83 r (drop at s)) far ∙ none-left) ∙ turned-done r o (eqb at from)) ∙ c .left
+
+-- no segment stands first
+pub turning-empty : (r : ℕ) (s : List ℕ) (q from : ℕ) (u : Unit) → length s < 18446744073709551616 → u ≡ segment (drop from s) → u ≡ None
+    → outcome 7 0 ≡ turned r q true (someUnits (cut 83 r (drop from s)))
+turning-empty r s q from u l e k = turning-none r s q from q from u (turning-begun r s q from l) e k refl
+
 -- an answer that a call gave
 pub so-outcome : (x y z : Outcome) → x ≡ y → y ≡ z → x ≡ z
 so-outcome x y z e h = e ∙ h
 
 pub ruleset turnings =
-    (turning-first, cutting-first, turning-more, turning-8, turning-7, turning-none, turning-over, turning-stuck, turn-room, place-fits, word-fits, unit-less, so-outcome, needs)
+    (turning-more, turning-8, turning-7, turning-none, turning-over, turning-stuck, turn-room, place-fits, word-fits, unit-less, so-outcome, needs)

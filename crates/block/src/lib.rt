@@ -13,7 +13,7 @@ ghost use Rattle.charset.specs.Number.{numberIn};
 ghost use Rattle.base.specs.Format.{F, D, S};
 ghost use Rattle.block.specs.Unit.{pad, fixed, measured, variable, segment, unitOf, lengthOf};
 ghost use Rattle.block.specs.Cut.{cut, someUnits, isCut, units};
-ghost use Rattle.block.specs.Turn.{outcome, isTurn, openAfter, turned, blockOutcome};
+ghost use Rattle.block.specs.Turn.{outcome, isTurn, openAfter, turned, Turning, blockOutcome};
 use base::FIXED;
 use base::SEGMENTED;
 use base::VARIABLE;
@@ -389,12 +389,21 @@ fn whole_outcome(cuts: bool, pending: usize) -> Outcome
     answer(7, 0)
 }
 
-// The answer on the segments from a place on. Where one is out of turn, a unit that cannot be cut goes before it, wherever it stands.
-fn segments_outcome(size: u32, pending: usize, s: &[u8], from: usize) -> Outcome
+// The answer on the segments from a place on, at which `pending` was open; those before `begin` are known to stand in their turns, with `carried` open there.
+// Where one is out of turn, a unit that cannot be cut goes before it, wherever it stands.
+fn segments_outcome(
+    size: u32,
+    pending: usize,
+    s: &[u8],
+    from: usize,
+    carried: usize,
+    begin: usize,
+) -> Outcome
+    requires { ⌜ Turning size (now s) pending from carried begin ⌝ }
     ensures { λ r. ⌜ r ≡ turned size pending true (someUnits (cut S size (drop from (now (s .entry))))) ⌝ }
 {
-    let mut held = pending;
-    let mut at = from;
+    let mut held = carried;
+    let mut at = begin;
     loop {
         let unit = segment_at(s, at);
         match unit {
@@ -421,6 +430,46 @@ fn segments_outcome(size: u32, pending: usize, s: &[u8], from: usize) -> Outcome
     }
 }
 
+// The answer on a block of an S file. A short block is most often one segment, which needs no loop and so no call of one.
+pub fn segmented_outcome(
+    block: usize,
+    size: u32,
+    offset: usize,
+    pending: usize,
+    s: &[u8],
+) -> Outcome
+    ensures { λ r. ⌜ r ≡ blockOutcome S block size offset pending (now (s .entry)) ⌝ }
+{
+    if block < s.len() {
+        return answer(7, 0);
+    }
+    let unit = segment_at(s, offset);
+    match unit {
+        Unit::Of(indicator, word, n) => {
+            if in_turn(size, pending, true, indicator, n) {
+                let held = open_after(pending, indicator, n);
+                let at = offset + word + n;
+                if s.len() <= at {
+                    return answer(0, held);
+                }
+                return segments_outcome(size, pending, s, offset, held, at);
+            }
+            segments_outcome(size, pending, s, offset, pending, offset)
+        }
+        Unit::None => answer(7, 0),
+    }
+}
+
+// The same, without that way out: an S block, where it is not walked past, is one that is refused.
+fn segments_block(block: usize, size: u32, offset: usize, pending: usize, s: &[u8]) -> Outcome
+    ensures { λ r. ⌜ r ≡ blockOutcome S block size offset pending (now (s .entry)) ⌝ }
+{
+    if block < s.len() {
+        return answer(7, 0);
+    }
+    segments_outcome(size, pending, s, offset, pending, offset)
+}
+
 // The answer on one block, in a file of that format, block length, record length and offset length, with that much pending.
 pub fn block_outcome(
     format: u8,
@@ -432,6 +481,9 @@ pub fn block_outcome(
 ) -> Outcome
     ensures { λ r. ⌜ r ≡ blockOutcome format block size offset pending (now (s .entry)) ⌝ }
 {
+    if format == SEGMENTED {
+        return segments_block(block, size, offset, pending, s);
+    }
     if block < s.len() {
         return answer(7, 0);
     }
@@ -440,9 +492,6 @@ pub fn block_outcome(
     }
     if format == VARIABLE {
         return whole_outcome(variable_cuts(size, s, offset), pending);
-    }
-    if format == SEGMENTED {
-        return segments_outcome(size, pending, s, offset);
     }
     answer(7, 0)
 }

@@ -2,10 +2,12 @@
 ghost use mathlib.Core.Path.{_≡_};
 ghost use Rattle.block.specs.Turn.{blockOutcome};
 ghost use Rattle.volume.specs.Body.{Inside, Skipped};
+use base::SEGMENTED;
 use base::VARIABLE;
 use block::Outcome;
 use block::block_outcome;
 use block::is_variable_block;
+use block::segmented_outcome;
 use image::Shape;
 
 // The lengths of a section's blocks, as HDR2 gives them.
@@ -24,7 +26,7 @@ pub struct Between {
     pub pending: usize,
 }
 
-// The answer on a data block. A D block that can be cut is passed here, most often with no call: an image may hold millions of short ones.
+// The answer on a data block. A D block that can be cut and an S block are passed here, short ones with no call: an image may hold millions of them.
 fn outcome_of(h: Lengths, pending: usize, s: &[u8]) -> Outcome
     ensures { λ r. ⌜ r ≡ blockOutcome (h .format) (h .block) (h .size) (h .offset) pending (now (s .entry)) ⌝ }
 {
@@ -37,6 +39,9 @@ fn outcome_of(h: Lengths, pending: usize, s: &[u8]) -> Outcome
                 };
             }
         }
+    }
+    if h.format == SEGMENTED {
+        return segmented_outcome(h.block, h.size, h.offset, pending, s);
     }
     block_outcome(h.format, h.block, h.size, h.offset, pending, s)
 }

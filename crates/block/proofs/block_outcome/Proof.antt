@@ -2,11 +2,17 @@ use Rattle.block.proofs.Blocks.{blocks}
 use Rattle.block.proofs.block_outcome.Statement.{statement}
 use Rattle.block.proofs.block_outcome.Tie as tie
 
-answer-requires : tie.Need-answer-requires
-answer-requires c κs = search blocks
+segments-block-requires : tie.Need-segments-block-requires
+segments-block-requires c κs = search blocks
 
 returns : tie.Need-returns
 returns c = search blocks
+
+answer-requires : tie.Need-answer-requires
+answer-requires c κs = search blocks
+
+returns-2 : tie.Need-returns-2
+returns-2 c = search blocks
 
 fixed-cuts-requires : tie.Need-fixed-cuts-requires
 fixed-cuts-requires c κs = search blocks
@@ -14,20 +20,14 @@ fixed-cuts-requires c κs = search blocks
 whole-outcome-requires : tie.Need-whole-outcome-requires
 whole-outcome-requires c κs = search blocks
 
-returns-2 : tie.Need-returns-2
-returns-2 c = search blocks
+returns-3 : tie.Need-returns-3
+returns-3 c = search blocks
 
 variable-cuts-requires : tie.Need-variable-cuts-requires
 variable-cuts-requires c κs = search blocks
 
 whole-outcome-requires-2 : tie.Need-whole-outcome-requires-2
 whole-outcome-requires-2 c κs = search blocks
-
-returns-3 : tie.Need-returns-3
-returns-3 c = search blocks
-
-segments-outcome-requires : tie.Need-segments-outcome-requires
-segments-outcome-requires c κs = search blocks
 
 returns-4 : tie.Need-returns-4
 returns-4 c = search blocks
@@ -42,15 +42,15 @@ pub block-outcome-spec : {M : Type 1} → statement M
 block-outcome-spec =
     tie.close
     (tie.spec
-    answer-requires
+    segments-block-requires
     returns
+    answer-requires
+    returns-2
     fixed-cuts-requires
     whole-outcome-requires
-    returns-2
+    returns-3
     variable-cuts-requires
     whole-outcome-requires-2
-    returns-3
-    segments-outcome-requires
     returns-4
     answer-requires-2
     returns-5)

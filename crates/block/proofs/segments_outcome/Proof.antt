@@ -1,14 +1,15 @@
 use Prim.Native.Nat.{_-_}
 use lib.ListN.{length}
-use Rattle.block.proofs.Turns.{Turning, turnings}
+use Rattle.block.specs.Turn.{Turning}
+use Rattle.block.proofs.Turns.{turnings}
 use Rattle.block.proofs.segments_outcome.Statement.{statement}
 use Rattle.block.proofs.segments_outcome.Tie as tie
 
 abbrev Inv-loop : tie.InvT-loop
-Inv-loop size pending s from held₀ at₀ held at = Turning size s pending from held at
+Inv-loop size pending s from carried begin held₀ at₀ held at = Turning size s pending from held at
 
 abbrev μ-loop : tie.MeasureT-loop
-μ-loop size pending s from held₀ at₀ held at = length s - at
+μ-loop size pending s from carried begin held₀ at₀ held at = length s - at
 
 loop-holds : tie.Need-loop-holds Inv-loop μ-loop
 loop-holds c = search turnings
