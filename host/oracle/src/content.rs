@@ -113,6 +113,17 @@ impl<'a> Parts<'a> {
         Parts { tape, first: None, in_data: false }
     }
 
+    /// The place of the first data item behind the headers read last.
+    pub fn data_from(&self) -> usize {
+        let mut tape = self.tape.clone();
+        while let Ok(Some(item)) = tape.next_item() {
+            if item == Item::TapeMark {
+                break;
+            }
+        }
+        tape.at()
+    }
+
     /// A file begins at the second header of its section 0001.
     fn head(&mut self, block: &'a [u8]) -> Option<Head<'a>> {
         let label: &Label = block.try_into().ok()?;

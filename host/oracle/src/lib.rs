@@ -2,7 +2,7 @@
 //! down in document 01): the oracle of differential tests and the yardstick of benchmarks.
 //!
 //! The layers, from the bytes of an image upward: [`chars`], [`tape`], [`label`], [`order`],
-//! [`block`], [`set`], [`content`], [`sheet`], [`writer`], [`listing`]; and [`generate`] for tests.
+//! [`block`], [`set`], [`content`], [`walk`], [`sheet`], [`writer`], [`listing`]; and [`generate`] for tests.
 
 pub mod block;
 pub mod chars;
@@ -14,6 +14,7 @@ pub mod order;
 pub mod set;
 pub mod sheet;
 pub mod tape;
+pub mod walk;
 pub mod writer;
 
 pub use block::{cut_block, turns, OutOfTurn, Shape, Unit};
@@ -24,6 +25,7 @@ pub use listing::{listing, listing_of_input};
 pub use set::check;
 pub use sheet::{Order, Sheet};
 pub use tape::framing;
+pub use walk::{begin, Walk};
 pub use writer::{rewrite, write, Written};
 
 /// What an operation gives back: a number of document 01, and its place. Number 0 is "done".

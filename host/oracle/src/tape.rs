@@ -16,6 +16,30 @@ pub enum Item<'a> {
     EndOfReel,
 }
 
+impl Item<'_> {
+    /// The bytes of the item in an image, its length among them.
+    #[inline]
+    #[allow(clippy::len_without_is_empty)]
+    pub fn len(&self) -> usize {
+        match self {
+            Item::Block(block) => 3 + block.len(),
+            _ => 3,
+        }
+    }
+}
+
+/// The item at the head of these bytes; none where it is bad or cut short.
+#[inline]
+pub fn item_in(bytes: &[u8]) -> Option<Item<'_>> {
+    let (length, rest) = bytes.split_first_chunk::<3>()?;
+    match u32::from_be_bytes([0, length[0], length[1], length[2]]) as usize {
+        0 => Some(Item::TapeMark),
+        length @ 1..=MOST_BLOCK => rest.get(..length).map(Item::Block),
+        MOST_BYTES => Some(Item::EndOfReel),
+        _ => None,
+    }
+}
+
 /// A place in an image: `at` is the first byte of item number `item`.
 #[derive(Clone)]
 pub struct Tape<'a> {
@@ -55,21 +79,12 @@ impl<'a> Tape<'a> {
         if rest.is_empty() && self.ended {
             return Ok(None);
         }
-        if rest.len() < 3 || self.reels == MOST_REELS {
+        if self.reels == MOST_REELS {
             return Err(self.torn());
         }
-        let length = u32::from_be_bytes([0, rest[0], rest[1], rest[2]]) as usize;
-        let item = match length {
-            0 => Item::TapeMark,
-            1..=MOST_BLOCK if rest.len() - 3 >= length => Item::Block(&rest[3..3 + length]),
-            MOST_BYTES => Item::EndOfReel,
-            _ => return Err(self.torn()),
-        };
+        let item = item_in(rest).ok_or_else(|| self.torn())?;
         self.ended = item == Item::EndOfReel;
-        self.at += 3;
-        if let Item::Block(block) = item {
-            self.at += block.len();
-        }
+        self.at += item.len();
         self.reels += u32::from(self.ended);
         self.item += 1;
         Ok(Some(item))

@@ -1,0 +1,174 @@
+//! Knows a walk over the records of one file: a step from any state, be it one that a walk reaches
+//! or not; judges no label.
+
+use crate::block::{Shape, Unit, PAD};
+use crate::content::{Found, Part, Parts};
+use crate::label::{kind_of, End, Label};
+use crate::order::{after, Behind, Seen};
+use crate::tape::{item_in, Item};
+use crate::{number_of, Answer};
+
+/// The state of a walk: what its file's HDR2 says, and what is left of the current block, `left`
+/// bytes at the place `at` of the image.
+#[derive(Clone, Copy, Debug, Default, PartialEq, Eq, Hash)]
+pub struct Walk {
+    pub format: u8,
+    pub size: u32,
+    pub offset: u64,
+    pub at: u64,
+    pub left: u64,
+}
+
+/// A unit and what is left of its block; places are those of the image.
+struct Head<'a> {
+    unit: Unit,
+    rest: Rest<'a>,
+}
+
+/// The bytes left of a block, and the whole image with the place behind them.
+#[derive(Clone, Copy)]
+struct Rest<'a> {
+    image: &'a [u8],
+    at: usize,
+    left: usize,
+}
+
+/// The state before the first record of file number `file`, from 1: the image's own number, then 13.
+pub fn begin(image: &[u8], file: u64) -> Result<Walk, Answer> {
+    let mut files = 0;
+    let mut parts = Parts::of(image)?;
+    while let Some(part) = parts.next() {
+        let Part::File(head) = part else { continue };
+        files += 1;
+        if files == file {
+            let Shape { format, record, offset, .. } = Shape::of(head.second);
+            let (size, offset) = (record as u32, offset as u64);
+            let at = parts.data_from() as u64;
+            return Ok(Walk { format, size, offset, at, left: 0 });
+        }
+    }
+    Err(Answer::without_place(13))
+}
+
+impl Walk {
+    /// The record at the walk's place, and the walk moved on; 13 where no whole record stands there,
+    /// and 10 where it must be joined and the buffer is shorter.
+    pub fn step(self, image: &[u8], join: &mut [u8]) -> Result<(Found, Walk), u32> {
+        let (units, rest) = self.record(image).ok_or(13_u32)?;
+        let behind = Walk { at: rest.at as u64, left: rest.left as u64, ..self };
+        if let [Unit { start, len, .. }] = units[..] {
+            return Ok((Found::InImage { start, len }, behind));
+        }
+        let len = units.iter().map(|unit| unit.len).sum();
+        if len > join.len() {
+            return Err(10);
+        }
+        let mut at = 0;
+        for Unit { start, len, .. } in units {
+            join[at..at + len].copy_from_slice(&image[start..start + len]);
+            at += len;
+        }
+        Ok((Found::Joined { len }, behind))
+    }
+
+    /// The units of the record, in turn and no longer than R, and what is left behind the last.
+    fn record<'a>(&self, image: &'a [u8]) -> Option<(Vec<Unit>, Rest<'a>)> {
+        let rest = self.rest(image)?;
+        let mut head = match self.unit(rest) {
+            Some(head) => head,
+            None => self.next_unit(rest)?,
+        };
+        let mut units = vec![head.unit];
+        if head.unit.indicator == 1 {
+            while matches!(units.last()?.indicator, 1 | 2) {
+                head = self.next_unit(head.rest)?;
+                if !matches!(head.unit.indicator, 2 | 3) {
+                    return None;
+                }
+                units.push(head.unit);
+            }
+        } else if head.unit.indicator != 0 {
+            return None;
+        }
+        let len: usize = units.iter().map(|unit| unit.len).sum();
+        (len <= self.size as usize).then_some((units, head.rest))
+    }
+
+    /// What is left, where the state could be one of a walk over this image at all.
+    fn rest<'a>(&self, image: &'a [u8]) -> Option<Rest<'a>> {
+        let end = self.at.checked_add(self.left)?;
+        let sound = matches!(self.format, b'F' | b'D' | b'S') && self.size > 0;
+        (sound && end <= image.len() as u64).then_some(Rest {
+            image,
+            at: self.at as usize,
+            left: self.left as usize,
+        })
+    }
+
+    /// The unit at the head of what is left of a block.
+    fn unit<'a>(&self, rest: Rest<'a>) -> Option<Head<'a>> {
+        let bytes = rest.bytes();
+        let size = self.size as usize;
+        let (indicator, word, length) = match self.format {
+            b'F' => {
+                let record = bytes.get(..size)?;
+                return record
+                    .iter()
+                    .any(|&byte| byte != PAD)
+                    .then(|| rest.split(Unit { indicator: 0, start: rest.at, len: size }));
+            }
+            b'D' => (0, 4, number_of(bytes.get(..4)?)? as usize),
+            _ => {
+                let indicator = bytes.first()?.wrapping_sub(b'0');
+                (indicator, 5, number_of(bytes.get(1..5)?)? as usize)
+            }
+        };
+        let fits = length >= word && length <= bytes.len();
+        let allowed = if self.format == b'D' { length <= size } else { indicator <= 3 };
+        let unit = Unit { indicator, start: rest.at + word, len: length.checked_sub(word)? };
+        (fits && allowed).then(|| rest.split(unit))
+    }
+
+    /// The first unit of the file's next block; what is left of this one must be padding.
+    fn next_unit<'a>(&self, rest: Rest<'a>) -> Option<Head<'a>> {
+        if rest.bytes().iter().any(|&byte| byte != PAD) {
+            return None;
+        }
+        let (at, len) = next_data_block(rest.image, rest.at + rest.left)?;
+        let offset = usize::try_from(self.offset).ok()?;
+        let left = len.checked_sub(offset)?;
+        self.unit(Rest { image: rest.image, at: at + offset, left })
+    }
+}
+
+impl<'a> Rest<'a> {
+    fn bytes(self) -> &'a [u8] {
+        &self.image[self.at..self.at + self.left]
+    }
+
+    /// The unit at the head, and what is left behind it.
+    fn split(self, unit: Unit) -> Head<'a> {
+        let end = unit.start + unit.len;
+        Head { unit, rest: Rest { image: self.image, at: end, left: self.left - (end - self.at) } }
+    }
+}
+
+/// Where the bytes of the next data block of a file are, and how many, from a place between two
+/// items in the data of that file. Other reels may have to be gone through as far as its next section.
+fn next_data_block(image: &[u8], mut at: usize) -> Option<(usize, usize)> {
+    let mut place = Behind::DataMark;
+    loop {
+        let item = item_in(image.get(at..)?)?;
+        let seen = match item {
+            Item::Block(block) if place == Behind::DataMark => return Some((at + 3, block.len())),
+            Item::Block(block) => Seen::Label(kind_of(<&Label>::try_from(block).ok()?)?),
+            Item::TapeMark => Seen::TapeMark,
+            Item::EndOfReel => Seen::EndOfReel,
+        };
+        place = after(place, seen)?;
+        if matches!(place, Behind::Trailer(End::File, _)) {
+            return None;
+        }
+        at += item.len();
+    }
+}

@@ -1,0 +1,73 @@
+//! The functions of the archive, as `include/tardorelga.h` has them for C. A slice is its pointer,
+//! which is never null, and its length; a struct goes by value.
+
+use crate::{Verdict, Walk};
+
+// The archive is of 64 bits: places and lengths of 64 bits are those of slices.
+const _: () = assert!(usize::BITS == 64);
+
+#[repr(C)]
+pub struct Found {
+    pub verdict: Verdict,
+    pub joined: u32,
+    pub start: u64,
+    pub len: u64,
+}
+
+#[repr(C)]
+pub struct Begun {
+    pub verdict: Verdict,
+    pub walk: Walk,
+}
+
+#[repr(C)]
+pub struct Stepped {
+    pub number: u32,
+    pub joined: u32,
+    pub start: u64,
+    pub len: u64,
+    pub walk: Walk,
+}
+
+#[repr(C)]
+pub struct Written {
+    pub verdict: Verdict,
+    pub len: u64,
+}
+
+extern "C" {
+    pub fn tardorelga_check(image: *const u8, image_len: usize) -> Verdict;
+    pub fn tardorelga_record(
+        image: *const u8,
+        image_len: usize,
+        file: u64,
+        record: u64,
+        join: *mut u8,
+        join_len: usize,
+    ) -> Found;
+    pub fn tardorelga_begin(image: *const u8, image_len: usize, file: u64) -> Begun;
+    pub fn tardorelga_step(
+        image: *const u8,
+        image_len: usize,
+        walk: Walk,
+        join: *mut u8,
+        join_len: usize,
+    ) -> Stepped;
+    pub fn tardorelga_write(
+        set: *const u8,
+        set_len: usize,
+        files: *const u8,
+        files_len: usize,
+        counts: *const u64,
+        counts_len: usize,
+        lengths: *const u64,
+        lengths_len: usize,
+        data: *const u8,
+        data_len: usize,
+        quota: u64,
+        names: *const u8,
+        names_len: usize,
+        out: *mut u8,
+        out_len: usize,
+    ) -> Written;
+}

@@ -1,0 +1,157 @@
+//! The records of a set, by number and by walk.
+
+use crate::{ffi, Verdict};
+use std::borrow::Cow;
+
+/// Where a record is: a record of one unit is a part of the image, one of several segments was joined
+/// into the front of the lent buffer.
+#[derive(Clone, Copy, Debug, PartialEq, Eq)]
+pub enum Place {
+    InImage { start: usize, len: usize },
+    Joined { len: usize },
+}
+
+impl Place {
+    fn new(joined: u32, start: u64, len: u64) -> Place {
+        let (start, len) = (start as usize, len as usize);
+        match joined {
+            0 => Place::InImage { start, len },
+            _ => Place::Joined { len },
+        }
+    }
+
+    /// The record: a part of the image, or of the buffer that was lent for joining.
+    pub fn of<'a>(self, image: &'a [u8], join: &'a [u8]) -> &'a [u8] {
+        match self {
+            Place::InImage { start, len } => &image[start..start + len],
+            Place::Joined { len } => &join[..len],
+        }
+    }
+}
+
+/// Record number `record` of file number `file`, both from 1, or the image's own number, then 13,
+/// then 10. Only a record of several segments needs the joining buffer, and only its own bytes there
+/// are changed.
+///
+/// ```
+/// let image = include_bytes!("../../../samples/ledger.tgi");
+/// let record = tardorelga::record(image, 1, 1, &mut []);
+/// assert_eq!(record, Ok(&b"0123456789"[..]));
+/// let behind = tardorelga::record(image, 1, 2, &mut []);
+/// assert_eq!(behind.unwrap_err().number, 13);
+/// ```
+pub fn record<'a>(
+    image: &'a [u8],
+    file: u64,
+    record: u64,
+    join: &'a mut [u8],
+) -> Result<&'a [u8], Verdict> {
+    let place = place(image, file, record, join)?;
+    Ok(place.of(image, join))
+}
+
+/// As [`record`], but says where the record is.
+///
+/// ```
+/// use tardorelga::Place;
+/// let image = include_bytes!("../../../samples/ledger.tgi");
+/// let place = tardorelga::place(image, 1, 1, &mut []);
+/// assert_eq!(place, Ok(Place::InImage { start: 260, len: 10 }));
+/// ```
+pub fn place(image: &[u8], file: u64, record: u64, join: &mut [u8]) -> Result<Place, Verdict> {
+    // SAFETY: the image is lent to read and the buffer to write for the whole call; they can't
+    // overlap, and nothing of them is kept.
+    let ffi::Found { verdict, joined, start, len } = unsafe {
+        let (image, image_len) = (image.as_ptr(), image.len());
+        ffi::tardorelga_record(image, image_len, file, record, join.as_mut_ptr(), join.len())
+    };
+    verdict.then(|| Place::new(joined, start, len))
+}
+
+/// A walk over the records of one file, by value. The numbers may be anything: a step from a state
+/// that no walk over the image reaches gives 13, or the whole record that stands there by the state's
+/// own numbers.
+///
+/// ```
+/// let image = include_bytes!("../../../samples/ledger.tgi");
+/// let walk = tardorelga::begin(image, 1).unwrap();
+/// let (place, walk) = walk.step(image, &mut []).unwrap();
+/// assert_eq!(place.of(image, &[]), b"0123456789");
+/// assert_eq!(walk.step(image, &mut []), Err(13));
+/// ```
+#[repr(C)]
+#[derive(Clone, Copy, Debug, Default, PartialEq, Eq, Hash)]
+pub struct Walk {
+    /// `F`, `D` or `S`.
+    pub format: u8,
+    /// The record length R of the file's HDR2.
+    pub size: u32,
+    /// Bytes to skip at the head of each block.
+    pub offset: u64,
+    /// The place in the image of what is left of the current block.
+    pub at: u64,
+    /// How many bytes of it are left.
+    pub left: u64,
+}
+
+/// The walk before the first record of file number `file`, from 1, or the image's own number, then 13.
+pub fn begin(image: &[u8], file: u64) -> Result<Walk, Verdict> {
+    // SAFETY: the image is lent to read for the whole call, and nothing of it is kept.
+    let begun = unsafe { ffi::tardorelga_begin(image.as_ptr(), image.len(), file) };
+    begun.verdict.then(|| begun.walk)
+}
+
+impl Walk {
+    /// The next record, joined into the buffer where it has several segments, and the walk moved on;
+    /// 13 where there is none, and 10 where the buffer is too short.
+    pub fn step(self, image: &[u8], join: &mut [u8]) -> Result<(Place, Walk), u32> {
+        // SAFETY: the image is lent to read and the buffer to write for the whole call; they can't
+        // overlap, and nothing of them is kept.
+        let ffi::Stepped { number, joined, start, len, walk } = unsafe {
+            let (image, image_len) = (image.as_ptr(), image.len());
+            ffi::tardorelga_step(image, image_len, self, join.as_mut_ptr(), join.len())
+        };
+        match number {
+            0 => Ok((Place::new(joined, start, len), walk)),
+            _ => Err(number),
+        }
+    }
+}
+
+/// The records of a file, in order; one of several segments comes as a copy.
+///
+/// ```
+/// let image = include_bytes!("../../../samples/ledger.tgi");
+/// let records: Vec<_> = tardorelga::records(image, 1).unwrap().collect();
+/// assert_eq!(records, [&b"0123456789"[..]]);
+/// ```
+#[derive(Clone, Debug)]
+pub struct Records<'a> {
+    image: &'a [u8],
+    walk: Walk,
+    /// Empty until a record must be joined, then of R bytes, which hold every record of the file.
+    join: Vec<u8>,
+}
+
+/// The records of file number `file`, from 1, or the image's own number, then 13.
+pub fn records(image: &[u8], file: u64) -> Result<Records<'_>, Verdict> {
+    Ok(Records { image, walk: begin(image, file)?, join: Vec::new() })
+}
+
+impl<'a> Iterator for Records<'a> {
+    type Item = Cow<'a, [u8]>;
+
+    fn next(&mut self) -> Option<Cow<'a, [u8]>> {
+        let mut step = self.walk.step(self.image, &mut self.join);
+        if step == Err(10) {
+            self.join.resize(self.walk.size as usize, 0);
+            step = self.walk.step(self.image, &mut self.join);
+        }
+        let (place, walk) = step.ok()?;
+        self.walk = walk;
+        Some(match place {
+            Place::InImage { start, len } => Cow::Borrowed(&self.image[start..start + len]),
+            Place::Joined { len } => Cow::Owned(self.join[..len].to_vec()),
+        })
+    }
+}
