@@ -7,6 +7,7 @@ use crate::{Verdict, Walk};
 const _: () = assert!(usize::BITS == 64);
 
 #[repr(C)]
+#[derive(Clone, Copy, Debug, PartialEq, Eq)]
 pub struct Found {
     pub verdict: Verdict,
     pub joined: u32,
@@ -15,12 +16,14 @@ pub struct Found {
 }
 
 #[repr(C)]
+#[derive(Clone, Copy, Debug, PartialEq, Eq)]
 pub struct Begun {
     pub verdict: Verdict,
     pub walk: Walk,
 }
 
 #[repr(C)]
+#[derive(Clone, Copy, Debug, PartialEq, Eq)]
 pub struct Stepped {
     pub number: u32,
     pub joined: u32,
@@ -30,6 +33,7 @@ pub struct Stepped {
 }
 
 #[repr(C)]
+#[derive(Clone, Copy, Debug, PartialEq, Eq)]
 pub struct Written {
     pub verdict: Verdict,
     pub len: u64,

@@ -31,7 +31,8 @@
 //! A buffer that is lent to be written to keeps every byte with a refusal, and behind what was
 //! written. Nothing is kept of any buffer behind a call, and nothing is allocated but by [`Records`].
 
-mod ffi;
+#[doc(hidden)]
+pub mod ffi;
 mod records;
 mod sheet;
 mod verdict;

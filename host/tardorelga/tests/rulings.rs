@@ -4,7 +4,7 @@
 use cases::ledger::{base, base_with};
 use cases::{blocks, container, fields, order, run};
 use oracle::generate::image_of;
-use trials::archive;
+use trials::archive::check;
 
 #[test]
 fn the_whole_set_of_document_01() {
@@ -17,20 +17,20 @@ fn the_whole_set_of_document_01() {
 
 #[test]
 fn containers() {
-    run(&container::cases(), archive);
+    run(&container::cases(), check);
 }
 
 #[test]
 fn orders_of_reels() {
-    run(&order::cases(), archive);
+    run(&order::cases(), check);
 }
 
 #[test]
 fn fields_of_labels() {
-    run(&fields::cases(), archive);
+    run(&fields::cases(), check);
 }
 
 #[test]
 fn data_blocks() {
-    run(&blocks::cases(), archive);
+    run(&blocks::cases(), check);
 }

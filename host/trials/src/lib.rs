@@ -1,26 +1,34 @@
 //! The proved archive and the oracle on the same images: they must agree on each.
 
+pub mod archive;
 pub mod images;
+pub mod records;
+pub mod states;
+pub mod twins;
 
 use cases::tally::Tally;
 use oracle::generate::Rng;
 use oracle::Answer;
 
-/// The archive's answer, in the oracle's words.
-pub fn archive(image: &[u8]) -> Answer {
-    let verdict = tardorelga::check(image);
-    Answer::new(verdict.number, verdict.item, verdict.byte)
-}
-
 /// The answer of both; where they differ, the image is shown in hexadecimal.
 #[track_caller]
 pub fn agreed(image: &[u8]) -> Answer {
-    let (archive, oracle) = (archive(image), oracle::check(image));
-    if archive != oracle {
-        let hex: String = image.iter().map(|byte| format!("{byte:02X}")).collect();
-        panic!("archive {archive:?}, oracle {oracle:?}, on {hex}");
-    }
+    let (archive, oracle) = (archive::check(image), oracle::check(image));
+    assert_eq!(archive, oracle, "archive and oracle on {}", shown(image));
     archive
+}
+
+/// The image in hexadecimal.
+pub fn shown(image: &[u8]) -> Hex<'_> {
+    Hex(image)
+}
+
+pub struct Hex<'a>(&'a [u8]);
+
+impl std::fmt::Display for Hex<'_> {
+    fn fmt(&self, f: &mut std::fmt::Formatter) -> std::fmt::Result {
+        self.0.iter().try_for_each(|byte| write!(f, "{byte:02X}"))
+    }
 }
 
 /// The answers on so many images of a maker, all agreed on.

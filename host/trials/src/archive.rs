@@ -1,0 +1,98 @@
+//! The archive's answers in the oracle's words. Every number of an answer is looked at, those too that
+//! the safe library has no use for.
+
+use oracle::{Answer, Found, Sheet, Walk, Written};
+use tardorelga::{ffi, Verdict};
+
+pub fn check(image: &[u8]) -> Answer {
+    answer(tardorelga::check(image))
+}
+
+fn answer(Verdict { number, item, byte }: Verdict) -> Answer {
+    Answer::new(number, item, byte)
+}
+
+/// Place and length; without meaning, and 0, where there is no record.
+fn found(done: bool, joined: u32, start: u64, len: u64) -> Option<Found> {
+    match (done, joined) {
+        (true, 0) => Some(Found::InImage { start: start as usize, len: len as usize }),
+        (true, 1) => {
+            assert_eq!(start, 0, "the front of the buffer");
+            Some(Found::Joined { len: len as usize })
+        }
+        (false, 0) => {
+            assert_eq!((start, len), (0, 0), "a refusal has an empty part");
+            None
+        }
+        _ => panic!("done {done}, joined {joined}"),
+    }
+}
+
+pub fn record(image: &[u8], file: u64, record: u64, join: &mut [u8]) -> Found {
+    let (at, len) = (image.as_ptr(), image.len());
+    // SAFETY: slices, lent for the call.
+    let given =
+        unsafe { ffi::tardorelga_record(at, len, file, record, join.as_mut_ptr(), join.len()) };
+    let answer = answer(given.verdict);
+    found(answer.is_done(), given.joined, given.start, given.len).unwrap_or(Found::Refused(answer))
+}
+
+pub fn begin(image: &[u8], file: u64) -> Result<Walk, Answer> {
+    // SAFETY: a slice, lent for the call.
+    let begun = unsafe { ffi::tardorelga_begin(image.as_ptr(), image.len(), file) };
+    let answer = answer(begun.verdict);
+    if answer.is_done() {
+        return Ok(in_oracle(begun.walk));
+    }
+    assert_eq!(in_oracle(begun.walk), Walk::default(), "with a refusal the walk is all 0");
+    Err(answer)
+}
+
+pub fn step(from: Walk, image: &[u8], join: &mut [u8]) -> Result<(Found, Walk), u32> {
+    let (at, len) = (image.as_ptr(), image.len());
+    // SAFETY: slices, lent for the call.
+    let stepped =
+        unsafe { ffi::tardorelga_step(at, len, in_archive(from), join.as_mut_ptr(), join.len()) };
+    let walk = in_oracle(stepped.walk);
+    match found(stepped.number == 0, stepped.joined, stepped.start, stepped.len) {
+        Some(found) => Ok((found, walk)),
+        None => {
+            assert_eq!(walk, from, "with 10 or 13 the walk isn't moved");
+            Err(stepped.number)
+        }
+    }
+}
+
+fn in_oracle(tardorelga::Walk { format, size, offset, at, left }: tardorelga::Walk) -> Walk {
+    Walk { format, size, offset, at, left }
+}
+
+fn in_archive(Walk { format, size, offset, at, left }: Walk) -> tardorelga::Walk {
+    tardorelga::Walk { format, size, offset, at, left }
+}
+
+/// As the safe library, but the length that comes with a refusal is looked at.
+pub fn write(sheet: &Sheet, out: &mut [u8]) -> Written {
+    let Sheet { set, files, counts, lengths, data, quota, names } = *sheet;
+    // SAFETY: slices, lent for the call.
+    let written = unsafe {
+        ffi::tardorelga_write(
+            set.as_ptr(),
+            set.len(),
+            files.as_ptr(),
+            files.len(),
+            counts.as_ptr(),
+            counts.len(),
+            lengths.as_ptr(),
+            lengths.len(),
+            data.as_ptr(),
+            data.len(),
+            quota,
+            names.as_ptr(),
+            names.len(),
+            out.as_mut_ptr(),
+            out.len(),
+        )
+    };
+    Written { answer: answer(written.verdict), len: written.len as usize }
+}
