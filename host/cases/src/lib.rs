@@ -7,6 +7,7 @@ pub mod fields;
 pub mod ledger;
 pub mod order;
 pub mod tally;
+pub mod writing;
 
 use oracle::generate::{image_of, Piece};
 use oracle::Answer;

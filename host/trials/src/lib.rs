@@ -5,6 +5,7 @@ pub mod images;
 pub mod records;
 pub mod states;
 pub mod twins;
+pub mod writing;
 
 use cases::tally::Tally;
 use oracle::generate::Rng;

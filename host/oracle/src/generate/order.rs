@@ -55,61 +55,90 @@ fn record(rng: &mut Rng, shape: &Shape) -> Vec<u8> {
     bytes(rng, len)
 }
 
-/// A legal order sheet with one thing changed; a few stay legal.
+/// A legal order sheet with one to three things changed; a few stay legal.
 pub fn illegal_order(rng: &mut Rng) -> Order {
     let mut order = legal_order(rng);
-    match rng.below(4) {
-        0 => change_field(rng, &mut order),
-        1 => change_names(rng, &mut order),
-        2 => change_sums(rng, &mut order),
-        _ => change_records(rng, &mut order),
+    for _ in 0..rng.pick(&[1, 1, 1, 2, 3]) {
+        match rng.below(4) {
+            0 => change_field(rng, &mut order),
+            1 => change_names(rng, &mut order),
+            2 => change_sums(rng, &mut order),
+            _ => change_records(rng, &mut order),
+        }
     }
     order
 }
 
 fn change_field(rng: &mut Rng, order: &mut Order) {
-    let at = rng.below(order.files.len());
+    let at = rng.below(order.files.len().max(1));
+    let shape = at / 46 * 46 + rng.between(35, 45);
     match rng.below(8) {
-        0..=2 => order.files[at] = rng.byte(),
-        3 => order.files[at] = rng.digit(),
-        4 => order.files[at / 46 * 46 + rng.between(35, 45)] = rng.pick(b"FDS0123456789 "),
-        5 => order.set[rng.below(6)] = rng.byte(),
+        0..=2 => put(&mut order.files, at, rng.byte()),
+        3 => put(&mut order.files, at, rng.digit()),
+        4 => put(&mut order.files, shape, rng.pick(b"FDS0123456789 ")),
+        5 => put(&mut order.set, rng.below(6), rng.byte()),
         6 => drop(order.set.pop()),
         _ => order.set.push(b' '),
     }
 }
 
+/// Another byte there, where there is one.
+fn put(bytes: &mut [u8], at: usize, byte: u8) {
+    if let Some(place) = bytes.get_mut(at) {
+        *place = byte;
+    }
+}
+
 fn change_names(rng: &mut Rng, order: &mut Order) {
-    let at = rng.below(order.names.len());
-    match rng.below(8) {
-        0 => order.names[at] = rng.byte(),
+    let at = rng.below(order.names.len().max(1));
+    match rng.below(9) {
+        0 => put(&mut order.names, at, rng.byte()),
         1 => order.names.clear(),
         2 => drop(order.names.pop()),
-        3 => order.names.extend_from_within(..6),
+        3 => order.names.extend_from_within(..order.names.len().min(6)),
         4 => order.names = names(rng, 17),
         5 => order.quota = 0,
         6 => order.quota = rng.pick(&[1_000_000, u64::MAX]),
+        7 => order.names.extend(b"GATE0^"),
         _ => order.names.truncate(6),
     }
 }
 
 fn change_sums(rng: &mut Rng, order: &mut Order) {
-    match rng.below(10) {
+    let some = rng.below(order.counts.len().max(1));
+    match rng.below(12) {
         0 => drop(order.counts.pop()),
         1 => order.counts.push(rng.below(2) as u64),
-        2 => order.counts[0] += 1,
-        3 => order.counts[0] = u64::MAX,
+        2 => add(&mut order.counts, some, 1),
+        3 => add(&mut order.counts, 0, u64::MAX),
         4 => drop(order.lengths.pop()),
         5 => order.lengths.push(rng.pick(&[0, 1, u64::MAX])),
         6 => order.data.push(rng.byte()),
         7 => drop(order.data.pop()),
         8 => drop(order.files.pop()),
+        // Two numbers whose sum is right but for its overflow.
+        9 => overflow(rng, &mut order.counts),
+        10 => overflow(rng, &mut order.lengths),
         _ => {
             let more = rng.pick(&[0, 64, 65]);
-            let file: Vec<u8> = order.files[..46].to_vec();
+            let file: Vec<u8> = order.files.get(..46).unwrap_or_default().to_vec();
             order.files = file.repeat(more);
             order.counts.resize(more, 0);
         }
+    }
+}
+
+fn add(numbers: &mut [u64], at: usize, more: u64) {
+    if let Some(number) = numbers.get_mut(at) {
+        *number = number.wrapping_add(more);
+    }
+}
+
+fn overflow(rng: &mut Rng, numbers: &mut [u64]) {
+    if let [first, .., last] = numbers {
+        let more = rng.pick(&[1 << 63, u64::MAX, u64::MAX - 99]);
+        *first = first.wrapping_add(more);
+        *last = last.wrapping_sub(more);
     }
 }
 
@@ -119,15 +148,19 @@ fn change_records(rng: &mut Rng, order: &mut Order) {
         return change_sums(rng, order);
     }
     let at = rng.below(order.lengths.len());
-    let before: u64 = order.lengths[..at].iter().sum();
-    let own = before as usize..(before + order.lengths[at]) as usize;
+    let before = order.lengths[..at].iter().fold(0, |sum: u64, &len| sum.saturating_add(len));
+    let end = before.saturating_add(order.lengths[at]).min(order.data.len() as u64);
+    let own = before.min(end) as usize..end as usize;
     if rng.one_in(2) {
         order.data[own].fill(b'^');
         return;
     }
-    let grow = rng.pick(&[1, 1, 4, 40, 10_000]);
-    order.lengths[at] += grow;
-    let extra = vec![b'X'; grow as usize];
+    // Lengths that four digits can just say, and just not, among them.
+    let len = own.len();
+    let grow =
+        rng.pick(&[len + 1, len + 1, len + 4, len + 40, 9_995, 9_996, 10_000]).max(len) - len;
+    add(&mut order.lengths, at, grow as u64);
+    let extra = vec![b'X'; grow];
     order.data.splice(own.end..own.end, extra);
 }
 
