@@ -34,7 +34,7 @@ impl Place {
 /// are changed.
 ///
 /// ```
-/// let image = include_bytes!("../../../samples/ledger.tgi");
+/// let image = include_bytes!("../doc/ledger.tgi");
 /// let record = tardorelga::record(image, 1, 1, &mut []);
 /// assert_eq!(record, Ok(&b"0123456789"[..]));
 /// let behind = tardorelga::record(image, 1, 2, &mut []);
@@ -54,7 +54,7 @@ pub fn record<'a>(
 ///
 /// ```
 /// use tardorelga::Place;
-/// let image = include_bytes!("../../../samples/ledger.tgi");
+/// let image = include_bytes!("../doc/ledger.tgi");
 /// let place = tardorelga::place(image, 1, 1, &mut []);
 /// assert_eq!(place, Ok(Place::InImage { start: 260, len: 10 }));
 /// ```
@@ -73,7 +73,7 @@ pub fn place(image: &[u8], file: u64, record: u64, join: &mut [u8]) -> Result<Pl
 /// own numbers.
 ///
 /// ```
-/// let image = include_bytes!("../../../samples/ledger.tgi");
+/// let image = include_bytes!("../doc/ledger.tgi");
 /// let walk = tardorelga::begin(image, 1).unwrap();
 /// let (place, walk) = walk.step(image, &mut []).unwrap();
 /// assert_eq!(place.of(image, &[]), b"0123456789");
@@ -121,7 +121,7 @@ impl Walk {
 /// The records of a file, in order; one of several segments comes as a copy.
 ///
 /// ```
-/// let image = include_bytes!("../../../samples/ledger.tgi");
+/// let image = include_bytes!("../doc/ledger.tgi");
 /// let records: Vec<_> = tardorelga::records(image, 1).unwrap().collect();
 /// assert_eq!(records, [&b"0123456789"[..]]);
 /// ```

@@ -38,7 +38,7 @@ pub struct Sheet<'a> {
 /// };
 /// let mut out = [0; 500];
 /// assert_eq!(tardorelga::write(&sheet, &mut out), Ok(448));
-/// assert_eq!(out[..448], include_bytes!("../../../samples/ledger.tgi")[..]);
+/// assert_eq!(out[..448], include_bytes!("../doc/ledger.tgi")[..]);
 /// let short = tardorelga::write(&sheet, &mut out[..447]);
 /// assert_eq!(short.unwrap_err().number, 10);
 /// ```

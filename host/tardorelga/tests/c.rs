@@ -1,6 +1,6 @@
 //! The header and the archive as programs in C and C++ have them.
 
-use cases::ledger::{base, base_with};
+use cases::ledger::{base, base_with, set_of};
 use oracle::generate::image_of;
 use std::io::Write;
 use std::path::{Path, PathBuf};
@@ -38,14 +38,43 @@ fn said(program: &Path, image: &[u8]) -> (String, Option<i32>) {
     (String::from_utf8(output.stdout).expect("text"), output.status.code())
 }
 
+/// What is said of every image, as the last lines.
+const WRITTEN: &str =
+    "written 0 refused 10 at item 0 byte 0\nwritten 448 accepted\nread back accepted\n";
+
+#[track_caller]
+fn says(program: &Path, image: &[u8], lines: &[&str], status: i32) {
+    let lines: String = lines.iter().map(|line| format!("{line}\n")).collect();
+    assert_eq!(said(program, image), (lines + WRITTEN, Some(status)));
+}
+
 fn says_what_is_due(program: &Path) {
-    let accepted = said(program, &image_of(&base()));
-    assert_eq!(accepted, ("accepted\n".into(), Some(0)), "the set of document 01");
-    let miscounted = said(program, &image_of(&base_with(&[(6, 55, "000002")])));
-    let words = "refused 6 at item 6 byte 55\n";
-    assert_eq!(miscounted, (words.into(), Some(1)), "EOF1 says 000002");
-    let nothing = said(program, b"");
-    assert_eq!(nothing, ("refused 1 at item 0 byte 0\n".into(), Some(1)), "no bytes");
+    let one = ["image 0123456789", "record 2 refused 13 at item 0 byte 0"];
+    let ledger = [&["accepted"][..], &one, &one, &["image 0123456789", "step 13"]].concat();
+    says(program, &image_of(&base()), &ledger, 0);
+    let joined = [
+        "accepted",
+        "record 1 refused 10 at item 0 byte 0",
+        "image ",
+        "record 3 refused 13 at item 0 byte 0",
+        "joined ABC",
+        "image ",
+        "record 3 refused 13 at item 0 byte 0",
+        "joined ABC",
+        "image ",
+        "step 13",
+    ];
+    let blocks: [&[u8]; 2] = [b"10007AB", b"30006C00005"];
+    says(program, &image_of(&set_of("S0002000010", "00", &blocks)), &joined, 0);
+    says_refusal(program, &image_of(&base_with(&[(6, 55, "000002")])), "6 at item 6 byte 55");
+    says_refusal(program, b"", "1 at item 0 byte 0");
+}
+
+#[track_caller]
+fn says_refusal(program: &Path, image: &[u8], what: &str) {
+    let refused = format!("refused {what}");
+    let (record, walk) = (format!("record 1 {refused}"), format!("walk {refused}"));
+    says(program, image, &[&refused, &record, &record, &walk], 1);
 }
 
 #[test]

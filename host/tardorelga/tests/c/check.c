@@ -1,20 +1,91 @@
-/* Says the verdict on the image on standard input, in the words of the listing. */
+/* Says of the image on standard input what each function of the library answers. */
+#include <inttypes.h>
 #include <stdio.h>
 
 #include "tardorelga.h"
 
-static uint8_t image[4096];
+static uint8_t image[8192];
+static uint8_t buffer[8192];
+
+static void say_verdict(tardorelga_verdict verdict)
+{
+    if (verdict.number == 0)
+        puts("accepted");
+    else
+        printf("refused %" PRIu32 " at item %" PRIu32 " byte %" PRIu32 "\n", verdict.number,
+               verdict.item, verdict.byte);
+}
+
+static void say_part(uint32_t joined, uint64_t start, uint64_t len)
+{
+    const uint8_t *part = joined ? buffer : image + start;
+    printf("%s %.*s\n", joined ? "joined" : "image", (int) len, (const char *) part);
+}
+
+/* All records of the first file by number, with a buffer of so many bytes. */
+static void say_records(size_t image_len, size_t join_len)
+{
+    uint64_t record;
+    for (record = 1;; record++) {
+        tardorelga_found found = tardorelga_record(image, image_len, 1, record, buffer, join_len);
+        if (found.verdict.number == 0) {
+            say_part(found.joined, found.start, found.len);
+            continue;
+        }
+        printf("record %" PRIu64 " ", record);
+        say_verdict(found.verdict);
+        if (found.verdict.number != 10)
+            return;
+    }
+}
+
+/* All records of the first file by walk. */
+static void say_walk(size_t image_len)
+{
+    tardorelga_begun begun = tardorelga_begin(image, image_len, 1);
+    tardorelga_walk walk = begun.walk;
+    if (begun.verdict.number != 0) {
+        printf("walk ");
+        say_verdict(begun.verdict);
+        return;
+    }
+    for (;;) {
+        tardorelga_stepped step = tardorelga_step(image, image_len, walk, buffer, sizeof buffer);
+        if (step.number != 0) {
+            printf("step %" PRIu32 "\n", step.number);
+            return;
+        }
+        say_part(step.joined, step.start, step.len);
+        walk = step.walk;
+    }
+}
+
+/* The set of one file and one record, written into a buffer of so many bytes. */
+static void say_written(size_t out_len)
+{
+    static const char file[] = "LEDGER           000100 85335 00000F0002000010";
+    static const uint64_t counts[] = {1}, lengths[] = {10};
+    tardorelga_written written = tardorelga_write(
+        (const uint8_t *) "SET001", 6, (const uint8_t *) file, 46, counts, 1, lengths, 1,
+        (const uint8_t *) "0123456789", 10, 1, (const uint8_t *) "GATE01", 6, buffer, out_len);
+    printf("written %" PRIu64 " ", written.len);
+    say_verdict(written.verdict);
+    if (written.verdict.number == 0)
+        printf("read back ");
+    if (written.verdict.number == 0)
+        say_verdict(tardorelga_check(buffer, written.len));
+}
 
 int main(void)
 {
     size_t image_len = fread(image, 1, sizeof image, stdin);
     tardorelga_verdict verdict = tardorelga_check(image, image_len);
 
-    if (verdict.number == 0) {
-        puts("accepted");
-        return 0;
-    }
-    printf("refused %lu at item %lu byte %lu\n", (unsigned long) verdict.number,
-           (unsigned long) verdict.item, (unsigned long) verdict.byte);
-    return 1;
+    say_verdict(verdict);
+    say_records(image_len, 0);
+    say_records(image_len, sizeof buffer);
+    say_walk(image_len);
+    say_written(447);
+    say_written(448);
+    return verdict.number != 0;
 }

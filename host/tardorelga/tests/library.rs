@@ -1,0 +1,82 @@
+//! The safe library on generated sets: its answers are those of the archive, put into types.
+
+use cases::ledger::base;
+use oracle::generate::{illegal_order, image_of, legal_order, whole, Rng};
+use oracle::{meaning, Answer, Meaning, Order};
+use tardorelga::{Sheet, Verdict};
+use trials::images;
+
+fn answer(Verdict { number, item, byte }: Verdict) -> Answer {
+    Answer::new(number, item, byte)
+}
+
+#[test]
+fn the_set_of_the_examples() {
+    assert_eq!(include_bytes!("../doc/ledger.tgi")[..], image_of(&base()));
+}
+
+/// By iterator, by number and by walk the records are those of the meaning.
+fn reads(image: &[u8], Meaning { files, .. }: &Meaning) {
+    let mut join = vec![0; 100_000];
+    for (number, file) in (1..).zip(files) {
+        let records = tardorelga::records(image, number).expect("the file is there");
+        assert!(records.eq(&file.records), "the iterator");
+        let mut walk = tardorelga::begin(image, number).expect("the file is there");
+        for (at, bytes) in (1..).zip(&file.records) {
+            let record = tardorelga::record(image, number, at, &mut join).expect("the record");
+            assert_eq!(record, bytes, "by number");
+            let (place, behind) = walk.step(image, &mut join).expect("a step");
+            assert_eq!(place.of(image, &join), bytes, "by walk");
+            walk = behind;
+        }
+        assert_eq!(walk.step(image, &mut join), Err(13));
+    }
+    let none = files.len() as u64 + 1;
+    assert_eq!(tardorelga::records(image, none).map(|_| ()).map_err(|v| v.number), Err(13));
+    assert_eq!(tardorelga::record(image, none, 1, &mut join).map_err(|v| v.number), Err(13));
+}
+
+#[test]
+fn records() {
+    let rng = &mut Rng::new(31);
+    for _ in 0..1_000 {
+        let image = whole(rng);
+        reads(&image, &meaning(&image).expect("a whole set"));
+    }
+}
+
+#[test]
+fn refusals() {
+    let rng = &mut Rng::new(32);
+    for _ in 0..5_000 {
+        let image = images::generated(rng);
+        let verdict = tardorelga::check(&image);
+        if !verdict.is_accepted() {
+            assert_eq!(tardorelga::record(&image, 1, 1, &mut []), Err(verdict));
+            assert_eq!(tardorelga::begin(&image, 1), Err(verdict));
+            assert_eq!(tardorelga::records(&image, 1).map(|_| ()), Err(verdict));
+        }
+    }
+}
+
+fn sheet(order: &Order) -> Sheet<'_> {
+    let oracle::Sheet { set, files, counts, lengths, data, quota, names } = order.sheet();
+    Sheet { set, files, counts, lengths, data, quota, names }
+}
+
+#[test]
+fn writing() {
+    let rng = &mut Rng::new(33);
+    let (mut one, mut other) = (vec![0; 3_000_000], vec![0; 3_000_000]);
+    for round in 0..2_000 {
+        let order = if round % 2 == 0 { legal_order(rng) } else { illegal_order(rng) };
+        let due = order.sheet().write(&mut other);
+        match tardorelga::write(&sheet(&order), &mut one) {
+            Ok(len) => {
+                assert_eq!((Answer::DONE, len), (due.answer, due.len));
+                assert!(one[..len] == other[..len]);
+            }
+            Err(verdict) => assert_eq!(answer(verdict), due.answer),
+        }
+    }
+}
