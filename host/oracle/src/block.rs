@@ -104,7 +104,7 @@ fn cut_controlled<const LEAD: usize>(
 
 /// Most records differ in their first byte; chunks let the compiler compare many bytes at a time.
 #[inline]
-fn all_pad(bytes: &[u8]) -> bool {
+pub fn all_pad(bytes: &[u8]) -> bool {
     let differs = |chunk: &[u8]| chunk.iter().fold(0, |seen, &byte| seen | (byte ^ PAD)) != 0;
     bytes.first().is_none_or(|&byte| byte == PAD) && !bytes.chunks(32).any(differs)
 }

@@ -113,6 +113,11 @@ impl<'a> Parts<'a> {
         Parts { tape, first: None, in_data: false }
     }
 
+    /// The place behind what was handed out last.
+    pub fn tape(&self) -> Tape<'a> {
+        self.tape.clone()
+    }
+
     /// The place of the first data item behind the headers read last.
     pub fn data_from(&self) -> usize {
         let mut tape = self.tape.clone();

@@ -2,7 +2,8 @@
 //! down in document 01): the oracle of differential tests and the yardstick of benchmarks.
 //!
 //! The layers, from the bytes of an image upward: [`chars`], [`tape`], [`label`], [`order`],
-//! [`block`], [`set`], [`content`], [`walk`], [`sheet`], [`writer`], [`listing`]; and [`generate`] for tests.
+//! [`block`], [`set`], [`content`], [`walk`], [`records`], [`sheet`], [`writer`], [`listing`]; and
+//! [`generate`] for tests.
 
 pub mod block;
 pub mod chars;
@@ -11,6 +12,7 @@ pub mod generate;
 pub mod label;
 pub mod listing;
 pub mod order;
+pub mod records;
 pub mod set;
 pub mod sheet;
 pub mod tape;
@@ -22,6 +24,7 @@ pub use chars::{is_a, is_date, is_digit, number_of};
 pub use content::{meaning, record, File, Found, Meaning};
 pub use label::{kind_of, label_fault, End, Fault, Kind, Label};
 pub use listing::{listing, listing_of_input};
+pub use records::Records;
 pub use set::check;
 pub use sheet::{Order, Sheet};
 pub use tape::framing;

@@ -1,31 +1,29 @@
-//! `bench`: the time of the archive's `check` against the oracle's, as tables for docs/PERFORMANCE.md.
+//! `bench`: the times of the archive against the oracle's and a copy of the same bytes, as tables for
+//! docs/PERFORMANCE.md. `bench WHAT..` makes only the tables named: check, linear, walk, write.
 
-use oracle::generate::{large, Large};
+use oracle::generate::{large, large_order, Large};
 use oracle::tape::Tape;
-use oracle::Answer;
+use oracle::{Answer, Records};
 use std::hint::black_box;
 use std::time::{Duration, Instant};
-use trials::{agreed, archive::check};
+use trials::{agreed, archive};
 
 const ROUNDS: usize = 15;
 const SIZE: usize = 10_000_000;
 const SIZES: [usize; 3] = [1_000_000, 4_000_000, 16_000_000];
 
+type Table = (&'static str, fn());
+
+const TABLES: [Table; 4] =
+    [("check", checking), ("linear", linear), ("walk", walking), ("write", writing)];
+
 fn main() {
-    println!("| image | bytes | answer | archive ms | oracle ms | ratio |");
-    println!("|---|--:|---|--:|--:|--:|");
-    for kind in Large::ALL {
-        let image = large(kind, SIZE);
-        row(name(kind), &image);
-        if matches!(kind, Large::Variable | Large::Tiny) {
-            row(&format!("{}, fault in the last trailer", name(kind)), &wrong_at_the_end(&image));
-            row(&format!("{}, fault in the middle", name(kind)), &wrong_in_the_middle(&image));
+    let wanted: Vec<String> = std::env::args().skip(1).collect();
+    for (name, table) in TABLES {
+        if wanted.is_empty() || wanted.iter().any(|word| word == name) {
+            table();
+            println!();
         }
-    }
-    println!("\n| image | bytes | archive ms | ns a byte |");
-    println!("|---|--:|--:|--:|");
-    for kind in [Large::Variable, Large::Tiny] {
-        SIZES.iter().for_each(|&size| linear_row(name(kind), &large(kind, size)));
     }
 }
 
@@ -38,37 +36,139 @@ fn name(kind: Large) -> &'static str {
     }
 }
 
-fn row(name: &str, image: &[u8]) {
+/// The best times in milliseconds of several runs, which take turns, so that all see the same load.
+fn best<const N: usize>(runs: [&mut dyn FnMut(); N]) -> [f64; N] {
+    let mut best = [Duration::MAX; N];
+    let mut runs = runs;
+    for _ in 0..ROUNDS {
+        for (run, best) in runs.iter_mut().zip(&mut best) {
+            let start = Instant::now();
+            run();
+            *best = start.elapsed().min(*best);
+        }
+    }
+    best.map(|time| time.as_secs_f64() * 1e3)
+}
+
+fn checking() {
+    println!("| check | bytes | answer | archive ms | oracle ms | ratio |");
+    println!("|---|--:|---|--:|--:|--:|");
+    for kind in Large::ALL {
+        let image = large(kind, SIZE);
+        check_row(name(kind), &image);
+        if matches!(kind, Large::Variable | Large::Tiny) {
+            let (end, middle) = (wrong_at_the_end(&image), wrong_in_the_middle(&image));
+            check_row(&format!("{}, fault in the last trailer", name(kind)), &end);
+            check_row(&format!("{}, fault in the middle", name(kind)), &middle);
+        }
+    }
+}
+
+fn check_times(image: &[u8]) -> [f64; 2] {
+    best([&mut || _ = black_box(archive::check(black_box(image))), &mut || {
+        _ = black_box(oracle::check(black_box(image)))
+    }])
+}
+
+fn check_row(name: &str, image: &[u8]) {
     let Answer { number, item, byte } = agreed(image);
-    let [archive, oracle] = best_times(image).map(milliseconds);
+    let [archive, oracle] = check_times(image);
     let (bytes, ratio) = (image.len(), archive / oracle);
     println!(
         "| {name} | {bytes} | ({number},{item},{byte}) | {archive:.2} | {oracle:.2} | {ratio:.2} |"
     );
 }
 
-fn linear_row(name: &str, image: &[u8]) {
-    let [archive, _] = best_times(image).map(milliseconds);
-    let (bytes, nanoseconds) = (image.len(), archive * 1e6 / image.len() as f64);
-    println!("| {name} | {bytes} | {archive:.2} | {nanoseconds:.3} |");
-}
-
-/// The best times of archive and oracle, which take turns, so that both see the same load.
-fn best_times(image: &[u8]) -> [Duration; 2] {
-    let checks: [fn(&[u8]) -> Answer; 2] = [check, oracle::check];
-    let mut best = [Duration::MAX; 2];
-    for _ in 0..ROUNDS {
-        for (check, best) in checks.iter().zip(&mut best) {
-            let start = Instant::now();
-            black_box(check(black_box(image)));
-            *best = start.elapsed().min(*best);
+fn linear() {
+    println!("| check | bytes | archive ms | ns a byte |");
+    println!("|---|--:|--:|--:|");
+    for kind in [Large::Variable, Large::Tiny] {
+        for size in SIZES {
+            let image = large(kind, size);
+            let [archive, _] = check_times(&image);
+            let (bytes, nanoseconds) = (image.len(), archive * 1e6 / image.len() as f64);
+            println!("| {} | {bytes} | {archive:.2} | {nanoseconds:.3} |", name(kind));
         }
     }
-    best
 }
 
-fn milliseconds(time: Duration) -> f64 {
-    time.as_secs_f64() * 1e3
+/// A row with the time of a copy of the bytes beside the others.
+fn row(what: &str, count: usize, bytes: usize, [archive, oracle, copy]: [f64; 3]) {
+    let ratio = archive / oracle;
+    println!(
+        "| {what} | {count} | {bytes} | {archive:.2} | {oracle:.2} | {ratio:.2} | {copy:.2} |"
+    );
+}
+
+fn walking() {
+    println!(
+        "| walk over all records | records | bytes | archive ms | oracle ms | ratio | copy ms |"
+    );
+    println!("|---|--:|--:|--:|--:|--:|--:|");
+    for kind in Large::ALL {
+        let image = &large(kind, SIZE)[..];
+        let (mut join, mut copied) = (vec![0; 100_000], vec![0; image.len()]);
+        let (records, bytes) = walked(image, &mut join);
+        assert_eq!((records, bytes), read(image), "both hand out the same");
+        let begun = [
+            best([
+                &mut || _ = black_box(walked(black_box(image), &mut join)),
+                &mut || _ = black_box(read(black_box(image))),
+                &mut || copied.copy_from_slice(black_box(image)),
+            ]),
+            best([
+                &mut || _ = black_box(tardorelga::begin(black_box(image), 1)),
+                &mut || _ = black_box(Records::of(black_box(image), 1).is_ok()),
+                &mut || copied.copy_from_slice(black_box(image)),
+            ]),
+        ];
+        black_box(&copied);
+        row(name(kind), records, image.len(), begun[0]);
+        row(&format!("{}, the beginning alone", name(kind)), 0, image.len(), begun[1]);
+    }
+}
+
+/// Number and length of the records by the archive's walk.
+fn walked(image: &[u8], join: &mut [u8]) -> (usize, usize) {
+    let mut walk = tardorelga::begin(image, 1).expect("an accepted image");
+    let (mut records, mut bytes) = (0, 0);
+    while let Ok((place, behind)) = walk.step(image, join) {
+        records += 1;
+        bytes += black_box(place.of(image, join)).len();
+        walk = behind;
+    }
+    (records, bytes)
+}
+
+/// Number and length of the records by the oracle's iterator.
+fn read(image: &[u8]) -> (usize, usize) {
+    let mut all = Records::of(image, 1).expect("an accepted image");
+    let (mut records, mut bytes) = (0, 0);
+    while let Some(record) = all.next_record() {
+        records += 1;
+        bytes += black_box(record).len();
+    }
+    (records, bytes)
+}
+
+fn writing() {
+    println!("| write | records | bytes | archive ms | oracle ms | ratio | copy ms |");
+    println!("|---|--:|--:|--:|--:|--:|--:|");
+    for kind in Large::ALL {
+        let order = large_order(kind, SIZE);
+        let sheet = order.sheet();
+        let mut outs = [(); 3].map(|()| vec![0; SIZE + SIZE / 4]);
+        let [one, other, copied] = &mut outs;
+        let (written, due) = (archive::write(&sheet, one), sheet.write(other));
+        assert!(written == due && one == other, "both write the same");
+        let image = one[..written.len].to_vec();
+        let times = best([
+            &mut || _ = black_box(archive::write(black_box(&sheet), one)),
+            &mut || _ = black_box(black_box(&sheet).write(other)),
+            &mut || copied[..image.len()].copy_from_slice(black_box(&image)),
+        ]);
+        row(name(kind), order.lengths.len(), image.len(), times);
+    }
 }
 
 /// EOF1, EOF2, two marks and the end of reel stand last, each behind its length.
