@@ -12,6 +12,7 @@ pub enum Place {
 }
 
 impl Place {
+    #[inline]
     fn new(joined: u32, start: u64, len: u64) -> Place {
         let (start, len) = (start as usize, len as usize);
         match joined {
@@ -21,6 +22,7 @@ impl Place {
     }
 
     /// The record: a part of the image, or of the buffer that was lent for joining.
+    #[inline]
     pub fn of<'a>(self, image: &'a [u8], join: &'a [u8]) -> &'a [u8] {
         match self {
             Place::InImage { start, len } => &image[start..start + len],
@@ -104,6 +106,7 @@ pub fn begin(image: &[u8], file: u64) -> Result<Walk, Verdict> {
 impl Walk {
     /// The next record, joined into the buffer where it has several segments, and the walk moved on;
     /// 13 where there is none, and 10 where the buffer is too short.
+    #[inline]
     pub fn step(self, image: &[u8], join: &mut [u8]) -> Result<(Place, Walk), u32> {
         // SAFETY: the image is lent to read and the buffer to write for the whole call; they can't
         // overlap, and nothing of them is kept.
