@@ -88,13 +88,18 @@ typedef struct tardorelga_walk {
     uint64_t left;
 } tardorelga_walk;
 
-/* A walk begun; with a refusal the walk is all 0. */
+/*
+ * A file: the places in the image of its first HDR1 and HDR2 label, 80 bytes each, and the walk before its
+ * first record; with a refusal all is 0.
+ */
 typedef struct tardorelga_begun {
     tardorelga_verdict verdict;
+    uint64_t first;
+    uint64_t second;
     tardorelga_walk walk;
 } tardorelga_begun;
 
-/* The walk before the first record of file number file, from 1: the image's own number, then 13. */
+/* File number file, from 1: the image's own number, then 13. */
 tardorelga_begun tardorelga_begin(const uint8_t *image, size_t image_len, uint64_t file);
 
 /*
@@ -115,6 +120,18 @@ typedef struct tardorelga_stepped {
  */
 tardorelga_stepped tardorelga_step(const uint8_t *image, size_t image_len, tardorelga_walk walk,
                                    uint8_t *join, size_t join_len);
+
+/* A number of records, and of the bytes of all of them. */
+typedef struct tardorelga_facts {
+    uint64_t records;
+    uint64_t bytes;
+} tardorelga_facts;
+
+/*
+ * Counts the records from a walk on: those that steps with a long enough buffer would hand out before 13.
+ * From a file's beginning these are all its records.
+ */
+tardorelga_facts tardorelga_count(const uint8_t *image, size_t image_len, tardorelga_walk walk);
 
 /* What was written: len bytes at the front of the buffer. */
 typedef struct tardorelga_written {

@@ -6,6 +6,7 @@ pub mod container;
 pub mod fields;
 pub mod ledger;
 pub mod order;
+pub mod rewriting;
 pub mod tally;
 pub mod writing;
 

@@ -28,7 +28,7 @@ pub use records::Records;
 pub use set::check;
 pub use sheet::{Order, Sheet};
 pub use tape::framing;
-pub use walk::{begin, Walk};
+pub use walk::{begin, Begun, Walk};
 pub use writer::{rewrite, write, Written};
 
 /// What an operation gives back: a number of document 01, and its place. Number 0 is "done".

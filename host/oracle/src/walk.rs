@@ -33,8 +33,17 @@ struct Rest<'a> {
     left: usize,
 }
 
-/// The state before the first record of file number `file`, from 1: the image's own number, then 13.
-pub fn begin(image: &[u8], file: u64) -> Result<Walk, Answer> {
+/// A file begun: the places of its first header labels, and the walk before its first record.
+#[derive(Clone, Copy, Debug, PartialEq, Eq)]
+pub struct Begun {
+    pub first: usize,
+    pub second: usize,
+    pub walk: Walk,
+}
+
+/// File number `file`, from 1: the image's own number, then 13.
+pub fn begin(image: &[u8], file: u64) -> Result<Begun, Answer> {
+    let place = |label: &Label| label.as_ptr() as usize - image.as_ptr() as usize;
     let mut files = 0;
     let mut parts = Parts::of(image)?;
     while let Some(part) = parts.next() {
@@ -43,8 +52,8 @@ pub fn begin(image: &[u8], file: u64) -> Result<Walk, Answer> {
         if files == file {
             let Shape { format, record, offset, .. } = Shape::of(head.second);
             let (size, offset) = (record as u32, offset as u64);
-            let at = parts.data_from() as u64;
-            return Ok(Walk { format, size, offset, at, left: 0 });
+            let walk = Walk { format, size, offset, at: parts.data_from() as u64, left: 0 };
+            return Ok(Begun { first: place(head.first), second: place(head.second), walk });
         }
     }
     Err(Answer::without_place(13))
@@ -69,6 +78,17 @@ impl Walk {
             at += len;
         }
         Ok((Found::Joined { len }, behind))
+    }
+
+    /// The number of records from here on, and of their bytes.
+    pub fn count(mut self, image: &[u8]) -> (u64, u64) {
+        let (mut records, mut bytes) = (0, 0);
+        while let Some((units, rest)) = self.record(image) {
+            records += 1;
+            bytes += units.iter().map(|unit| unit.len as u64).sum::<u64>();
+            self = Walk { at: rest.at as u64, left: rest.left as u64, ..self };
+        }
+        (records, bytes)
     }
 
     /// The units of the record, in turn and no longer than R, and what is left behind the last.

@@ -19,7 +19,16 @@ pub struct Found {
 #[derive(Clone, Copy, Debug, PartialEq, Eq)]
 pub struct Begun {
     pub verdict: Verdict,
+    pub first: u64,
+    pub second: u64,
     pub walk: Walk,
+}
+
+#[repr(C)]
+#[derive(Clone, Copy, Debug, PartialEq, Eq)]
+pub struct Facts {
+    pub records: u64,
+    pub bytes: u64,
 }
 
 #[repr(C)]
@@ -50,6 +59,7 @@ extern "C" {
         join_len: usize,
     ) -> Found;
     pub fn tardorelga_begin(image: *const u8, image_len: usize, file: u64) -> Begun;
+    pub fn tardorelga_count(image: *const u8, image_len: usize, walk: Walk) -> Facts;
     pub fn tardorelga_step(
         image: *const u8,
         image_len: usize,

@@ -33,10 +33,12 @@
 
 #[doc(hidden)]
 pub mod ffi;
+mod file;
 mod records;
 mod sheet;
 mod verdict;
 
-pub use records::{begin, place, record, records, Place, Records, Walk};
+pub use file::{file, File};
+pub use records::{begin, place, record, records, Facts, Place, Records, Walk};
 pub use sheet::{write, Sheet};
 pub use verdict::{check, Verdict};

@@ -98,9 +98,21 @@ pub struct Walk {
 
 /// The walk before the first record of file number `file`, from 1, or the image's own number, then 13.
 pub fn begin(image: &[u8], file: u64) -> Result<Walk, Verdict> {
-    // SAFETY: the image is lent to read for the whole call, and nothing of it is kept.
-    let begun = unsafe { ffi::tardorelga_begin(image.as_ptr(), image.len(), file) };
+    let begun = begun(image, file);
     begun.verdict.then(|| begun.walk)
+}
+
+/// The walk with the places of the file's labels.
+pub(crate) fn begun(image: &[u8], file: u64) -> ffi::Begun {
+    // SAFETY: the image is lent to read for the whole call, and nothing of it is kept.
+    unsafe { ffi::tardorelga_begin(image.as_ptr(), image.len(), file) }
+}
+
+/// How many records there are, and how many bytes in all of them.
+#[derive(Clone, Copy, Debug, PartialEq, Eq, Hash)]
+pub struct Facts {
+    pub records: u64,
+    pub bytes: u64,
 }
 
 impl Walk {
@@ -118,6 +130,20 @@ impl Walk {
             0 => Ok((Place::new(joined, start, len), walk)),
             _ => Err(number),
         }
+    }
+
+    /// The number of records from here on, and of their bytes: those that steps would hand out before 13.
+    ///
+    /// ```
+    /// let image = include_bytes!("../doc/ledger.tgi");
+    /// let walk = tardorelga::begin(image, 1).unwrap();
+    /// let facts = walk.count(image);
+    /// assert_eq!((facts.records, facts.bytes), (1, 10));
+    /// ```
+    pub fn count(self, image: &[u8]) -> Facts {
+        // SAFETY: the image is lent to read for the whole call, and nothing of it is kept.
+        let counted = unsafe { ffi::tardorelga_count(image.as_ptr(), image.len(), self) };
+        Facts { records: counted.records, bytes: counted.bytes }
     }
 }
 

@@ -50,7 +50,13 @@ fn says(program: &Path, image: &[u8], lines: &[&str], status: i32) {
 
 fn says_what_is_due(program: &Path) {
     let one = ["image 0123456789", "record 2 refused 13 at item 0 byte 0"];
-    let ledger = [&["accepted"][..], &one, &one, &["image 0123456789", "step 13"]].concat();
+    let ledger = [
+        &["accepted"][..],
+        &one,
+        &one,
+        &["image 0123456789", "step 13", "file LEDGER F holds 1 10"],
+    ]
+    .concat();
     says(program, &image_of(&base()), &ledger, 0);
     let joined = [
         "accepted",
@@ -63,6 +69,7 @@ fn says_what_is_due(program: &Path) {
         "joined ABC",
         "image ",
         "step 13",
+        "file LEDGER S holds 2 3",
     ];
     let blocks: [&[u8]; 2] = [b"10007AB", b"30006C00005"];
     says(program, &image_of(&set_of("S0002000010", "00", &blocks)), &joined, 0);
@@ -74,7 +81,7 @@ fn says_what_is_due(program: &Path) {
 fn says_refusal(program: &Path, image: &[u8], what: &str) {
     let refused = format!("refused {what}");
     let (record, walk) = (format!("record 1 {refused}"), format!("walk {refused}"));
-    says(program, image, &[&refused, &record, &record, &walk], 1);
+    says(program, image, &[&refused, &record, &record, &walk, "holds 0 0"], 1);
 }
 
 #[test]

@@ -17,7 +17,8 @@ fn the_set_of_the_examples() {
 }
 
 /// By iterator, by number and by walk the records are those of the meaning.
-fn reads(image: &[u8], Meaning { files, .. }: &Meaning) {
+fn reads(image: &[u8], Meaning { set, files }: &Meaning) {
+    assert_eq!(tardorelga::file(image, 1).expect("a file").set(), set);
     let mut join = vec![0; 100_000];
     for (number, file) in (1..).zip(files) {
         let records = tardorelga::records(image, number).expect("the file is there");
@@ -31,10 +32,29 @@ fn reads(image: &[u8], Meaning { files, .. }: &Meaning) {
             walk = behind;
         }
         assert_eq!(walk.step(image, &mut join), Err(13));
+        says(&tardorelga::file(image, number).expect("the file is there"), file);
     }
     let none = files.len() as u64 + 1;
     assert_eq!(tardorelga::records(image, none).map(|_| ()).map_err(|v| v.number), Err(13));
     assert_eq!(tardorelga::record(image, none, 1, &mut join).map_err(|v| v.number), Err(13));
+    assert_eq!(tardorelga::file(image, none).map_err(|v| v.number), Err(13));
+}
+
+fn says(found: &tardorelga::File, file: &oracle::File) {
+    assert_eq!(found.entry(), file.facts);
+    let fields: [(&[u8], &[u8]); 7] = [
+        (found.identifier(), file.identifier()),
+        (found.generation(), file.generation()),
+        (found.version(), file.version()),
+        (found.creation(), file.creation()),
+        (found.expiration(), file.expiration()),
+        (found.block_length(), file.block_length()),
+        (found.record_length(), file.record_length()),
+    ];
+    fields.iter().for_each(|(field, due)| assert_eq!(field, due));
+    assert_eq!(found.format(), file.format());
+    let bytes: usize = file.records.iter().map(Vec::len).sum();
+    assert_eq!((found.records, found.bytes), (file.records.len() as u64, bytes as u64));
 }
 
 #[test]
@@ -55,6 +75,7 @@ fn refusals() {
         if !verdict.is_accepted() {
             assert_eq!(tardorelga::record(&image, 1, 1, &mut []), Err(verdict));
             assert_eq!(tardorelga::begin(&image, 1), Err(verdict));
+            assert_eq!(tardorelga::file(&image, 1), Err(verdict));
             assert_eq!(tardorelga::records(&image, 1).map(|_| ()), Err(verdict));
         }
     }

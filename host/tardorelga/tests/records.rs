@@ -7,7 +7,7 @@ use trials::{images, records, states};
 /// records that are not there; and the walk over each file, to 13 and once more.
 #[test]
 fn every_record_of_generated_sets() {
-    let tally = records::compare(images::generated, 6, 6_000);
+    let tally = records::compare(images::generated, 6, 4_000);
     println!("records: {tally}");
     tally.assert_complete((1..=10).chain([13]), 20);
 }
@@ -15,7 +15,7 @@ fn every_record_of_generated_sets() {
 /// Sets that are whole but for what has no meaning.
 #[test]
 fn every_record_of_whole_sets() {
-    let tally = records::compare(oracle::generate::whole, 7, 3_000);
+    let tally = records::compare(oracle::generate::whole, 7, 2_000);
     println!("records: {tally}");
     tally.assert_complete([10, 13], 1_000);
 }

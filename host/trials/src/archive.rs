@@ -1,7 +1,7 @@
 //! The archive's answers in the oracle's words. Every number of an answer is looked at, those too that
 //! the safe library has no use for.
 
-use oracle::{Answer, Found, Sheet, Walk, Written};
+use oracle::{Answer, Begun, Found, Sheet, Walk, Written};
 use tardorelga::{ffi, Verdict};
 
 pub fn check(image: &[u8]) -> Answer {
@@ -37,15 +37,25 @@ pub fn record(image: &[u8], file: u64, record: u64, join: &mut [u8]) -> Found {
     found(answer.is_done(), given.joined, given.start, given.len).unwrap_or(Found::Refused(answer))
 }
 
-pub fn begin(image: &[u8], file: u64) -> Result<Walk, Answer> {
+pub fn begin(image: &[u8], file: u64) -> Result<Begun, Answer> {
     // SAFETY: a slice, lent for the call.
     let begun = unsafe { ffi::tardorelga_begin(image.as_ptr(), image.len(), file) };
-    let answer = answer(begun.verdict);
+    let ffi::Begun { verdict, first, second, walk } = begun;
+    let begun = Begun { first: first as usize, second: second as usize, walk: in_oracle(walk) };
+    let answer = answer(verdict);
     if answer.is_done() {
-        return Ok(in_oracle(begun.walk));
+        return Ok(begun);
     }
-    assert_eq!(in_oracle(begun.walk), Walk::default(), "with a refusal the walk is all 0");
+    let nowhere = Begun { first: 0, second: 0, walk: Walk::default() };
+    assert_eq!(begun, nowhere, "with a refusal all is 0");
     Err(answer)
+}
+
+/// The number of records from a walk on, and of their bytes.
+pub fn count(walk: Walk, image: &[u8]) -> (u64, u64) {
+    // SAFETY: a slice, lent for the call.
+    let facts = unsafe { ffi::tardorelga_count(image.as_ptr(), image.len(), in_archive(walk)) };
+    (facts.records, facts.bytes)
 }
 
 pub fn step(from: Walk, image: &[u8], join: &mut [u8]) -> Result<(Found, Walk), u32> {

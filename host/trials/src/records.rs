@@ -146,12 +146,15 @@ impl Both {
         if let Err(Answer { number, .. }) = begun {
             self.tally.refused(number);
         }
-        begun.ok()
+        begun.ok().map(|begun| begun.walk)
     }
 
     /// The walk hands out the records in order, then 13, and 13 again.
     fn walk(&mut self, image: &[u8], number: u64, file: &File) {
         let mut walk = self.begin(image, number).expect("the file is there");
+        let all = file.records.iter().map(|record| record.len() as u64);
+        let facts = (file.records.len() as u64, all.sum());
+        assert_eq!(archive::count(walk, image), facts, "file {number} of {}", shown(image));
         for bytes in &file.records {
             let mut moved = walk;
             self.lengths(bytes, |both, len| {
@@ -161,6 +164,7 @@ impl Both {
             });
             walk = moved;
         }
+        assert_eq!(archive::count(walk, image), (0, 0), "behind the last record");
         for len in [0, 0, 50] {
             assert_eq!(self.step(image, walk, len), Err(13), "behind the last record");
         }

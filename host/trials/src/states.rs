@@ -24,6 +24,8 @@ pub struct Tally {
     pub joined: u64,
     pub too_short: u64,
     pub no_step: u64,
+    /// States from which the records were counted too.
+    pub counted: u64,
 }
 
 impl Tally {
@@ -42,9 +44,9 @@ impl Tally {
 
 impl fmt::Display for Tally {
     fn fmt(&self, f: &mut fmt::Formatter) -> fmt::Result {
-        let Tally { images, in_image, joined, too_short, no_step } = self;
+        let Tally { images, in_image, joined, too_short, no_step, counted } = self;
         write!(f, "{} states in {images} images; in the image: {in_image}, ", self.states())?;
-        write!(f, "joined: {joined}, 10: {too_short}, 13: {no_step}")
+        write!(f, "joined: {joined}, 10: {too_short}, 13: {no_step}; counted from {counted}")
     }
 }
 
@@ -62,6 +64,11 @@ pub fn compare(seed: u64, count: u64) -> Tally {
         for _ in 0..STATES {
             let from = if live.is_empty() || rng.one_in(4) { &known } else { &live };
             let walk = state(rng, &image, from);
+            if rng.one_in(8) {
+                let (counted, due) = (archive::count(walk, &image), walk.count(&image));
+                assert_eq!(counted, due, "{walk:?} in {}", shown(&image));
+                tally.counted += 1;
+            }
             if let Some(behind) = agreed(rng, &image, walk, &mut twins, &mut tally) {
                 if live.len() < KEPT {
                     live.extend([walk, walk, behind]);

@@ -11,7 +11,7 @@ use std::fmt;
 /// How often each number came.
 #[derive(Default)]
 pub struct Tally {
-    pub sheets: u64,
+    pub given: u64,
     pub numbers: BTreeMap<u32, u64>,
 }
 
@@ -23,7 +23,7 @@ impl Tally {
 
 impl fmt::Display for Tally {
     fn fmt(&self, f: &mut fmt::Formatter) -> fmt::Result {
-        write!(f, "{} given", self.sheets)?;
+        write!(f, "{} given", self.given)?;
         self.numbers.iter().try_for_each(|(number, count)| write!(f, ", {number}: {count}"))
     }
 }
@@ -57,7 +57,7 @@ impl Both {
         shown: impl Fn() -> String,
     ) -> Written {
         let due = oracle(&mut self.scratch);
-        self.tally.sheets += 1;
+        self.tally.given += 1;
         let rooms = match due.len {
             0 => [0, 1, 500, 5_000],
             len => [0, len - 1, len, len + 33],

@@ -60,6 +60,16 @@ static void say_walk(size_t image_len)
     }
 }
 
+/* What the labels of the first file say of it, and how much it holds. */
+static void say_file(size_t image_len)
+{
+    tardorelga_begun file = tardorelga_begin(image, image_len, 1);
+    tardorelga_facts facts = tardorelga_count(image, image_len, file.walk);
+    if (file.verdict.number == 0)
+        printf("file %.6s %c ", (const char *) image + file.first + 4, image[file.second + 4]);
+    printf("holds %" PRIu64 " %" PRIu64 "\n", facts.records, facts.bytes);
+}
+
 /* The set of one file and one record, written into a buffer of so many bytes. */
 static void say_written(size_t out_len)
 {
@@ -85,6 +95,7 @@ int main(void)
     say_records(image_len, 0);
     say_records(image_len, sizeof buffer);
     say_walk(image_len);
+    say_file(image_len);
     say_written(447);
     say_written(448);
     return verdict.number != 0;
