@@ -8,6 +8,7 @@ pub mod ledger;
 pub mod order;
 pub mod rewriting;
 pub mod tally;
+pub mod walks;
 pub mod writing;
 
 use oracle::generate::{image_of, Piece};

@@ -1,7 +1,7 @@
 //! The oracle on the sets whose answers are known from the papers.
 
-use cases::{blocks, container, fields, order, run};
-use oracle::{check, framing, Answer};
+use cases::{blocks, container, fields, order, run, walks};
+use oracle::{check, framing, Answer, Walk};
 
 #[test]
 fn containers() {
@@ -30,4 +30,9 @@ fn fields_of_labels() {
 #[test]
 fn data_blocks() {
     run(&blocks::cases(), check);
+}
+
+#[test]
+fn steps_of_walks() {
+    walks::run(Walk::step);
 }

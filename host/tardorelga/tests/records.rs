@@ -1,7 +1,8 @@
 //! Records by number and by walk: the archive and the oracle hand out the same parts and leave the
 //! same buffers, from fixed seeds.
 
-use trials::{images, records, states};
+use cases::walks;
+use trials::{archive, images, records, states};
 
 /// Every record of every file, with joining buffers of no bytes, one short, exact and longer; files and
 /// records that are not there; and the walk over each file, to 13 and once more.
@@ -24,7 +25,12 @@ fn every_record_of_whole_sets() {
 /// images: no step traps, and each is the oracle's.
 #[test]
 fn steps_from_any_state() {
-    let tally = states::compare(8, 2_000_000);
+    let tally = states::compare(8, 10_000_000);
     println!("steps: {tally}");
-    tally.assert_complete(10_000);
+    tally.assert_complete(50_000);
+}
+
+#[test]
+fn steps_with_known_answers() {
+    walks::run(archive::step);
 }
