@@ -3,7 +3,7 @@
 use crate::{ffi, Verdict};
 
 /// An order sheet: what is to be written, the quota and the reel names. Anything may be put on it;
-/// [`write`] tells whether it is legal.
+/// [`write()`] tells whether it is legal.
 #[derive(Clone, Copy, Debug)]
 pub struct Sheet<'a> {
     /// The set identifier, 6 bytes.
