@@ -140,6 +140,13 @@ typedef struct tardorelga_written {
 } tardorelga_written;
 
 /*
+ * Writes the listing of a set, a line a file, or the line that says why the image is refused: 0 or 10.
+ * 4,096 bytes are enough for any image.
+ */
+tardorelga_written tardorelga_listing(const uint8_t *image, size_t image_len, uint8_t *out,
+                                      size_t out_len);
+
+/*
  * Writes an order sheet as the image of a set: 9, 11, 12, 14, then 10.
  *
  * set      the set identifier, 6 bytes.

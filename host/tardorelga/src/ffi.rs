@@ -67,6 +67,12 @@ extern "C" {
         join: *mut u8,
         join_len: usize,
     ) -> Stepped;
+    pub fn tardorelga_listing(
+        image: *const u8,
+        image_len: usize,
+        out: *mut u8,
+        out_len: usize,
+    ) -> Written;
     pub fn tardorelga_write(
         set: *const u8,
         set_len: usize,

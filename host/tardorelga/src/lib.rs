@@ -34,11 +34,13 @@
 #[doc(hidden)]
 pub mod ffi;
 mod file;
+mod listing;
 mod records;
 mod sheet;
 mod verdict;
 
 pub use file::{file, File};
+pub use listing::listing;
 pub use records::{begin, place, record, records, Facts, Place, Records, Walk};
 pub use sheet::{write, Sheet};
 pub use verdict::{check, Verdict};

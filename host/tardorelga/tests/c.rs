@@ -38,6 +38,9 @@ fn said(program: &Path, image: &[u8]) -> (String, Option<i32>) {
     (String::from_utf8(output.stdout).expect("text"), output.status.code())
 }
 
+const HEADING: &str = "SEQ FILE              FMT RECORDS BYTES";
+const TOO_SHORT: &str = "listing 0 refused 10 at item 0 byte 0";
+
 /// What is said of every image, as the last lines.
 const WRITTEN: &str =
     "written 0 refused 10 at item 0 byte 0\nwritten 448 accepted\nread back accepted\n";
@@ -55,6 +58,7 @@ fn says_what_is_due(program: &Path) {
         &one,
         &one,
         &["image 0123456789", "step 13", "file LEDGER F holds 1 10"],
+        &[TOO_SHORT, HEADING, "0001 LEDGER            F 1 10"],
     ]
     .concat();
     says(program, &image_of(&base()), &ledger, 0);
@@ -70,6 +74,9 @@ fn says_what_is_due(program: &Path) {
         "image ",
         "step 13",
         "file LEDGER S holds 2 3",
+        TOO_SHORT,
+        HEADING,
+        "0001 LEDGER            S 2 3",
     ];
     let blocks: [&[u8]; 2] = [b"10007AB", b"30006C00005"];
     says(program, &image_of(&set_of("S0002000010", "00", &blocks)), &joined, 0);
@@ -81,7 +88,8 @@ fn says_what_is_due(program: &Path) {
 fn says_refusal(program: &Path, image: &[u8], what: &str) {
     let refused = format!("refused {what}");
     let (record, walk) = (format!("record 1 {refused}"), format!("walk {refused}"));
-    says(program, image, &[&refused, &record, &record, &walk, "holds 0 0"], 1);
+    let lines = [&refused, &record, &record, &walk, "holds 0 0", TOO_SHORT, &refused];
+    says(program, image, &lines, 1);
 }
 
 #[test]

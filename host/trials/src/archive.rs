@@ -104,5 +104,16 @@ pub fn write(sheet: &Sheet, out: &mut [u8]) -> Written {
             out.len(),
         )
     };
-    Written { answer: answer(written.verdict), len: written.len as usize }
+    in_words(written)
+}
+
+fn in_words(ffi::Written { verdict, len }: ffi::Written) -> Written {
+    Written { answer: answer(verdict), len: len as usize }
+}
+
+pub fn listing(image: &[u8], out: &mut [u8]) -> Written {
+    // SAFETY: slices, lent for the call.
+    in_words(unsafe {
+        ffi::tardorelga_listing(image.as_ptr(), image.len(), out.as_mut_ptr(), out.len())
+    })
 }

@@ -2,6 +2,7 @@
 
 pub mod archive;
 pub mod images;
+pub mod listing;
 pub mod records;
 pub mod states;
 pub mod twins;

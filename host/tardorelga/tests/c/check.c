@@ -70,6 +70,15 @@ static void say_file(size_t image_len)
     printf("holds %" PRIu64 " %" PRIu64 "\n", facts.records, facts.bytes);
 }
 
+static void say_listing(size_t image_len)
+{
+    tardorelga_written text = tardorelga_listing(image, image_len, buffer, 9);
+    printf("listing %" PRIu64 " ", text.len);
+    say_verdict(text.verdict);
+    text = tardorelga_listing(image, image_len, buffer, sizeof buffer);
+    printf("%.*s", (int) text.len, (const char *) buffer);
+}
+
 /* The set of one file and one record, written into a buffer of so many bytes. */
 static void say_written(size_t out_len)
 {
@@ -96,6 +105,7 @@ int main(void)
     say_records(image_len, sizeof buffer);
     say_walk(image_len);
     say_file(image_len);
+    say_listing(image_len);
     say_written(447);
     say_written(448);
     return verdict.number != 0;

@@ -1,5 +1,6 @@
 //! `bench`: the times of the archive against the oracle's and a copy of the same bytes, as tables for
-//! docs/PERFORMANCE.md. `bench WHAT..` makes only the tables named: check, linear, walk, write.
+//! docs/PERFORMANCE.md. `bench WHAT..` makes only the tables named: check, linear, walk, write,
+//! list.
 
 use oracle::generate::{large, large_order, Large};
 use oracle::tape::Tape;
@@ -14,8 +15,13 @@ const SIZES: [usize; 3] = [1_000_000, 4_000_000, 16_000_000];
 
 type Table = (&'static str, fn());
 
-const TABLES: [Table; 4] =
-    [("check", checking), ("linear", linear), ("walk", walking), ("write", writing)];
+const TABLES: [Table; 5] = [
+    ("check", checking),
+    ("linear", linear),
+    ("walk", walking),
+    ("write", writing),
+    ("list", listing),
+];
 
 fn main() {
     let wanted: Vec<String> = std::env::args().skip(1).collect();
@@ -168,6 +174,24 @@ fn writing() {
             &mut || copied[..image.len()].copy_from_slice(black_box(&image)),
         ]);
         row(name(kind), order.lengths.len(), image.len(), times);
+    }
+}
+
+fn listing() {
+    println!("| list | records | bytes | archive ms | oracle ms | ratio | copy ms |");
+    println!("|---|--:|--:|--:|--:|--:|--:|");
+    for kind in Large::ALL {
+        let image = &large(kind, SIZE)[..];
+        let records = large_order(kind, SIZE).lengths.len();
+        let (mut text, mut copied) = ([0; 4_096], vec![0; image.len()]);
+        let written = archive::listing(image, &mut text);
+        assert_eq!(text[..written.len], oracle::listing(image), "both write the same");
+        let times = best([
+            &mut || _ = black_box(archive::listing(black_box(image), &mut text)),
+            &mut || _ = black_box(oracle::listing(black_box(image))),
+            &mut || copied.copy_from_slice(black_box(image)),
+        ]);
+        row(name(kind), records, image.len(), times);
     }
 }
 

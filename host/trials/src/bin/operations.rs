@@ -3,16 +3,17 @@
 
 use oracle::generate::{illegal_order, legal_order};
 use std::process::ExitCode;
-use trials::{images::generated, records, states, writing};
+use trials::{images::generated, listing, records, states, writing};
 
 /// An operation, and its trial of so many inputs from a seed.
 type Operation = (&'static str, fn(u64, u64) -> String);
 
-const OPERATIONS: [Operation; 4] = [
+const OPERATIONS: [Operation; 5] = [
     ("records", |seed, count| records::compare(generated, seed, count).to_string()),
     ("states", |seed, count| states::compare(seed, count).to_string()),
     ("legal-sheets", |seed, count| writing::compare(legal_order, seed, count).to_string()),
     ("illegal-sheets", |seed, count| writing::compare(illegal_order, seed, count).to_string()),
+    ("listings", |seed, count| listing::compare(generated, seed, count).to_string()),
 ];
 
 fn main() -> ExitCode {
