@@ -59,12 +59,12 @@ pub fn refused(v: Verdict, out: &mut [u8]) -> Written
     ensures { λ r. ⌜ Answers (fitted (refusalLine v) (now (out .entry))) r (now (out .exit)) ⌝ }
 {
     let mut none = [0u8; 1];
-    let end = put_refusal(&mut none, v);
-    if out.len() < end {
+    let size = put_refusal(&mut none, v);
+    if out.len() < size {
         return refusal(10);
     }
     put_refusal(out, v);
-    done(end)
+    done(size)
 }
 
 // The listing of an image in a lent buffer, or of a refused one the line that says number and place: 0 and the text's length, or 10, which changes
