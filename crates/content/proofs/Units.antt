@@ -7,10 +7,11 @@ use native.Mathlib.Omega.{arith}
 use mir.Val.{Fits}
 use mir.Syntax.{w64}
 use borrow.Author.Needs.{needs}
-use borrow.Author.Tests.{le-leb, lt-leb, leb-true, not-true, not-false}
+use borrow.Author.Tests.{ne-eqb, le-leb, lt-leb, leb-true, not-true, not-false}
 use lib.Dec.{leb}
 use lib.ListN.{length, take, drop, length-take, length-drop}
 use Rattle.base.specs.If.{if-true, if-false, if-case}
+use Rattle.base.specs.Format.{F, D, S}
 use Rattle.base.specs.Part.{part, allAre}
 use Rattle.image.specs.Item.{decode}
 use Rattle.order.specs.declared.Phase.the-variants.{Data}
@@ -53,6 +54,14 @@ unfolding isInside
 inside-is s w h = if-true _ _ _ (le-leb (w .at) (length s) (omega arith)) ∙ le-leb (w .left) (length s - w .at) (omega arith)
 
 -- ---- the unit at the head of what is left
+
+-- a format that is no byte is none
+pub no-format : (f r : ℕ) (s : List ℕ) → 256 ≤ f → None ≡ unitOf f r s
+unfolding unitOf
+no-format f r s h =
+    sym (if-false _ _ _ (ne-eqb f F (λ e. omega arith)) ∙ if-false _ _ _ (ne-eqb f D (λ e. omega arith)) ∙ if-false _ _ _ (ne-eqb f S (λ e. omega arith)))
+
+pub ruleset formats = (no-format, needs)
 
 -- a unit of c bytes of control word and n others
 pub record UnitAt (s : List ℕ) (w : Walk) (c n : ℕ) : Type 0 where

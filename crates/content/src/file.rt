@@ -60,7 +60,7 @@ fn walk_from(second: &[u8], at: usize) -> Walk
     ensures { λ r. ⌜ r ≡ walkFrom (now (second .entry)) at ⌝ }
 {
     Walk {
-        format: format_of(second),
+        format: format_of(second) as u32,
         size: value_of(record_length(second)),
         offset: value_of(offset_length(second)) as usize,
         at,

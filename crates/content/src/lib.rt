@@ -34,7 +34,7 @@ use volume::check;
 // current block, and how many bytes of it are left. With none left the place is that of the next item.
 #[repr(C)]
 pub struct Walk {
-    pub format: u8,
+    pub format: u32,
     pub size: u32,
     pub offset: usize,
     pub at: usize,

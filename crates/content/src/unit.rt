@@ -1,5 +1,7 @@
 // The next unit of a file, be it in the current block or the next. It knows no turn of segments.
 ghost use mathlib.Core.Path.{_≡_};
+ghost use lib.ListN.{drop};
+ghost use Rattle.block.specs.Unit.{unitOf};
 ghost use Rattle.content.specs.Walk.{moved, Inside, isInside, unitHere, blockNext, unitNext, unitFrom};
 use crate::Walk;
 use crate::section::Extent;
@@ -45,13 +47,23 @@ pub(crate) fn is_inside(image: &[u8], w: Walk) -> bool
     w.left <= image.len() - at
 }
 
+// The unit at the head of a part, in a file of that format; a number that is no byte is no format.
+fn unit_in(format: u32, size: u32, s: &[u8]) -> Unit
+    ensures { λ r. ⌜ r ≡ unitOf format size (drop 0 (now (s .entry))) ⌝ }
+{
+    if format < 256 {
+        return unit_at(format as u8, size, s, 0);
+    }
+    Unit::None
+}
+
 // The unit at the head of what is left of the current block.
 fn unit_here(image: &[u8], w: Walk) -> Taken
     ensures { λ r. ⌜ r ≡ unitHere (now (image .entry)) w ⌝ }
 {
     let at = w.at;
     let left = w.left;
-    match unit_at(w.format, w.size, part_of(image, at, left), 0) {
+    match unit_in(w.format, w.size, part_of(image, at, left)) {
         Unit::None => Taken::Nothing,
         Unit::Of(i, word, n) => {
             let start = at + word;

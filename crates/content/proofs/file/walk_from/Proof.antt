@@ -5,6 +5,9 @@ use Rattle.content.proofs.file.walk_from.Tie as tie
 format-of-requires : tie.Need-format-of-requires
 format-of-requires c κs = search ifs
 
+cast-t4 : tie.Need-cast-t4
+cast-t4 c = search ifs
+
 record-length-requires : tie.Need-record-length-requires
 record-length-requires c κs = search ifs
 
@@ -17,8 +20,8 @@ offset-length-requires c κs = search ifs
 value-of-requires-2 : tie.Need-value-of-requires-2
 value-of-requires-2 c κs = search ifs
 
-cast-t8 : tie.Need-cast-t8
-cast-t8 c = search ifs
+cast-t9 : tie.Need-cast-t9
+cast-t9 c = search ifs
 
 returns : tie.Need-returns
 returns c = cc
@@ -28,9 +31,10 @@ walk-from-spec =
     tie.close
     (tie.spec
     format-of-requires
+    cast-t4
     record-length-requires
     value-of-requires
     offset-length-requires
     value-of-requires-2
-    cast-t8
+    cast-t9
     returns)

@@ -5,8 +5,8 @@ use Rattle.content.proofs.unit.unit_here.Tie as tie
 part-of-requires : tie.Need-part-of-requires
 part-of-requires c κs = search units
 
-unit-at-requires : tie.Need-unit-at-requires
-unit-at-requires c κs = search units
+unit-in-requires : tie.Need-unit-in-requires
+unit-in-requires c κs = search units
 
 enum-told : tie.Need-enum-told
 enum-told c = search units
@@ -40,7 +40,7 @@ unit-here-spec =
     tie.close
     (tie.spec
     part-of-requires
-    unit-at-requires
+    unit-in-requires
     enum-told
     enum-known-i
     add-start
