@@ -165,6 +165,14 @@ tardorelga_written tardorelga_write(const uint8_t *set, size_t set_len, const ui
                                     const uint8_t *names, size_t names_len, uint8_t *out,
                                     size_t out_len);
 
+/*
+ * Writes the meaning of a set in its one normal form, on these reels: the image's own number, then those
+ * of tardorelga_write.
+ */
+tardorelga_written tardorelga_rewrite(const uint8_t *image, size_t image_len, uint64_t quota,
+                                      const uint8_t *names, size_t names_len, uint8_t *out,
+                                      size_t out_len);
+
 #ifdef __cplusplus
 }
 #endif

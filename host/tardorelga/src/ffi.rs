@@ -73,6 +73,15 @@ extern "C" {
         out: *mut u8,
         out_len: usize,
     ) -> Written;
+    pub fn tardorelga_rewrite(
+        image: *const u8,
+        image_len: usize,
+        quota: u64,
+        names: *const u8,
+        names_len: usize,
+        out: *mut u8,
+        out_len: usize,
+    ) -> Written;
     pub fn tardorelga_write(
         set: *const u8,
         set_len: usize,

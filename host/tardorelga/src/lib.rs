@@ -36,11 +36,13 @@ pub mod ffi;
 mod file;
 mod listing;
 mod records;
+mod rewrite;
 mod sheet;
 mod verdict;
 
 pub use file::{file, File};
 pub use listing::listing;
 pub use records::{begin, place, record, records, Facts, Place, Records, Walk};
+pub use rewrite::rewrite;
 pub use sheet::{write, Sheet};
 pub use verdict::{check, Verdict};

@@ -58,7 +58,7 @@ fn says_what_is_due(program: &Path) {
         &one,
         &one,
         &["image 0123456789", "step 13", "file LEDGER F holds 1 10"],
-        &[TOO_SHORT, HEADING, "0001 LEDGER            F 1 10"],
+        &[TOO_SHORT, HEADING, "0001 LEDGER            F 1 10", "rewritten 448 accepted"],
     ]
     .concat();
     says(program, &image_of(&base()), &ledger, 0);
@@ -77,6 +77,7 @@ fn says_what_is_due(program: &Path) {
         TOO_SHORT,
         HEADING,
         "0001 LEDGER            S 2 3",
+        "rewritten 451 accepted",
     ];
     let blocks: [&[u8]; 2] = [b"10007AB", b"30006C00005"];
     says(program, &image_of(&set_of("S0002000010", "00", &blocks)), &joined, 0);
@@ -88,7 +89,8 @@ fn says_what_is_due(program: &Path) {
 fn says_refusal(program: &Path, image: &[u8], what: &str) {
     let refused = format!("refused {what}");
     let (record, walk) = (format!("record 1 {refused}"), format!("walk {refused}"));
-    let lines = [&refused, &record, &record, &walk, "holds 0 0", TOO_SHORT, &refused];
+    let rewritten = format!("rewritten 0 {refused}");
+    let lines = [&refused, &record, &record, &walk, "holds 0 0", TOO_SHORT, &refused, &rewritten];
     says(program, image, &lines, 1);
 }
 

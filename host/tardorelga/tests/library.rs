@@ -76,6 +76,7 @@ fn refusals() {
             assert_eq!(tardorelga::record(&image, 1, 1, &mut []), Err(verdict));
             assert_eq!(tardorelga::begin(&image, 1), Err(verdict));
             assert_eq!(tardorelga::file(&image, 1), Err(verdict));
+            assert_eq!(tardorelga::rewrite(&image, 1, b"GATE01", &mut []), Err(verdict));
             assert_eq!(tardorelga::records(&image, 1).map(|_| ()), Err(verdict));
         }
     }

@@ -117,3 +117,18 @@ pub fn listing(image: &[u8], out: &mut [u8]) -> Written {
         ffi::tardorelga_listing(image.as_ptr(), image.len(), out.as_mut_ptr(), out.len())
     })
 }
+
+pub fn rewrite(image: &[u8], quota: u64, names: &[u8], out: &mut [u8]) -> Written {
+    // SAFETY: slices, lent for the call.
+    in_words(unsafe {
+        ffi::tardorelga_rewrite(
+            image.as_ptr(),
+            image.len(),
+            quota,
+            names.as_ptr(),
+            names.len(),
+            out.as_mut_ptr(),
+            out.len(),
+        )
+    })
+}

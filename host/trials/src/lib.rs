@@ -4,6 +4,7 @@ pub mod archive;
 pub mod images;
 pub mod listing;
 pub mod records;
+pub mod rewriting;
 pub mod states;
 pub mod twins;
 pub mod writing;

@@ -79,6 +79,15 @@ static void say_listing(size_t image_len)
     printf("%.*s", (int) text.len, (const char *) buffer);
 }
 
+static void say_rewritten(size_t image_len)
+{
+    static const uint8_t names[] = {'R', 'E', 'E', 'L', '0', '1'};
+    tardorelga_written written =
+        tardorelga_rewrite(image, image_len, 9, names, sizeof names, buffer, sizeof buffer);
+    printf("rewritten %" PRIu64 " ", written.len);
+    say_verdict(written.verdict);
+}
+
 /* The set of one file and one record, written into a buffer of so many bytes. */
 static void say_written(size_t out_len)
 {
@@ -106,6 +115,7 @@ int main(void)
     say_walk(image_len);
     say_file(image_len);
     say_listing(image_len);
+    say_rewritten(image_len);
     say_written(447);
     say_written(448);
     return verdict.number != 0;

@@ -1,6 +1,6 @@
 //! `bench`: the times of the archive against the oracle's and a copy of the same bytes, as tables for
 //! docs/PERFORMANCE.md. `bench WHAT..` makes only the tables named: check, linear, walk, write,
-//! list.
+//! rewrite, list.
 
 use oracle::generate::{large, large_order, Large};
 use oracle::tape::Tape;
@@ -15,11 +15,12 @@ const SIZES: [usize; 3] = [1_000_000, 4_000_000, 16_000_000];
 
 type Table = (&'static str, fn());
 
-const TABLES: [Table; 5] = [
+const TABLES: [Table; 6] = [
     ("check", checking),
     ("linear", linear),
     ("walk", walking),
     ("write", writing),
+    ("rewrite", rewriting),
     ("list", listing),
 ];
 
@@ -174,6 +175,28 @@ fn writing() {
             &mut || copied[..image.len()].copy_from_slice(black_box(&image)),
         ]);
         row(name(kind), order.lengths.len(), image.len(), times);
+    }
+}
+
+const REELS: &[u8] = b"REEL01REEL02REEL03REEL04";
+
+fn rewriting() {
+    println!("| rewrite | records | bytes | archive ms | oracle ms | ratio | copy ms |");
+    println!("|---|--:|--:|--:|--:|--:|--:|");
+    for kind in Large::ALL {
+        let image = &large(kind, SIZE)[..];
+        let records = large_order(kind, SIZE).lengths.len();
+        let mut outs = [(); 3].map(|()| vec![0; SIZE + SIZE / 4]);
+        let [one, other, copied] = &mut outs;
+        let written = archive::rewrite(image, 999_999, REELS, one);
+        let due = oracle::rewrite(image, 999_999, REELS, other);
+        assert!(written == due && one == other, "both write the same");
+        let times = best([
+            &mut || _ = black_box(archive::rewrite(black_box(image), 999_999, REELS, one)),
+            &mut || _ = black_box(oracle::rewrite(black_box(image), 999_999, REELS, other)),
+            &mut || copied[..image.len()].copy_from_slice(black_box(image)),
+        ]);
+        row(name(kind), records, written.len, times);
     }
 }
 

@@ -3,17 +3,22 @@
 
 use oracle::generate::{illegal_order, legal_order};
 use std::process::ExitCode;
-use trials::{images::generated, listing, records, states, writing};
+use trials::{images::generated, listing, records, rewriting, states, writing};
 
 /// An operation, and its trial of so many inputs from a seed.
 type Operation = (&'static str, fn(u64, u64) -> String);
 
-const OPERATIONS: [Operation; 5] = [
+const OPERATIONS: [Operation; 7] = [
     ("records", |seed, count| records::compare(generated, seed, count).to_string()),
     ("states", |seed, count| states::compare(seed, count).to_string()),
     ("legal-sheets", |seed, count| writing::compare(legal_order, seed, count).to_string()),
     ("illegal-sheets", |seed, count| writing::compare(illegal_order, seed, count).to_string()),
     ("listings", |seed, count| listing::compare(generated, seed, count).to_string()),
+    ("rewriting", |seed, count| rewriting::compare(generated, seed, count).to_string()),
+    ("meanings", |seed, count| {
+        let (tally, different) = rewriting::compare_disguised(seed, count);
+        format!("{tally}; {different} pairs of different images")
+    }),
 ];
 
 fn main() -> ExitCode {
