@@ -1,0 +1,78 @@
+//! `record FILE N R` and `records FILE N`: the bytes of records.
+
+use crate::input;
+use crate::stop::{Status, Stop};
+use crate::streams::Out;
+use crate::words::{number, Words};
+
+/// Room for any record: its length is a number of five digits.
+const LONGEST: usize = 99_999;
+
+/// How a record is printed.
+#[derive(Clone, Copy, PartialEq, Eq)]
+pub enum Form {
+    /// Its bytes and nothing else.
+    Raw,
+    /// Two hexadecimal digits a byte, and a line feed.
+    Hex,
+    /// Its bytes, and a line feed.
+    Lines,
+}
+
+impl Form {
+    pub fn of(words: &Words) -> Result<Form, Stop> {
+        match (words.has("--hex"), words.has("--lines")) {
+            (false, false) => Ok(Form::Raw),
+            (true, false) => Ok(Form::Hex),
+            (false, true) => Ok(Form::Lines),
+            (true, true) => Err(Stop::words("--hex and --lines exclude each other")),
+        }
+    }
+
+    /// Hands the record in this form to `put`, piece by piece.
+    pub fn give<E>(
+        self,
+        record: &[u8],
+        mut put: impl FnMut(&[u8]) -> Result<(), E>,
+    ) -> Result<(), E> {
+        match self {
+            Form::Raw => return put(record),
+            Form::Lines => put(record)?,
+            Form::Hex => record.chunks(4096).try_for_each(|part| put(&hex(part)))?,
+        }
+        put(b"\n")
+    }
+}
+
+fn hex(bytes: &[u8]) -> Vec<u8> {
+    let digit = |value: u8| b"0123456789abcdef"[value as usize];
+    bytes.iter().flat_map(|&byte| [digit(byte >> 4), digit(byte & 15)]).collect()
+}
+
+pub fn one(words: &Words) -> Result<Status, Stop> {
+    let [file, n, r] = words.exactly(["file", "number of a file", "number of a record"])?;
+    let (n, r) = (number(n, "N")?, number(r, "R")?);
+    let form = Form::of(words)?;
+    let image = input::image(file)?;
+    let mut join = vec![0; LONGEST];
+    let record = tardorelga::record(&image, n, r, &mut join);
+    let record = record.map_err(|verdict| Stop::refused(input::name(file), verdict))?;
+    let mut out = Out::open()?;
+    form.give(record, |bytes| out.put(bytes))?;
+    out.end()
+}
+
+/// Each record is written as the walk gets to it.
+pub fn all(words: &Words) -> Result<Status, Stop> {
+    let [file, n] = words.exactly(["file", "number of a file"])?;
+    let n = number(n, "N")?;
+    let form = Form::of(words)?;
+    let image = input::image(file)?;
+    let records = tardorelga::records(&image, n);
+    let records = records.map_err(|verdict| Stop::refused(input::name(file), verdict))?;
+    let mut out = Out::open()?;
+    for record in records {
+        form.give(&record, |bytes| out.put(bytes))?;
+    }
+    out.end()
+}

@@ -1,0 +1,80 @@
+//! The fields of a file on the sheet: their keywords, where they stand in the library's entry, and
+//! how a value is filled up to its width.
+
+/// The bytes of a file's fields, one behind the other.
+pub const ENTRY: usize = 46;
+
+/// How a value shorter than its field is filled up.
+#[derive(Clone, Copy, PartialEq, Eq)]
+enum Fill {
+    /// SPACEs behind it.
+    Text,
+    /// Digits, with ZEROs before them.
+    Number,
+    /// Year and day, with a SPACE before them.
+    Date,
+}
+
+/// A keyword and its field.
+pub struct Field {
+    pub key: &'static str,
+    pub at: usize,
+    pub width: usize,
+    fill: Fill,
+    /// What stands there where the sheet says nothing.
+    pub usual: Option<&'static [u8]>,
+}
+
+const fn field(
+    key: &'static str,
+    at: usize,
+    width: usize,
+    fill: Fill,
+    usual: Option<&'static [u8]>,
+) -> Field {
+    Field { key, at, width, fill, usual }
+}
+
+/// The fields in the order of the entry; the first begins a file.
+pub const FIELDS: [Field; 8] = [
+    field("file", 0, 17, Fill::Text, None),
+    field("generation", 17, 4, Fill::Number, Some(b"0001")),
+    field("version", 21, 2, Fill::Number, Some(b"00")),
+    field("created", 23, 6, Fill::Date, Some(b" 00000")),
+    field("expires", 29, 6, Fill::Date, Some(b" 00000")),
+    field("format", 35, 1, Fill::Text, None),
+    field("block-length", 36, 5, Fill::Number, None),
+    field("record-length", 41, 5, Fill::Number, None),
+];
+
+pub const SET: Field = field("set", 0, 6, Fill::Text, None);
+pub const REEL: Field = field("reel", 0, 6, Fill::Text, None);
+
+impl Field {
+    /// The value at the field's width, or what was expected in its place.
+    pub fn filled(&self, value: &[u8]) -> Result<Vec<u8>, String> {
+        let digits = value.iter().all(u8::is_ascii_digit);
+        let width = self.width;
+        let spare = width.checked_sub(value.len());
+        match (self.fill, spare) {
+            (_, Some(spare)) if value.is_empty() && spare > 0 => Err(self.expected()),
+            (_, Some(0)) => Ok(value.to_vec()),
+            (Fill::Text, Some(spare)) => Ok([value, &b" ".repeat(spare)].concat()),
+            (Fill::Number, Some(spare)) if digits => Ok([&b"0".repeat(spare), value].concat()),
+            (Fill::Date, Some(1)) if digits => Ok([b" ", value].concat()),
+            _ => Err(self.expected()),
+        }
+    }
+
+    fn expected(&self) -> String {
+        let Field { key, width, .. } = self;
+        match self.fill {
+            Fill::Text if *width == 1 => format!("expected one character behind '{key}'"),
+            Fill::Text => format!("expected 1 to {width} characters behind '{key}'"),
+            Fill::Number => format!("expected a number of at most {width} digits behind '{key}'"),
+            Fill::Date => {
+                format!("expected a date behind '{key}': two digits of the year, three of the day")
+            }
+        }
+    }
+}

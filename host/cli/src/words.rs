@@ -1,0 +1,102 @@
+//! The words behind a command: flags, options with a value, and plain words.
+
+use crate::stop::Stop;
+use std::ffi::{OsStr, OsString};
+use std::os::unix::ffi::OsStrExt;
+
+/// The words of one command, sorted.
+pub struct Words {
+    plain: Vec<OsString>,
+    flags: Vec<&'static str>,
+    values: Vec<(&'static str, OsString)>,
+}
+
+const HELP: [&str; 2] = ["--help", "-h"];
+
+impl Words {
+    /// Behind `--` every word is a plain one; `-` is a plain word too.
+    pub fn read(
+        words: &[OsString],
+        flags: &[&'static str],
+        options: &[&'static str],
+    ) -> Result<Words, String> {
+        let mut read = Words { plain: Vec::new(), flags: Vec::new(), values: Vec::new() };
+        let mut words = words.iter();
+        while let Some(word) = words.next() {
+            let known = |names: &[&'static str]| names.iter().copied().find(|name| word == *name);
+            if word == "--" {
+                read.plain.extend(words.by_ref().cloned());
+            } else if let Some(flag) = known(flags).or_else(|| known(&HELP)) {
+                read.flags.push(flag);
+            } else if let Some(option) = known(options) {
+                let value = words.next().ok_or(format!("{option} wants a value"))?;
+                read.values.push((option, value.clone()));
+            } else if let Some((option, value)) = joined(word, options) {
+                read.values.push((option, value));
+            } else if word.as_bytes().starts_with(b"-") && word != "-" {
+                return Err(format!("no option {word:?} here"));
+            } else {
+                read.plain.push(word.clone());
+            }
+        }
+        Ok(read)
+    }
+
+    pub fn wants_help(&self) -> bool {
+        HELP.iter().any(|help| self.has(help))
+    }
+
+    pub fn has(&self, flag: &str) -> bool {
+        self.flags.contains(&flag)
+    }
+
+    /// All plain words, of which there is one at least.
+    pub fn some(&self, what: &str) -> Result<&[OsString], Stop> {
+        match self.plain.is_empty() {
+            true => Err(Stop::words(format!("no {what} is named"))),
+            false => Ok(&self.plain),
+        }
+    }
+
+    /// Exactly the plain words that are named here.
+    pub fn exactly<const N: usize>(&self, what: [&str; N]) -> Result<[&OsStr; N], Stop> {
+        if let Some(more) = self.plain.get(N) {
+            return Err(Stop::words(format!("one word too many: {more:?}")));
+        }
+        match what.get(self.plain.len()) {
+            Some(missing) => Err(Stop::words(format!("no {missing} is named"))),
+            None => Ok(std::array::from_fn(|i| self.plain[i].as_os_str())),
+        }
+    }
+
+    /// The value of an option that may be given once.
+    pub fn value(&self, option: &'static str) -> Result<Option<&OsStr>, Stop> {
+        let mut values = self.values(option);
+        match (values.next(), values.next()) {
+            (value, None) => Ok(value),
+            _ => Err(Stop::words(format!("{option} is given twice"))),
+        }
+    }
+
+    pub fn needed(&self, option: &'static str) -> Result<&OsStr, Stop> {
+        self.value(option)?.ok_or_else(|| Stop::words(format!("{option} is missing")))
+    }
+
+    pub fn values(&self, option: &'static str) -> impl Iterator<Item = &OsStr> {
+        let of_option = move |&&(name, _): &&(&str, OsString)| name == option;
+        self.values.iter().filter(of_option).map(|(_, value)| value.as_os_str())
+    }
+}
+
+/// `--quota=7`, as one word.
+fn joined(word: &OsStr, options: &[&'static str]) -> Option<(&'static str, OsString)> {
+    let (name, value) = word.to_str()?.split_once('=')?;
+    let long = |option: &&&str| option.starts_with("--") && **option == name;
+    Some((options.iter().find(long)?, value.into()))
+}
+
+/// A number as it stands on the command line.
+pub fn number(word: &OsStr, what: &str) -> Result<u64, Stop> {
+    let number = word.to_str().and_then(|word| word.parse().ok());
+    number.ok_or_else(|| Stop::words(format!("{what} is a number, not {word:?}")))
+}
