@@ -6,6 +6,7 @@ use crate::streams::Out;
 use crate::words::Words;
 use std::ffi::{OsStr, OsString};
 use std::os::unix::ffi::OsStrExt;
+use tardorelga::Verdict;
 
 /// The worst of the files decides the exit status.
 pub fn run(words: &Words) -> Result<Status, Stop> {
@@ -25,15 +26,24 @@ pub fn run(words: &Words) -> Result<Status, Stop> {
 
 /// What is known of one file.
 enum Answer {
-    Known(tardorelga::Verdict),
+    Accepted(Counts),
+    Refused(Verdict),
     Unread(String),
+}
+
+/// How much an accepted set holds.
+#[derive(Default)]
+struct Counts {
+    files: u64,
+    records: u64,
+    bytes: u64,
 }
 
 impl Answer {
     fn status(&self) -> Status {
         match self {
-            Answer::Known(verdict) if verdict.is_accepted() => Status::Done,
-            Answer::Known(_) => Status::Refused,
+            Answer::Accepted(_) => Status::Done,
+            Answer::Refused(_) => Status::Refused,
             Answer::Unread(_) => Status::Trouble,
         }
     }
@@ -42,7 +52,10 @@ impl Answer {
 /// A file that can't be read is told at once; the others are checked all the same.
 fn answer_on(file: &OsString) -> Answer {
     match input::read(file) {
-        Ok(image) => Answer::Known(tardorelga::check(&image)),
+        Ok(image) => match tardorelga::check(&image) {
+            verdict if verdict.is_accepted() => Answer::Accepted(counts(&image)),
+            verdict => Answer::Refused(verdict),
+        },
         Err(error) => {
             let why = reason(&error);
             say(&format!("{}: {why}", input::name(file)));
@@ -51,20 +64,44 @@ fn answer_on(file: &OsString) -> Answer {
     }
 }
 
-fn line(file: &OsStr, answer: &Answer) -> Vec<u8> {
-    match answer {
-        Answer::Known(verdict) => [file.as_bytes(), format!(": {verdict}\n").as_bytes()].concat(),
-        Answer::Unread(_) => Vec::new(),
+/// What the walks over its files hand out.
+fn counts(image: &[u8]) -> Counts {
+    let mut counts = Counts::default();
+    while let Ok(records) = tardorelga::records(image, counts.files + 1) {
+        counts.files += 1;
+        for record in records {
+            counts.records += 1;
+            counts.bytes += record.len() as u64;
+        }
     }
+    counts
+}
+
+fn line(file: &OsStr, answer: &Answer) -> Vec<u8> {
+    let rest = match answer {
+        Answer::Accepted(Counts { files, records, bytes }) => {
+            let [files, records, bytes] =
+                [many(*files, "file"), many(*records, "record"), many(*bytes, "byte")];
+            format!(": accepted, {files}, {records}, {bytes}\n")
+        }
+        Answer::Refused(verdict) => format!(": {verdict}\n"),
+        Answer::Unread(_) => return Vec::new(),
+    };
+    [file.as_bytes(), rest.as_bytes()].concat()
+}
+
+fn many(count: u64, what: &str) -> String {
+    format!("{count} {what}{}", if count == 1 { "" } else { "s" })
 }
 
 fn json_line(file: &OsStr, answer: &Answer) -> Vec<u8> {
     let rest = match answer {
-        Answer::Known(verdict) if verdict.is_accepted() => r#""accepted":true"#.into(),
-        Answer::Known(verdict) => format!(
-            r#""accepted":false,"number":{},"item":{},"byte":{}"#,
-            verdict.number, verdict.item, verdict.byte
-        ),
+        Answer::Accepted(Counts { files, records, bytes }) => {
+            format!(r#""accepted":true,"files":{files},"records":{records},"bytes":{bytes}"#)
+        }
+        Answer::Refused(Verdict { number, item, byte }) => {
+            format!(r#""accepted":false,"number":{number},"item":{item},"byte":{byte}"#)
+        }
         Answer::Unread(why) => format!(r#""trouble":{}"#, json(why)),
     };
     format!("{{\"file\":{},{rest}}}\n", json(&file.to_string_lossy())).into_bytes()

@@ -18,7 +18,7 @@ Exit status: 0 accepted or done, 1 refused, 2 trouble with the words, the input 
 pub const CHECK: &str = "usage: tardorelga check [--json] FILE..
 
 Checks the image of a tape set in each FILE, and prints a line a file:
-    FILE: accepted
+    FILE: accepted, FILES files, RECORDS records, BYTES bytes
     FILE: refused NUMBER at item ITEM byte BYTE
 Items are counted from 0 over the whole image, bytes of a label from 1.
 

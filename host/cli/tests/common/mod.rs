@@ -1,0 +1,94 @@
+//! Runs the built program as a user does, from the root of the repository.
+#![allow(dead_code)]
+
+use std::fs;
+use std::io::Write;
+use std::path::{Path, PathBuf};
+use std::process::{Command, Stdio};
+
+/// What a run left behind.
+#[derive(Debug)]
+pub struct Ran {
+    pub status: Option<i32>,
+    pub out: Vec<u8>,
+    pub err: String,
+}
+
+impl Ran {
+    pub fn text(&self) -> &str {
+        std::str::from_utf8(&self.out).expect("text")
+    }
+
+    /// Done, without a word on standard error.
+    pub fn done(self) -> Ran {
+        assert_eq!((self.status, &self.err[..]), (Some(0), ""));
+        self
+    }
+
+    /// Ended with this status, one sentence and no output.
+    pub fn told(self, status: i32, sentence: &str) {
+        let said = format!("tardorelga: {sentence}\n");
+        assert_eq!((self.status, self.err, self.out.len()), (Some(status), said, 0));
+    }
+}
+
+pub fn root() -> PathBuf {
+    Path::new(env!("CARGO_MANIFEST_DIR")).join("../..").canonicalize().expect("the repository")
+}
+
+/// An empty folder of the test's own.
+pub fn folder(name: &str) -> PathBuf {
+    let folder = Path::new(env!("CARGO_TARGET_TMPDIR")).join(name);
+    let _ = fs::remove_dir_all(&folder);
+    fs::create_dir_all(&folder).expect("a folder");
+    folder
+}
+
+pub fn names_in(folder: &Path) -> Vec<String> {
+    let name =
+        |entry: std::io::Result<fs::DirEntry>| entry.unwrap().file_name().into_string().unwrap();
+    let mut names: Vec<String> = fs::read_dir(folder).unwrap().map(name).collect();
+    names.sort();
+    names
+}
+
+/// Runs the program with these words and nothing on standard input.
+pub fn run<W: AsRef<std::ffi::OsStr>>(words: &[W]) -> Ran {
+    fed(words, b"")
+}
+
+pub fn fed<W: AsRef<std::ffi::OsStr>>(words: &[W], input: &[u8]) -> Ran {
+    let mut command = Command::new(env!("CARGO_BIN_EXE_tardorelga"));
+    command.args(words);
+    ran(command, input)
+}
+
+/// Runs a line of the shell, to which the program is `$T` and a folder `$D`.
+pub fn shell(line: &str, folder: &Path) -> Ran {
+    let mut command = Command::new("sh");
+    command.args(["-c", line]).env("T", env!("CARGO_BIN_EXE_tardorelga")).env("D", folder);
+    ran(command, b"")
+}
+
+fn ran(mut command: Command, input: &[u8]) -> Ran {
+    command.current_dir(root()).env("LC_ALL", "C");
+    command.stdin(Stdio::piped()).stdout(Stdio::piped()).stderr(Stdio::piped());
+    let mut child = command.spawn().expect("the program");
+    let mut stdin = child.stdin.take().expect("its input");
+    let input = input.to_vec();
+    // The program may end without reading all of it.
+    let feeder = std::thread::spawn(move || drop(stdin.write_all(&input)));
+    let output = child.wait_with_output().expect("its output");
+    feeder.join().expect("fed");
+    let err = String::from_utf8(output.stderr).expect("text");
+    Ran { status: output.status.code(), out: output.stdout, err }
+}
+
+/// The samples and what `check` says of each, from samples/expected.txt.
+pub fn expected() -> Vec<(String, String)> {
+    let table = fs::read_to_string(root().join("samples/expected.txt")).expect("the table");
+    let rows = table.lines().filter(|line| !line.starts_with('#'));
+    let row =
+        |line: &str| line.split_once(' ').map(|(name, answer)| (name.into(), answer.trim().into()));
+    rows.map(|line| row(line).expect("a name and an answer")).collect()
+}

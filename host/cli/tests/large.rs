@@ -1,0 +1,69 @@
+//! Images of real size, up to the longest.
+
+mod common;
+
+use common::{folder, run, shell};
+use std::fs;
+use std::path::Path;
+
+const LONGEST: usize = 16_777_215;
+
+/// A sheet of one fixed-length file over the bytes of `data`.
+fn fixed(folder: &Path, block: usize, record: usize, data: &[u8]) {
+    let sheet = format!(
+        "set BIG001\nquota 999999\nreel GATE01\nfile BIG\nformat F\nblock-length {block}\n\
+         record-length {record}\ndata data each {record}\n"
+    );
+    fs::write(folder.join("sheet"), sheet).unwrap();
+    fs::write(folder.join("data"), data).unwrap();
+}
+
+/// Bytes without a pattern that repeats at records or blocks, and none of them padding.
+fn bytes(count: usize) -> Vec<u8> {
+    (0..count as u64).map(|i| (i * i % 64) as u8).collect()
+}
+
+/// No command needs more than the image, the output and a few megabytes.
+const MEMORY: &str = "ulimit -v 60000; ";
+
+#[test]
+fn an_image_of_sixteen_megabytes_is_packed_checked_and_read() {
+    let d = folder("large");
+    let data = bytes(208_000 * 80);
+    fixed(&d, 32_720, 80, &data);
+    shell("$T pack $D/sheet -o $D/big.tgi", &d).done();
+    assert!(fs::metadata(d.join("big.tgi")).unwrap().len() > 16_600_000);
+    let checked = shell(&format!("{MEMORY} $T check $D/big.tgi"), &d).done();
+    let accepted = "/big.tgi: accepted, 1 file, 208000 records, 16640000 bytes\n";
+    assert!(checked.text().ends_with(accepted), "{}", checked.text());
+    let records = shell(&format!("{MEMORY} $T records $D/big.tgi 1"), &d).done();
+    assert!(records.out == data);
+    let one = shell(&format!("{MEMORY} $T record - 1 208000 < $D/big.tgi"), &d).done();
+    assert_eq!(one.out, data[data.len() - 80..]);
+}
+
+#[test]
+fn millions_of_one_byte_records_are_packed_and_read() {
+    let d = folder("many");
+    let data = bytes(16_000_000);
+    fixed(&d, 99_999, 1, &data);
+    shell("$T pack $D/sheet -o $D/many.tgi", &d).done();
+    assert!(shell("$T records $D/many.tgi 1", &d).done().out == data);
+    assert_eq!(shell("$T record $D/many.tgi 1 16000000", &d).done().out, data[data.len() - 1..]);
+}
+
+#[test]
+fn a_longer_image_is_neither_written_nor_read() {
+    let d = folder("too-large");
+    fixed(&d, 32_720, 80, &bytes(210_000 * 80));
+    let sheet = d.join("sheet");
+    let long = "refused 14: the image would be longer than 16777215 bytes";
+    shell("$T pack $D/sheet -o $D/big.tgi", &d).told(1, &format!("{}: {long}", sheet.display()));
+    assert!(!d.join("big.tgi").exists());
+    let image = d.join("long.tgi");
+    fs::write(&image, vec![0; LONGEST + 1]).unwrap();
+    let ran = run(&["check", image.to_str().unwrap()]);
+    assert_eq!(ran.text(), format!("{}: refused 9 at item 0 byte 0\n", image.display()));
+    let endless = shell(&format!("{MEMORY} $T check - < /dev/zero"), &d);
+    assert_eq!((endless.text(), endless.status), ("-: refused 9 at item 0 byte 0\n", Some(1)));
+}
