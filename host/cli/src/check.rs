@@ -64,15 +64,13 @@ fn answer_on(file: &OsString) -> Answer {
     }
 }
 
-/// What the walks over its files hand out.
+/// The sums over its files.
 fn counts(image: &[u8]) -> Counts {
     let mut counts = Counts::default();
-    while let Ok(records) = tardorelga::records(image, counts.files + 1) {
+    while let Ok(file) = tardorelga::file(image, counts.files + 1) {
         counts.files += 1;
-        for record in records {
-            counts.records += 1;
-            counts.bytes += record.len() as u64;
-        }
+        counts.records += file.records;
+        counts.bytes += file.bytes;
     }
     counts
 }

@@ -8,6 +8,7 @@ whose answers are proved. The commands:
     check FILE..           says of each image whether it is accepted, or why and where it is not
     record FILE N R        prints record R of file N
     records FILE N         prints all records of file N
+    unpack FILE DIR        takes a set apart into files of records and an order sheet
     pack SHEET -o OUT      writes the image of an order sheet
 
 tardorelga COMMAND --help tells more of a command, tardorelga --version prints the version.
@@ -39,6 +40,19 @@ Prints the records of file N, counted from 1, of the set in FILE: their bytes on
 
     --hex     prints a line a record, two hexadecimal digits a byte
     --lines   prints a line feed behind each record
+";
+
+pub const UNPACK: &str =
+    "usage: tardorelga unpack [--hex | --lines] [--quota Q] [--reels A,B,..] FILE DIR
+
+Writes the records of each file of the set in FILE into the folder DIR, and an order sheet beside them, of
+which tardorelga pack DIR/sheet makes the set's normal form. DIR is made, or may be there and empty; it
+appears whole or not at all.
+
+    --hex           writes a line a record, two hexadecimal digits a byte
+    --lines         writes a line a record; no record may hold a line feed then
+    --quota Q       the quota on the sheet, else 999999
+    --reels A,B,..  the reel names on the sheet, else those of the set
 ";
 
 pub const PACK: &str = "usage: tardorelga pack SHEET -o OUT

@@ -16,6 +16,7 @@ mod records;
 mod sheet;
 mod stop;
 mod streams;
+mod unpack;
 mod words;
 
 use std::env;
@@ -32,7 +33,7 @@ struct Command {
     run: fn(&Words) -> Result<Status, Stop>,
 }
 
-const COMMANDS: [Command; 4] = [
+const COMMANDS: [Command; 5] = [
     Command { name: "check", help: help::CHECK, flags: &["--json"], options: &[], run: check::run },
     Command {
         name: "record",
@@ -47,6 +48,13 @@ const COMMANDS: [Command; 4] = [
         flags: &["--hex", "--lines"],
         options: &[],
         run: records::all,
+    },
+    Command {
+        name: "unpack",
+        help: help::UNPACK,
+        flags: &["--hex", "--lines"],
+        options: &["--quota", "--reels"],
+        run: unpack::run,
     },
     Command { name: "pack", help: help::PACK, flags: &[], options: &["-o"], run: pack::run },
 ];

@@ -3,10 +3,12 @@
 
 mod blame;
 mod field;
+mod print;
 mod text;
 
 pub use blame::ILLEGAL;
 use field::FIELDS;
+pub use print::{file_text, head_text};
 
 use std::fmt;
 use std::path::Path;
@@ -86,4 +88,9 @@ impl Order {
             names: &self.names,
         }
     }
+}
+
+/// A reel name at its width, or what was expected.
+pub fn reel_name(name: &[u8]) -> Result<Vec<u8>, String> {
+    field::REEL.filled(name)
 }

@@ -1,5 +1,6 @@
 //! The words behind a command: flags, options with a value, and plain words.
 
+use crate::sheet;
 use crate::stop::Stop;
 use std::ffi::{OsStr, OsString};
 use std::os::unix::ffi::OsStrExt;
@@ -99,4 +100,13 @@ fn joined(word: &OsStr, options: &[&'static str]) -> Option<(&'static str, OsStr
 pub fn number(word: &OsStr, what: &str) -> Result<u64, Stop> {
     let number = word.to_str().and_then(|word| word.parse().ok());
     number.ok_or_else(|| Stop::words(format!("{what} is a number, not {word:?}")))
+}
+
+/// Reel names as the library takes them, from a list with commas.
+pub fn names(list: &OsStr) -> Result<Vec<u8>, Stop> {
+    let names = list.as_bytes().split(|&byte| byte == b',').map(sheet::reel_name);
+    let names: Result<Vec<Vec<u8>>, String> = names.collect();
+    names.map(|names| names.concat()).map_err(|_| {
+        Stop::words(format!("--reels is names of 1 to 6 characters with commas, not {list:?}"))
+    })
 }

@@ -40,6 +40,8 @@ fn an_image_of_sixteen_megabytes_is_packed_checked_and_read() {
     assert!(records.out == data);
     let one = shell(&format!("{MEMORY} $T record - 1 208000 < $D/big.tgi"), &d).done();
     assert_eq!(one.out, data[data.len() - 80..]);
+    shell(&format!("{MEMORY} $T unpack $D/big.tgi $D/apart"), &d).done();
+    shell("$T pack $D/apart/sheet -o - | cmp $D/big.tgi -", &d).done();
 }
 
 #[test]
@@ -50,6 +52,24 @@ fn millions_of_one_byte_records_are_packed_and_read() {
     shell("$T pack $D/sheet -o $D/many.tgi", &d).done();
     assert!(shell("$T records $D/many.tgi 1", &d).done().out == data);
     assert_eq!(shell("$T record $D/many.tgi 1 16000000", &d).done().out, data[data.len() - 1..]);
+    shell(&format!("{MEMORY} $T unpack $D/many.tgi $D/apart"), &d).done();
+    shell("$T pack $D/apart/sheet -o - | cmp $D/many.tgi -", &d).done();
+}
+
+#[test]
+fn millions_of_records_of_differing_lengths_come_back() {
+    let d = folder("differing");
+    let sheet = "set BIG001\nquota 999999\nreel GATE01\nfile BIG\nformat D\nblock-length 32760\n\
+                 record-length 9\ndata data lengths lengths\n";
+    let count = 3_000_000;
+    let lengths: String = (0..count).map(|i| format!("{}\n", i % 2)).collect();
+    fs::write(d.join("sheet"), sheet).unwrap();
+    fs::write(d.join("lengths"), lengths).unwrap();
+    fs::write(d.join("data"), bytes(count / 2)).unwrap();
+    shell("$T pack $D/sheet -o $D/many.tgi", &d).done();
+    shell(&format!("{MEMORY} $T unpack $D/many.tgi $D/apart"), &d).done();
+    shell("cmp $D/apart/0001.lengths $D/lengths && cmp $D/apart/0001.records $D/data", &d).done();
+    shell("$T pack $D/apart/sheet -o - | cmp $D/many.tgi -", &d).done();
 }
 
 #[test]

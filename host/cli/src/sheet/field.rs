@@ -77,4 +77,19 @@ impl Field {
             }
         }
     }
+
+    /// The value as a sheet has it: without what filling puts there, in brackets where that would not
+    /// give it back.
+    pub fn text(&self, bytes: &[u8]) -> Vec<u8> {
+        let shown: &[u8] = match self.fill {
+            Fill::Text => bytes.trim_ascii_end(),
+            Fill::Number => bytes,
+            Fill::Date => bytes.trim_ascii_start(),
+        };
+        let bare = super::text::is_bare(shown) && self.filled(shown).as_deref() == Ok(bytes);
+        match bare {
+            true => shown.to_vec(),
+            false => [b"[", bytes, b"]"].concat(),
+        }
+    }
 }

@@ -31,6 +31,11 @@ fn keyword_length(line: &[u8]) -> usize {
     line.iter().position(u8::is_ascii_whitespace).unwrap_or(line.len())
 }
 
+/// A value that stands as it is, without brackets.
+pub fn is_bare(value: &[u8]) -> bool {
+    value.trim_ascii() == value && value.first() != Some(&b'[') && !value.is_empty()
+}
+
 /// The bytes of a value: in brackets every byte counts.
 fn unbracketed(value: &[u8]) -> &[u8] {
     match value {

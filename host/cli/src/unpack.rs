@@ -1,0 +1,188 @@
+//! `unpack FILE DIR`: the records of a set as files, and the order sheet that packs them again.
+
+use crate::records::Form;
+use crate::stop::{Status, Stop};
+use crate::words::{names, number, Words};
+use crate::{input, output, sheet};
+use std::fs::{self, File};
+use std::io::{self, BufWriter, Write};
+use std::path::{Path, PathBuf};
+
+/// The most that a reel may hold, so that as few reels as can be are needed.
+const QUOTA: u64 = 999_999;
+
+pub fn run(words: &Words) -> Result<Status, Stop> {
+    let [file, folder] = words.exactly(["file", "folder"])?;
+    let form = Form::of(words)?;
+    let quota = words.value("--quota")?.map(|word| number(word, "Q")).transpose()?;
+    let names = words.value("--reels")?.map(names).transpose()?;
+    let image = input::image(file)?;
+    let verdict = tardorelga::check(&image);
+    if !verdict.is_accepted() {
+        return Err(Stop::refused(input::name(file), verdict));
+    }
+    let head =
+        Head { quota: quota.unwrap_or(QUOTA), names: names.unwrap_or_else(|| reel_names(&image)) };
+    put(&image, &head, form, Path::new(folder))
+        .map_err(|error| Stop::trouble(Path::new(folder).display(), error))?;
+    Ok(Status::Done)
+}
+
+/// What the sheet says beside the meaning of the set.
+struct Head {
+    quota: u64,
+    names: Vec<u8>,
+}
+
+/// The names of the reels of an accepted image: its first block, and the block behind each end of a
+/// reel, is a volume label.
+fn reel_names(image: &[u8]) -> Vec<u8> {
+    const HEAD: usize = 5;
+    const END_OF_REEL: usize = 0xFF_FFFF;
+    let mut names = Vec::new();
+    let (mut at, mut label_due) = (HEAD, true);
+    while let Some(&[a, b, c]) = image.get(at..at + 3) {
+        let length = usize::from(a) << 16 | usize::from(b) << 8 | usize::from(c);
+        at += 3;
+        if label_due {
+            names.extend_from_slice(&image[at + 4..at + 10]);
+        }
+        label_due = length == END_OF_REEL;
+        at += if label_due { 0 } else { length };
+    }
+    names
+}
+
+/// The folder appears whole or not at all; an empty one may be there already.
+fn put(image: &[u8], head: &Head, form: Form, folder: &Path) -> io::Result<()> {
+    if fs::read_dir(folder).is_ok_and(|mut there| there.next().is_some()) {
+        return Err(io::Error::other("is there already, and not empty"));
+    }
+    let beside = output::beside(folder)?;
+    fs::create_dir(&beside)?;
+    let written = fill(image, head, form, &beside).and_then(|()| fs::rename(&beside, folder));
+    if written.is_err() {
+        let _ = fs::remove_dir_all(&beside);
+    }
+    written
+}
+
+/// The records of each file, and the sheet.
+fn fill(image: &[u8], head: &Head, form: Form, folder: &Path) -> io::Result<()> {
+    let mut text = Vec::new();
+    let mut number = 1;
+    while let Ok(file) = tardorelga::file(image, number) {
+        if number == 1 {
+            text = sheet::head_text(file.set(), head.quota, &head.names);
+        }
+        text.extend(sheet::file_text(&file.entry()));
+        text.extend(records(image, number, form, folder)?.as_bytes());
+        number += 1;
+    }
+    let mut sheet = Output::new(folder.join("sheet"))?;
+    sheet.put(&text)?;
+    sheet.end()
+}
+
+/// Writes the records of one file, and gives the line that the sheet has for them; no line where there
+/// are none.
+fn records(image: &[u8], number: u64, form: Form, folder: &Path) -> io::Result<String> {
+    let name = |ending: &str| format!("{number:04}.{ending}");
+    let file = name(match form {
+        Form::Raw => "records",
+        Form::Lines => "txt",
+        Form::Hex => "hex",
+    });
+    let mut out = Output::new(folder.join(&file))?;
+    let mut lengths = Lengths::new(folder.join(name("lengths")));
+    let mut count = 0;
+    for record in tardorelga::records(image, number).map_err(io::Error::other)? {
+        count += 1;
+        match form {
+            Form::Raw => lengths.push(record.len() as u64)?,
+            Form::Lines if record.contains(&b'\n') => return Err(unfit_for_lines(number, count)),
+            _ => {}
+        }
+        form.give(&record, |bytes| out.put(bytes))?;
+    }
+    out.end()?;
+    if count == 0 {
+        return fs::remove_file(folder.join(&file)).map(|()| String::new());
+    }
+    Ok(match (form, lengths.end()?) {
+        (Form::Lines, _) => format!("  lines {file}\n"),
+        (Form::Hex, _) => format!("  hex-lines {file}\n"),
+        (Form::Raw, Some(each)) => format!("  data {file} each {each}\n"),
+        (Form::Raw, None) => format!("  data {file} lengths {}\n", name("lengths")),
+    })
+}
+
+fn unfit_for_lines(file: u64, record: u64) -> io::Error {
+    let what = format!("record {record} of file {file} holds a line feed; unpack without --lines");
+    io::Error::other(what)
+}
+
+/// A file being written.
+struct Output {
+    file: BufWriter<File>,
+}
+
+impl Output {
+    fn new(path: PathBuf) -> io::Result<Output> {
+        Ok(Output { file: BufWriter::with_capacity(1 << 16, File::create_new(path)?) })
+    }
+
+    fn put(&mut self, bytes: &[u8]) -> io::Result<()> {
+        self.file.write_all(bytes)
+    }
+
+    fn end(self) -> io::Result<()> {
+        self.file.into_inner().map_err(|error| error.into_error())?.sync_all()
+    }
+}
+
+/// The lengths of records, in runs of equal ones; a file of them is begun only where it is needed.
+struct Lengths {
+    path: PathBuf,
+    file: Option<Output>,
+    length: u64,
+    count: u64,
+}
+
+impl Lengths {
+    fn new(path: PathBuf) -> Lengths {
+        Lengths { path, file: None, length: 0, count: 0 }
+    }
+
+    fn push(&mut self, length: u64) -> io::Result<()> {
+        if self.count > 0 && self.length != length {
+            self.put_run()?;
+        }
+        self.length = length;
+        self.count += 1;
+        Ok(())
+    }
+
+    fn put_run(&mut self) -> io::Result<()> {
+        let file = match &mut self.file {
+            Some(file) => file,
+            none => none.insert(Output::new(self.path.clone())?),
+        };
+        let line = match self.count {
+            1 => format!("{}\n", self.length),
+            count => format!("{} x {count}\n", self.length),
+        };
+        self.count = 0;
+        file.put(line.as_bytes())
+    }
+
+    /// The length of each, where one number can say it; else it stands in the file.
+    fn end(mut self) -> io::Result<Option<u64>> {
+        if self.file.is_none() && (self.length > 0 || self.count == 0) {
+            return Ok(Some(self.length));
+        }
+        self.put_run()?;
+        self.file.map_or(Ok(()), Output::end)?;
+        Ok(None)
+    }
+}
