@@ -18,6 +18,8 @@ import os
 import typing
 
 LONGEST_IMAGE = 16_777_215
+# Room for the heading and a line for each of 64 files.
+_LONGEST_LISTING = 4096
 
 _u8, _u32, _u64, _size, _bytes = ctypes.c_uint8, ctypes.c_uint32, ctypes.c_uint64, ctypes.c_size_t, ctypes.c_char_p
 
@@ -75,6 +77,13 @@ def check(image):
     return _call("check", image, len(image)).tuple()
 
 
+def list(image):
+    """The listing: a heading, and a line for each file with its number, identifier, format, records and bytes."""
+    image = bytes(image)
+    _call("check", image, len(image)).raise_refused()
+    return _written("listing", _LONGEST_LISTING, image, len(image)).decode("ascii")
+
+
 def records(image, file):
     """The records of file number file, from 1, one after the other."""
     image = bytes(image)
@@ -95,7 +104,7 @@ def write(set, files, quota, reels):
         counts.append(len(lengths) - before)
     set, names, data = _text(set, 6), _names(reels), bytes(data)
     sheet = [set, len(set), entries, len(entries), *_numbers(counts), *_numbers(lengths), data, len(data)]
-    return _written("write", *sheet, quota, names, len(names))
+    return _written("write", LONGEST_IMAGE, *sheet, quota, names, len(names))
 
 
 # ---- the library's own structs and functions, as include/tardorelga.h has them
@@ -134,6 +143,7 @@ _FUNCTIONS = {
     "check": (_Verdict, *_slice),
     "begin": (_Begun, *_slice, _u64),
     "step": (_Stepped, *_slice, _Walk, *_out),
+    "listing": (_Written, *_slice, *_out),
     "write": (_Written, *_slice, *_slice, *_words, *_words, *_slice, _u64, *_slice, *_out),
 }
 
@@ -166,9 +176,9 @@ def _walk(image, walk):
         walk = step.walk
 
 
-def _written(name, *words):
-    out = ctypes.create_string_buffer(LONGEST_IMAGE)
-    written = _call(name, *words, out, LONGEST_IMAGE)
+def _written(name, longest, *words):
+    out = ctypes.create_string_buffer(longest)
+    written = _call(name, *words, out, longest)
     written.verdict.raise_refused()
     return ctypes.string_at(out, written.len)
 

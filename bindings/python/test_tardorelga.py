@@ -97,6 +97,18 @@ class Write(unittest.TestCase):
             tardorelga.File("A", "F", 100000, 1, []).entry()
 
 
+class List(unittest.TestCase):
+    def test_a_line_for_each_file(self):
+        lines = tardorelga.list(sample("messages")).splitlines()
+        files = ["0001 MESSAGES          S 4 54", "0002 INDEX             D 2 15"]
+        self.assertEqual(lines, ["SEQ FILE              FMT RECORDS BYTES", *files])
+
+    def test_refusals(self):
+        with self.assertRaises(tardorelga.Refused) as raised:
+            tardorelga.list(sample("refused-4"))
+        self.assertEqual(raised.exception.verdict, (4, 1, 42))
+
+
 class Module(unittest.TestCase):
     def test_the_example_at_its_head(self):
         self.assertEqual(doctest.testmod(tardorelga).failed, 0)

@@ -1,9 +1,9 @@
 //! `check FILE..`: a line a file.
 
-use crate::input;
 use crate::stop::{reason, say, Status, Stop};
 use crate::streams::Out;
 use crate::words::Words;
+use crate::{input, list};
 use std::ffi::{OsStr, OsString};
 use std::os::unix::ffi::OsStrExt;
 use tardorelga::Verdict;
@@ -64,13 +64,18 @@ fn answer_on(file: &OsString) -> Answer {
     }
 }
 
-/// The sums over its files.
+/// The sums of the listing: behind number, identifier and format each line has RECORDS and BYTES.
 fn counts(image: &[u8]) -> Counts {
+    const BEHIND_FORMAT: usize = 25;
     let mut counts = Counts::default();
-    while let Ok(file) = tardorelga::file(image, counts.files + 1) {
-        counts.files += 1;
-        counts.records += file.records;
-        counts.bytes += file.bytes;
+    for line in list::listing(image).split(|&byte| byte == b'\n').skip(1) {
+        let numbers = String::from_utf8_lossy(line.get(BEHIND_FORMAT..).unwrap_or(b""));
+        let mut numbers = numbers.split(' ').filter_map(|number| number.parse::<u64>().ok());
+        if let (Some(records), Some(bytes)) = (numbers.next(), numbers.next()) {
+            counts.files += 1;
+            counts.records += records;
+            counts.bytes += bytes;
+        }
     }
     counts
 }

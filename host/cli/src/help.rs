@@ -6,6 +6,7 @@ Labelled magnetic tape sets (ECMA-13, label standard version 4), checked, read a
 whose answers are proved. The commands:
 
     check FILE..           says of each image whether it is accepted, or why and where it is not
+    list FILE              prints the files of a set
     record FILE N R        prints record R of file N
     records FILE N         prints all records of file N
     unpack FILE DIR        takes a set apart into files of records and an order sheet
@@ -24,6 +25,12 @@ Checks the image of a tape set in each FILE, and prints a line a file:
 Items are counted from 0 over the whole image, bytes of a label from 1.
 
     --json    prints a JSON object a line instead
+";
+
+pub const LIST: &str = "usage: tardorelga list FILE
+
+Prints a line for each file of the set in FILE: its number, identifier and format, how many records and how
+many record bytes it has. Of a refused set it prints only the line that says so.
 ";
 
 pub const RECORD: &str = "usage: tardorelga record [--hex | --lines] FILE N R

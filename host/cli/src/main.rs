@@ -10,6 +10,7 @@
 mod check;
 mod help;
 mod input;
+mod list;
 mod output;
 mod pack;
 mod records;
@@ -33,8 +34,9 @@ struct Command {
     run: fn(&Words) -> Result<Status, Stop>,
 }
 
-const COMMANDS: [Command; 5] = [
+const COMMANDS: [Command; 6] = [
     Command { name: "check", help: help::CHECK, flags: &["--json"], options: &[], run: check::run },
+    Command { name: "list", help: help::LIST, flags: &[], options: &[], run: list::run },
     Command {
         name: "record",
         help: help::RECORD,

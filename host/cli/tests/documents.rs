@@ -14,8 +14,8 @@ use std::{env, fs};
 fn workplace(name: &str) -> PathBuf {
     let place = env::temp_dir().join(format!("tardorelga-{name}-{}", std::process::id()));
     let _ = fs::remove_dir_all(&place);
-    fs::create_dir_all(&place).unwrap();
-    for folder in ["bindings", "docs", "host", "include", "samples", "target"] {
+    fs::create_dir_all(place.join("target")).unwrap();
+    for folder in ["bindings", "docs", "host", "include", "samples", "target/staticlib"] {
         symlink(root().join(folder), place.join(folder)).unwrap();
     }
     place

@@ -40,6 +40,8 @@ fn an_image_of_sixteen_megabytes_is_packed_checked_and_read() {
     assert!(records.out == data);
     let one = shell(&format!("{MEMORY} $T record - 1 208000 < $D/big.tgi"), &d).done();
     assert_eq!(one.out, data[data.len() - 80..]);
+    let listing = shell(&format!("{MEMORY} $T list $D/big.tgi"), &d).done();
+    assert!(listing.text().ends_with("0001 BIG               F 208000 16640000\n"));
     shell(&format!("{MEMORY} $T unpack $D/big.tgi $D/apart"), &d).done();
     shell("$T pack $D/apart/sheet -o - | cmp $D/big.tgi -", &d).done();
 }
