@@ -107,6 +107,12 @@ def write(set, files, quota, reels):
     return _written("write", LONGEST_IMAGE, *sheet, quota, names, len(names))
 
 
+def rewrite(image, quota, reels):
+    """The normal form of a set: the same for all sets of one meaning."""
+    image, names = bytes(image), _names(reels)
+    return _written("rewrite", LONGEST_IMAGE, image, len(image), quota, names, len(names))
+
+
 # ---- the library's own structs and functions, as include/tardorelga.h has them
 
 
@@ -144,6 +150,7 @@ _FUNCTIONS = {
     "begin": (_Begun, *_slice, _u64),
     "step": (_Stepped, *_slice, _Walk, *_out),
     "listing": (_Written, *_slice, *_out),
+    "rewrite": (_Written, *_slice, _u64, *_slice, *_out),
     "write": (_Written, *_slice, *_slice, *_words, *_words, *_slice, _u64, *_slice, *_out),
 }
 

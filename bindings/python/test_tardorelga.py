@@ -109,6 +109,22 @@ class List(unittest.TestCase):
         self.assertEqual(raised.exception.verdict, (4, 1, 42))
 
 
+class Rewrite(unittest.TestCase):
+    def test_a_normal_form_is_its_own(self):
+        for name in "ledger", "messages", "options":
+            image = sample(name)
+            normal = tardorelga.rewrite(image, 2, "ABCDE")
+            self.assertEqual(tardorelga.rewrite(normal, 2, "ABCDE"), normal)
+            self.assertEqual(tardorelga.list(normal), tardorelga.list(image))
+
+    def test_refusals(self):
+        cases = [(12, ("options", 1, "AB")), (11, ("options", 1, "AA")), (11, ("options", 0, "A")), (6, ("refused-6", 0, ""))]
+        for number, (name, quota, reels) in cases:
+            with self.assertRaises(tardorelga.Refused) as raised:
+                tardorelga.rewrite(sample(name), quota, reels)
+            self.assertEqual(raised.exception.number, number)
+
+
 class Module(unittest.TestCase):
     def test_the_example_at_its_head(self):
         self.assertEqual(doctest.testmod(tardorelga).failed, 0)

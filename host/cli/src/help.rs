@@ -11,6 +11,7 @@ whose answers are proved. The commands:
     records FILE N         prints all records of file N
     unpack FILE DIR        takes a set apart into files of records and an order sheet
     pack SHEET -o OUT      writes the image of an order sheet
+    rewrite FILE ..        writes the normal form of a set
 
 tardorelga COMMAND --help tells more of a command, tardorelga --version prints the version.
 A file named - is standard input or output.
@@ -68,4 +69,13 @@ Writes the image of the order sheet SHEET, a text whose form docs/SHEET.md tells
 with its number. Names of files on the sheet are looked up in the folder of the sheet.
 
     -o OUT    where the image goes; it appears whole or not at all
+";
+
+pub const REWRITE: &str = "usage: tardorelga rewrite FILE --quota Q --reels A,B,.. -o OUT
+
+Writes the normal form of the set in FILE: two sets of one meaning have the same one.
+
+    --quota Q       how many data blocks a reel may hold, 1 to 999999
+    --reels A,B,..  the names of 1 to 16 reels, of which as many as needed are written
+    -o OUT          where the image goes; it appears whole or not at all
 ";

@@ -14,6 +14,7 @@ mod list;
 mod output;
 mod pack;
 mod records;
+mod rewrite;
 mod sheet;
 mod stop;
 mod streams;
@@ -34,7 +35,7 @@ struct Command {
     run: fn(&Words) -> Result<Status, Stop>,
 }
 
-const COMMANDS: [Command; 6] = [
+const COMMANDS: [Command; 7] = [
     Command { name: "check", help: help::CHECK, flags: &["--json"], options: &[], run: check::run },
     Command { name: "list", help: help::LIST, flags: &[], options: &[], run: list::run },
     Command {
@@ -59,6 +60,13 @@ const COMMANDS: [Command; 6] = [
         run: unpack::run,
     },
     Command { name: "pack", help: help::PACK, flags: &[], options: &["-o"], run: pack::run },
+    Command {
+        name: "rewrite",
+        help: help::REWRITE,
+        flags: &[],
+        options: &["--quota", "--reels", "-o"],
+        run: rewrite::run,
+    },
 ];
 
 #[no_mangle]

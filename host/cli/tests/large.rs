@@ -42,6 +42,8 @@ fn an_image_of_sixteen_megabytes_is_packed_checked_and_read() {
     assert_eq!(one.out, data[data.len() - 80..]);
     let listing = shell(&format!("{MEMORY} $T list $D/big.tgi"), &d).done();
     assert!(listing.text().ends_with("0001 BIG               F 208000 16640000\n"));
+    let same = "$T rewrite $D/big.tgi --quota 999999 --reels GATE01 -o $D/same.tgi";
+    shell(&format!("{MEMORY} {same} && cmp $D/big.tgi $D/same.tgi"), &d).done();
     shell(&format!("{MEMORY} $T unpack $D/big.tgi $D/apart"), &d).done();
     shell("$T pack $D/apart/sheet -o - | cmp $D/big.tgi -", &d).done();
 }

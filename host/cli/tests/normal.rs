@@ -1,0 +1,107 @@
+//! The normal form of a set.
+
+mod common;
+
+use common::{fed, folder, names_in, root, run, shell};
+use std::fs;
+use std::path::Path;
+
+const ACCEPTED: [&str; 3] = ["ledger", "messages", "options"];
+
+fn sample(name: &str) -> String {
+    format!("samples/{name}.tgi")
+}
+
+fn rewritten(file: &str, quota: &str, reels: &str) -> Vec<u8> {
+    run(&["rewrite", file, "--quota", quota, "--reels", reels, "-o", "-"]).done().out
+}
+
+fn lines_of(file: &Path) -> Vec<String> {
+    fs::read_to_string(file).unwrap().lines().map(String::from).collect()
+}
+
+#[test]
+fn the_ledger_is_its_own_normal_form() {
+    let ledger = fs::read(root().join("samples/ledger.tgi")).unwrap();
+    assert_eq!(rewritten("samples/ledger.tgi", "1", "GATE01"), ledger);
+}
+
+#[test]
+fn the_normal_form_of_a_normal_form_is_itself_and_has_the_same_records() {
+    for name in ACCEPTED {
+        let normal = rewritten(&sample(name), "2", "A,B,C,D,E");
+        let words = ["rewrite", "-", "--quota=2", "--reels=A,B,C,D,E", "-o", "-"];
+        assert_eq!(fed(&words, &normal).done().out, normal, "{name}");
+        assert_eq!(fed(&["list", "-"], &normal).done().out, run(&["list", &sample(name)]).out);
+        for number in ["1", "2", "3"] {
+            let before = run(&["records", "--hex", &sample(name), number]);
+            let after = fed(&["records", "--hex", "-", number], &normal);
+            assert_eq!(after.out, before.out, "{name}");
+        }
+    }
+}
+
+#[test]
+fn sets_that_differ_beside_their_meaning_have_one_normal_form() {
+    let image = fs::read(root().join("samples/options.tgi")).unwrap();
+    let text = String::from_utf8_lossy(&image);
+    let owner = text.find("TIDE OFFICE").expect("the owner");
+    let mut other = image.clone();
+    other[owner..owner + 4].copy_from_slice(b"RIVE");
+    let words = ["rewrite", "-", "--quota", "9", "--reels", "GATE01", "-o", "-"];
+    assert_eq!(fed(&words, &other).done().out, fed(&words, &image).done().out);
+}
+
+#[test]
+fn rewriting_is_refused_with_its_number() {
+    let d = folder("rewrite-refused");
+    let words = |quota, reels| {
+        format!("$T rewrite samples/options.tgi --quota {quota} --reels {reels} -o $D/out")
+    };
+    let file = "samples/options.tgi";
+    let few = format!("{file}: refused 12: more reels are needed than are named");
+    shell(&words("1", "A,B"), &d).told(1, &few);
+    let illegal = format!("{file}: refused 11: the order sheet is illegal");
+    for (quota, reels) in [("0", "A"), ("1000000", "A"), ("9", "a"), ("9", "A,A")] {
+        shell(&words(quota, reels), &d).told(1, &illegal);
+    }
+    let own = "samples/refused-5.tgi: refused 5 at item 1 byte 54: \
+               access to the volume or file is restricted";
+    shell("$T rewrite samples/refused-5.tgi --quota 0 --reels a -o $D/out", &d).told(1, own);
+    assert_eq!(names_in(&d), [""; 0]);
+}
+
+#[test]
+fn rewriting_wants_its_words() {
+    let usage = "usage: tardorelga rewrite FILE --quota Q --reels A,B,.. -o OUT";
+    run(&["rewrite", "x"]).told(2, &format!("--quota is missing\n{usage}"));
+    let number = format!("Q is a number, not \"many\"\n{usage}");
+    run(&["rewrite", "x", "--quota", "many", "--reels", "A", "-o", "-"]).told(2, &number);
+    for reels in ["", "A,", "GATE001"] {
+        let names =
+            format!("--reels is names of 1 to 6 characters with commas, not {reels:?}\n{usage}");
+        run(&["rewrite", "x", "--quota", "1", "--reels", reels, "-o", "-"]).told(2, &names);
+    }
+}
+
+#[test]
+fn what_is_unpacked_packs_to_the_normal_form() {
+    let d = folder("unpacked-normal");
+    for name in ACCEPTED {
+        for form in ["", "--hex", "--lines"] {
+            let out = d.join(format!("{name}{form}"));
+            shell(&format!("$T unpack {form} {} $D/{name}{form}", sample(name)), &d).done();
+            let sheet = out.join("sheet");
+            let reels: Vec<String> = lines_of(&sheet)
+                .iter()
+                .filter_map(|line| line.strip_prefix("reel ").map(String::from))
+                .collect();
+            let packed = run(&["pack", sheet.to_str().unwrap(), "-o", "-"]).done().out;
+            assert_eq!(
+                packed,
+                rewritten(&sample(name), "999999", &reels.join(",")),
+                "{name} {form}"
+            );
+        }
+    }
+}
