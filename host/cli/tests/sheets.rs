@@ -103,17 +103,13 @@ fn wrong_records_are_named() {
     let none = "expected a file that can be read; none: No such file or directory";
     wrong(2, &sheet("lines none"), &format!("line 8: {none}"));
     let data = "line 8: expected NAME each LENGTH, or NAME lengths NAME, behind 'data'";
-    for line in [
-        "data",
-        "data Cargo.toml",
-        "data README.md each",
-        "data README.md each 0",
-        "data README.md by 3",
-    ] {
+    for line in ["data", "data Cargo.toml", "data README.md each", "data README.md by 3"] {
         wrong(2, &sheet(line), data);
     }
     let odd = "expected whole records of 5 bytes; samples/ledger.tgi has 448 bytes";
     wrong(2, &sheet("data samples/ledger.tgi each 5"), &format!("line 8: {odd}"));
+    let none = odd.replace(" 5 ", " 0 ");
+    wrong(2, &sheet("data samples/ledger.tgi each 0"), &format!("line 8: {none}"));
 }
 
 #[test]

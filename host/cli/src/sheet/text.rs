@@ -172,17 +172,16 @@ impl Reading<'_> {
         file.read_to_end(&mut self.order.data).map_err(|e| unread(&name, e))?;
         let bytes = (self.order.data.len() - start) as u64;
         match how {
-            b"each" => {
-                let each = number(rest).filter(|&each| each > 0).ok_or_else(expected)?;
-                if bytes % each > 0 {
-                    return Err(format!(
-                        "expected whole records of {each} bytes; {name} has {bytes} bytes"
-                    ));
-                }
-                self.order.count(each, bytes / each)
-            }
+            b"each" => self.each(number(rest).ok_or_else(expected)?, &name, bytes),
             b"lengths" => self.lengths(unbracketed(rest), &name, bytes),
             _ => Err(expected()),
+        }
+    }
+
+    fn each(&mut self, each: u64, of: &str, bytes: u64) -> Result<(), String> {
+        match bytes.checked_rem(each) {
+            Some(0) => self.order.count(each, bytes / each),
+            _ => Err(format!("expected whole records of {each} bytes; {of} has {bytes} bytes")),
         }
     }
 
