@@ -81,7 +81,7 @@ tardorelga_found tardorelga_record(const uint8_t *image, size_t image_len, uint6
  * place in the image of what is left of the current block, and how many bytes of it are left.
  */
 typedef struct tardorelga_walk {
-    uint8_t format;
+    uint32_t format;
     uint32_t size;
     uint64_t offset;
     uint64_t at;

@@ -128,7 +128,7 @@ class _Verdict(ctypes.Structure):
 
 
 class _Walk(ctypes.Structure):
-    _fields_ = [("format", _u8), ("size", _u32), ("offset", _u64), ("at", _u64), ("left", _u64)]
+    _fields_ = [("format", _u32), ("size", _u32), ("offset", _u64), ("at", _u64), ("left", _u64)]
 
 
 class _Begun(ctypes.Structure):

@@ -30,8 +30,8 @@ pub fn run(step: impl Fn(Walk, &[u8], &mut [u8]) -> Result<(Found, Walk), u32>) 
 }
 
 /// A state, by format, R, offset length, place and bytes left.
-fn state((format, size): (u8, u32), offset: u64, at: u64, left: u64) -> Walk {
-    Walk { format, size, offset, at, left }
+fn state((format, size): (impl Into<u32>, u32), offset: u64, at: u64, left: u64) -> Walk {
+    Walk { format: format.into(), size, offset, at, left }
 }
 
 fn in_image(start: usize, len: usize, at: u64, left: u64) -> Step {
@@ -52,7 +52,12 @@ fn ledger_states() -> Vec<Case> {
         case("inside the block", state(f, 0, 260, 10), whole),
         case("behind the last record", state(f, 0, 270, 0), Err(13)),
         case("no format", state((b'U', 10), 0, 257, 0), Err(13)),
-        case("format 0", state((0, 10), 0, 257, 0), Err(13)),
+        case("format 0", state((0u8, 10), 0, 257, 0), Err(13)),
+        case(
+            "a format but for its high bytes",
+            state((u32::from(b'F') + 256, 10), 0, 257, 0),
+            Err(13),
+        ),
         case("R 0", state((b'F', 0), 0, 257, 0), Err(13)),
         case("R one too great", state((b'F', 11), 0, 257, 0), Err(13)),
         case("the greatest R", state((b'F', u32::MAX), 0, 257, 0), Err(13)),

@@ -12,7 +12,7 @@ use crate::{number_of, Answer};
 /// bytes at the place `at` of the image.
 #[derive(Clone, Copy, Debug, Default, PartialEq, Eq, Hash)]
 pub struct Walk {
-    pub format: u8,
+    pub format: u32,
     pub size: u32,
     pub offset: u64,
     pub at: u64,
@@ -52,6 +52,7 @@ pub fn begin(image: &[u8], file: u64) -> Result<Begun, Answer> {
         if files == file {
             let Shape { format, record, offset, .. } = Shape::of(head.second);
             let (size, offset) = (record as u32, offset as u64);
+            let format = u32::from(format);
             let walk = Walk { format, size, offset, at: parts.data_from() as u64, left: 0 };
             return Ok(Begun { first: place(head.first), second: place(head.second), walk });
         }
@@ -117,7 +118,7 @@ impl Walk {
     /// What is left, where the state could be one of a walk over this image at all.
     fn rest<'a>(&self, image: &'a [u8]) -> Option<Rest<'a>> {
         let end = self.at.checked_add(self.left)?;
-        let sound = matches!(self.format, b'F' | b'D' | b'S') && self.size > 0;
+        let sound = matches!(self.format(), Some(b'F' | b'D' | b'S')) && self.size > 0;
         (sound && end <= image.len() as u64).then_some(Rest {
             image,
             at: self.at as usize,
@@ -125,11 +126,15 @@ impl Walk {
         })
     }
 
+    fn format(&self) -> Option<u8> {
+        u8::try_from(self.format).ok()
+    }
+
     /// The unit at the head of what is left of a block.
     fn unit<'a>(&self, rest: Rest<'a>) -> Option<Head<'a>> {
         let bytes = rest.bytes();
         let size = self.size as usize;
-        let (indicator, word, length) = match self.format {
+        let (indicator, word, length) = match self.format()? {
             b'F' => {
                 let record = bytes.get(..size)?;
                 return record
@@ -144,7 +149,7 @@ impl Walk {
             }
         };
         let fits = length >= word && length <= bytes.len();
-        let allowed = if self.format == b'D' { length <= size } else { indicator <= 3 };
+        let allowed = if word == 4 { length <= size } else { indicator <= 3 };
         let unit = Unit { indicator, start: rest.at + word, len: length.checked_sub(word)? };
         (fits && allowed).then(|| rest.split(unit))
     }

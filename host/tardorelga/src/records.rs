@@ -84,8 +84,8 @@ pub fn place(image: &[u8], file: u64, record: u64, join: &mut [u8]) -> Result<Pl
 #[repr(C)]
 #[derive(Clone, Copy, Debug, Default, PartialEq, Eq, Hash)]
 pub struct Walk {
-    /// `F`, `D` or `S`.
-    pub format: u8,
+    /// The code of `F`, `D` or `S`; a walk of another format stands nowhere.
+    pub format: u32,
     /// The record length R of the file's HDR2.
     pub size: u32,
     /// Bytes to skip at the head of each block.

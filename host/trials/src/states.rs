@@ -241,7 +241,7 @@ fn places(image: &[u8]) -> Vec<Walk> {
     let mut at = HEAD.len();
     while let Some(item) = image.get(at..).and_then(item_in) {
         let walk = |at: usize, left: usize| Walk {
-            format: shape.format,
+            format: shape.format.into(),
             size: shape.record as u32,
             offset: shape.offset as u64,
             at: at as u64,
@@ -258,7 +258,8 @@ fn places(image: &[u8]) -> Vec<Walk> {
         }
         at += item.len();
     }
-    places.push(Walk { format: shape.format, size: 10, offset: 0, at: at as u64, left: 0 });
+    let format = shape.format.into();
+    places.push(Walk { format, size: 10, offset: 0, at: at as u64, left: 0 });
     places
 }
 
@@ -274,9 +275,20 @@ fn state(rng: &mut Rng, image: &[u8], known: &[Walk]) -> Walk {
     walk
 }
 
+/// A format, or a byte or another number that is none.
+fn format(rng: &mut Rng) -> u32 {
+    let format = u32::from(rng.pick(b"FDS"));
+    match rng.below(8) {
+        0 => rng.byte().into(),
+        1 => format + 256,
+        2 => u32::MAX,
+        _ => format,
+    }
+}
+
 fn shift(rng: &mut Rng, image: &[u8], walk: &mut Walk) {
     match rng.below(5) {
-        0 => walk.format = if rng.one_in(4) { rng.byte() } else { rng.pick(b"FDS") },
+        0 => walk.format = format(rng),
         1 => walk.size = near(rng, u64::from(walk.size), image).min(u64::from(u32::MAX)) as u32,
         2 => walk.offset = near(rng, walk.offset, image),
         3 => walk.at = near(rng, walk.at, image),
@@ -309,5 +321,5 @@ fn anything(rng: &mut Rng, image: &[u8]) -> Walk {
     };
     let length = image.len() as u64 + 1;
     let (size, offset, at, left) = (number(40) as u32, number(10), number(length), number(60));
-    Walk { format: rng.pick(b"FDSU"), size, offset, at, left }
+    Walk { format: rng.pick(b"FDSU").into(), size, offset, at, left }
 }
