@@ -16,10 +16,10 @@ use crate::unit::word_of;
 
 // Where the filling of a block is: whether it goes on, the cursor, the place behind what was written, and the bytes that are used.
 pub struct Turn {
-    pub on: bool,
     pub cur: Cursor,
     pub at: usize,
     pub used: usize,
+    pub on: bool,
 }
 
 // Puts the open record, which enters, or a part of it into the open block, and opens the next one.

@@ -25,13 +25,13 @@ pub struct Cursor {
     pub at: usize,
     pub here: usize,
     pub left: usize,
-    pub begun: u8,
-    pub live: bool,
     pub next: usize,
     pub stop: usize,
-    pub image: bool,
     pub walk: Walk,
     pub behind: Walk,
+    pub begun: u8,
+    pub live: bool,
+    pub image: bool,
 }
 
 // A cursor moved on, and the place behind what was written.
