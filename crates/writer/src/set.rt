@@ -25,6 +25,7 @@ use crate::reel::Reel;
 use crate::reel::put_file;
 use crate::source::Cursor;
 use crate::source::next;
+use crate::source::next_of_image;
 use crate::source::wide;
 use base::part_of;
 use content::FileAt;
@@ -183,7 +184,7 @@ fn lay_listed(
 fn begin_walk(lengths: &[u64], bytes: &[u8], w: Walk) -> Cursor
     ensures { λ r. ⌜ Walked (now (lengths .entry)) (now (bytes .entry)) w r ⌝ }
 {
-    next(
+    next_of_image(
         lengths,
         bytes,
         Cursor {

@@ -235,7 +235,7 @@ fn open_split(lengths: &[u64], bytes: &[u8], c: Cursor, n: usize, v: Walk) -> Cu
 }
 
 // Opens the next record of an image's file.
-fn next_of_image(lengths: &[u64], bytes: &[u8], c: Cursor) -> Cursor
+pub(crate) fn next_of_image(lengths: &[u64], bytes: &[u8], c: Cursor) -> Cursor
     requires { ⌜ Good (now lengths) (now bytes) c ⌝ }
     requires { ⌜ c .image ≡ true ⌝ }
     ensures { λ r. ⌜ Opened (now (lengths .entry)) (now (bytes .entry)) c r ⌝ }
