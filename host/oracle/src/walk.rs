@@ -64,11 +64,15 @@ impl Walk {
     /// The record at the walk's place, and the walk moved on; 13 where no whole record stands there,
     /// and 10 where it must be joined and the buffer is shorter.
     pub fn step(self, image: &[u8], join: &mut [u8]) -> Result<(Found, Walk), u32> {
-        let (units, rest) = self.record(image).ok_or(13_u32)?;
-        let behind = Walk { at: rest.at as u64, left: rest.left as u64, ..self };
-        if let [Unit { start, len, .. }] = units[..] {
-            return Ok((Found::InImage { start, len }, behind));
+        let head = self.first(image).ok_or(13_u32)?;
+        if head.unit.indicator == 0 {
+            let Unit { start, len, .. } = head.unit;
+            let allowed = len <= self.size as usize;
+            let whole = (Found::InImage { start, len }, self.behind(head.rest));
+            return if allowed { Ok(whole) } else { Err(13) };
         }
+        let (units, rest) = self.segments(head).ok_or(13_u32)?;
+        let behind = self.behind(rest);
         let len = units.iter().map(|unit| unit.len).sum();
         if len > join.len() {
             return Err(10);
@@ -84,21 +88,27 @@ impl Walk {
     /// The number of records from here on, and of their bytes.
     pub fn count(mut self, image: &[u8]) -> (u64, u64) {
         let (mut records, mut bytes) = (0, 0);
-        while let Some((units, rest)) = self.record(image) {
+        while let Some((units, rest)) = self.first(image).and_then(|head| self.segments(head)) {
             records += 1;
             bytes += units.iter().map(|unit| unit.len as u64).sum::<u64>();
-            self = Walk { at: rest.at as u64, left: rest.left as u64, ..self };
+            self = self.behind(rest);
         }
         (records, bytes)
     }
 
-    /// The units of the record, in turn and no longer than R, and what is left behind the last.
-    fn record<'a>(&self, image: &'a [u8]) -> Option<(Vec<Unit>, Rest<'a>)> {
+    fn behind(self, rest: Rest) -> Walk {
+        Walk { at: rest.at as u64, left: rest.left as u64, ..self }
+    }
+
+    /// The first unit of the record, in the current block or the next.
+    fn first<'a>(&self, image: &'a [u8]) -> Option<Head<'a>> {
         let rest = self.rest(image)?;
-        let mut head = match self.unit(rest) {
-            Some(head) => head,
-            None => self.next_unit(rest)?,
-        };
+        self.unit(rest).or_else(|| self.next_unit(rest))
+    }
+
+    /// The units of the record, in turn and no longer than R, and what is left behind the last.
+    fn segments<'a>(&self, first: Head<'a>) -> Option<(Vec<Unit>, Rest<'a>)> {
+        let mut head = first;
         let mut units = vec![head.unit];
         if head.unit.indicator == 1 {
             while matches!(units.last()?.indicator, 1 | 2) {

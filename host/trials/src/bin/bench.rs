@@ -4,7 +4,7 @@
 
 use oracle::generate::{large, large_order, Large};
 use oracle::tape::Tape;
-use oracle::{Answer, Records};
+use oracle::{Answer, Found, Records};
 use std::hint::black_box;
 use std::time::{Duration, Instant};
 use trials::{agreed, archive};
@@ -107,31 +107,32 @@ fn row(what: &str, count: usize, bytes: usize, [archive, oracle, copy]: [f64; 3]
     );
 }
 
+/// Walking by steps from state to state, in the archive and in the oracle, each of which looks whether
+/// its state can be one at all; and the oracle's iterator, which trusts the set that it was begun on.
 fn walking() {
     println!(
-        "| walk over all records | records | bytes | archive ms | oracle ms | ratio | copy ms |"
+        "| walk over all records | records | bytes | archive ms | oracle ms | ratio | iterator ms | ratio | copy ms |"
     );
-    println!("|---|--:|--:|--:|--:|--:|--:|");
+    println!("|---|--:|--:|--:|--:|--:|--:|--:|--:|");
     for kind in Large::ALL {
         let image = &large(kind, SIZE)[..];
         let (mut join, mut copied) = (vec![0; 100_000], vec![0; image.len()]);
-        let (records, bytes) = walked(image, &mut join);
-        assert_eq!((records, bytes), read(image), "both hand out the same");
-        let begun = [
-            best([
-                &mut || _ = black_box(walked(black_box(image), &mut join)),
-                &mut || _ = black_box(read(black_box(image))),
-                &mut || copied.copy_from_slice(black_box(image)),
-            ]),
-            best([
-                &mut || _ = black_box(tardorelga::begin(black_box(image), 1)),
-                &mut || _ = black_box(Records::of(black_box(image), 1).is_ok()),
-                &mut || copied.copy_from_slice(black_box(image)),
-            ]),
-        ];
+        let mut other = join.clone();
+        let found = walked(image, &mut join);
+        assert_eq!(found, stepped(image, &mut other), "both hand out the same");
+        assert_eq!(found, read(image), "both hand out the same");
+        let [archive, oracle, iterator, copy] = best([
+            &mut || _ = black_box(walked(black_box(image), &mut join)),
+            &mut || _ = black_box(stepped(black_box(image), &mut other)),
+            &mut || _ = black_box(read(black_box(image))),
+            &mut || copied.copy_from_slice(black_box(image)),
+        ]);
         black_box(&copied);
-        row(name(kind), records, image.len(), begun[0]);
-        row(&format!("{}, the beginning alone", name(kind)), 0, image.len(), begun[1]);
+        let (what, (records, _), bytes) = (name(kind), found, image.len());
+        let (ratio, trusting) = (archive / oracle, archive / iterator);
+        println!(
+            "| {what} | {records} | {bytes} | {archive:.2} | {oracle:.2} | {ratio:.2} | {iterator:.2} | {trusting:.2} | {copy:.2} |"
+        );
     }
 }
 
@@ -142,6 +143,22 @@ fn walked(image: &[u8], join: &mut [u8]) -> (usize, usize) {
     while let Ok((place, behind)) = walk.step(image, join) {
         records += 1;
         bytes += black_box(place.of(image, join)).len();
+        walk = behind;
+    }
+    (records, bytes)
+}
+
+/// Number and length of the records by the oracle's walk.
+fn stepped(image: &[u8], join: &mut [u8]) -> (usize, usize) {
+    let mut walk = oracle::walk::begin(image, 1).expect("an accepted image").walk;
+    let (mut records, mut bytes) = (0, 0);
+    while let Ok((found, behind)) = walk.step(image, join) {
+        records += 1;
+        bytes += match found {
+            Found::InImage { start, len } => black_box(&image[start..start + len]).len(),
+            Found::Joined { len } => black_box(&join[..len]).len(),
+            Found::Refused(_) => 0,
+        };
         walk = behind;
     }
     (records, bytes)
