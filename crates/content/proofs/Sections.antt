@@ -17,13 +17,13 @@ use Rattle.image.specs.declared.Shape.{Shape}
 use Rattle.image.specs.declared.Shape.the-variants.{Block, Mark, ReelEnd, Broken}
 use Rattle.image.proofs.Items.{block-within, mark-within, reel-end-within, decode-block, decode-mark, decode-reel-end, decode-broken, decode-past}
 use Rattle.order.specs.Kind.{eof, dataBlock, tapeMark, endOfReel, other, isKind}
-use Rattle.order.specs.Due.{dueAfter}
+use Rattle.order.specs.Due.{dues, choose, dueAfter}
 use Rattle.order.specs.declared.Kind.{Kind}
 use Rattle.order.specs.declared.Phase.{Phase}
 use Rattle.order.specs.declared.Phase.the-variants.{Data}
 use Rattle.order.specs.declared.Due.{Due}
 use Rattle.order.specs.declared.Due.the-variants.{To, Wrong}
-use Rattle.volume.specs.Step.{kindIn, bytesIn}
+use Rattle.volume.specs.Step.{isDue, kindIn, bytesIn}
 use Rattle.volume.proofs.Walks.{kind-label, kind-data}
 use Rattle.content.specs.Section.{placeBehind, seenBy, seenAt, turnTo, turnOf, follow, dataFrom}
 use Rattle.content.specs.declared.section.Seen.{Seen}
@@ -232,6 +232,24 @@ item-end s p at n k x h e q = record { fits = omega (arith, item-within s p at n
 
 pub item-falls : (s : List ℕ) (p : Phase) (at n : ℕ) (k : Kind) (x : Seen) → x ≡ seenAt s p at → x ≡ Of k n → length s - (at + 3 + n) < length s - at
 item-falls s p at n k x e q = omega (arith, item-within s p at n k x e q)
+
+-- among the data, a block is data
+block-kind : (l : List ℕ) → kindIn Data (block l) ≡ dataBlock
+unfolding kindIn isDue dueAfter dues choose isKind ifB
+block-kind l = refl
+
+block-turn : Here ≡ turnOf Data dataBlock
+unfolding turnOf isKind ifB
+block-turn = refl
+
+pub data-first : (s : List ℕ) (from n : ℕ) (q : Shape) → q ≡ shape (drop from s) → q ≡ Block n → At (from + 3) n ≡ dataFrom Data from (decode (drop from s))
+unfolding follow
+data-first s from n q e b =
+    let seen : Of dataBlock n ≡ seenAt s Data from = seen-block s Data from n q dataBlock e b (sym (block-kind _)) in
+    let (y, l, d) = data-item s Data from n dataBlock (Of dataBlock n) Here seen refl block-turn in
+    ap (At (from + 3)) (sym l) ∙ sym d
+
+pub ruleset firsts = (data-first, start-fits, needs)
 
 pub ruleset passings = (passing-none, passing-more, data-here, data-over, data-nothing, item-start, item-end, item-falls, needs)
 

@@ -93,8 +93,8 @@ fn turn_of(phase: Phase, k: Kind) -> Turn
     }
 }
 
-// The next data block of a file, from a place between two items of its data on.
-pub(crate) fn next_data(image: &[u8], from: usize) -> Extent
+// The next data block of a file, over what stands between two sections.
+fn data_further(image: &[u8], from: usize) -> Extent
     ensures { λ r. ⌜ r ≡ dataFrom Phase.Data from (decode (drop from (now (image .entry)))) ⌝ }
 {
     let mut phase = Phase::Data;
@@ -111,5 +111,18 @@ pub(crate) fn next_data(image: &[u8], from: usize) -> Extent
                 }
             },
         }
+    }
+}
+
+// The next data block of a file, from a place between two items of its data on.
+pub(crate) fn next_data(image: &[u8], from: usize) -> Extent
+    ensures { λ r. ⌜ r ≡ dataFrom Phase.Data from (decode (drop from (now (image .entry)))) ⌝ }
+{
+    match shape_at(image, from) {
+        // Among the data every block is data: no kind has to be looked for.
+        Shape::Block(n) => Extent::At(from + 3, n),
+        Shape::Mark => data_further(image, from),
+        Shape::ReelEnd => data_further(image, from),
+        Shape::Broken => data_further(image, from),
     }
 }

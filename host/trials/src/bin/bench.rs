@@ -43,15 +43,16 @@ fn name(kind: Large) -> &'static str {
     }
 }
 
-/// The best times in milliseconds of several runs, which take turns, so that all see the same load.
+/// The best times in milliseconds of several runs, which take turns, so that all see the same load; each
+/// comes first in its round as often as the others, since the first finds the least in the caches.
 fn best<const N: usize>(runs: [&mut dyn FnMut(); N]) -> [f64; N] {
     let mut best = [Duration::MAX; N];
-    let mut runs = runs;
-    for _ in 0..ROUNDS {
-        for (run, best) in runs.iter_mut().zip(&mut best) {
+    for round in 0..ROUNDS {
+        for turn in 0..N {
+            let which = (round + turn) % N;
             let start = Instant::now();
-            run();
-            *best = start.elapsed().min(*best);
+            runs[which]();
+            best[which] = start.elapsed().min(best[which]);
         }
     }
     best.map(|time| time.as_secs_f64() * 1e3)

@@ -1,82 +1,60 @@
-use Prim.Native.Nat.{_-_}
-use lib.ListN.{length}
-use Rattle.content.proofs.Sections.{Passing, passings}
+use Rattle.content.proofs.Sections.{firsts}
 use Rattle.content.proofs.section.next_data.Statement.{statement}
 use Rattle.content.proofs.section.next_data.Tie as tie
 
-abbrev Inv-loop : tie.InvT-loop
-Inv-loop image from phase₀ at₀ phase at = Passing image from at phase
+shape-at-requires : tie.Need-shape-at-requires
+shape-at-requires c κs = search firsts
 
-abbrev μ-loop : tie.MeasureT-loop
-μ-loop image from phase₀ at₀ phase at = length image - at
+enum-known-n : tie.Need-enum-known-n
+enum-known-n c = search firsts
 
-loop-holds : tie.Need-loop-holds Inv-loop μ-loop
-loop-holds c = search passings
+add-t6 : tie.Need-add-t6
+add-t6 c = search firsts
 
-seen-at-requires : tie.Need-seen-at-requires Inv-loop μ-loop
-seen-at-requires c κs = search passings
+enum-told : tie.Need-enum-told
+enum-told c = search firsts
 
-enum-told : tie.Need-enum-told Inv-loop μ-loop
-enum-told c = search passings
+data-further-requires : tie.Need-data-further-requires
+data-further-requires c κs = search firsts
 
-returns : tie.Need-returns Inv-loop μ-loop
-returns c = search passings
+enum-told-2 : tie.Need-enum-told-2
+enum-told-2 c = search firsts
 
-enum-known-k : tie.Need-enum-known-k Inv-loop μ-loop
-enum-known-k c = search passings
+data-further-requires-2 : tie.Need-data-further-requires-2
+data-further-requires-2 c κs = search firsts
 
-turn-of-requires : tie.Need-turn-of-requires Inv-loop μ-loop
-turn-of-requires c κs = search passings
+enum-told-3 : tie.Need-enum-told-3
+enum-told-3 c = search firsts
 
-enum-told-2 : tie.Need-enum-told-2 Inv-loop μ-loop
-enum-told-2 c = search passings
+data-further-requires-3 : tie.Need-data-further-requires-3
+data-further-requires-3 c κs = search firsts
 
-add-t10 : tie.Need-add-t10 Inv-loop μ-loop
-add-t10 c = search passings
+returns : tie.Need-returns
+returns c = search firsts
 
-returns-2 : tie.Need-returns-2 Inv-loop μ-loop
-returns-2 c = search passings
+returns-2 : tie.Need-returns-2
+returns-2 c = search firsts
 
-enum-told-3 : tie.Need-enum-told-3 Inv-loop μ-loop
-enum-told-3 c = search passings
+returns-3 : tie.Need-returns-3
+returns-3 c = search firsts
 
-returns-3 : tie.Need-returns-3 Inv-loop μ-loop
-returns-3 c = search passings
-
-enum-known-p : tie.Need-enum-known-p Inv-loop μ-loop
-enum-known-p c = search passings
-
-add-at : tie.Need-add-at Inv-loop μ-loop
-add-at c = search passings
-
-add-at-2 : tie.Need-add-at-2 Inv-loop μ-loop
-add-at-2 c = search passings
-
-loop-less : tie.Need-loop-less Inv-loop μ-loop
-loop-less c = search passings
-
-loop-again : tie.Need-loop-again Inv-loop μ-loop
-loop-again c = search passings
+returns-4 : tie.Need-returns-4
+returns-4 c = search firsts
 
 pub next-data-spec : {M : Type 1} → statement M
 next-data-spec =
     tie.close
     (tie.spec
-    Inv-loop
-    μ-loop
-    loop-holds
-    seen-at-requires
+    shape-at-requires
+    enum-known-n
+    add-t6
     enum-told
-    returns
-    enum-known-k
-    turn-of-requires
+    data-further-requires
     enum-told-2
-    add-t10
-    returns-2
+    data-further-requires-2
     enum-told-3
+    data-further-requires-3
+    returns
+    returns-2
     returns-3
-    enum-known-p
-    add-at
-    add-at-2
-    loop-less
-    loop-again)
+    returns-4)
