@@ -41,9 +41,9 @@ none-of f r l (Of i w n) k c e z = let some = c .some in absurd (omega arith)
 none-of f r l None k c e z = refl
 
 -- an indicator and a control word that are known
-record Led (a b i w n : ℕ) : Type 0 where
-  indicator : i ≡ a
-  word : w ≡ b
+pub record Led (a b i w n : ℕ) : Type 0 where
+  pub indicator : i ≡ a
+  pub word : w ≡ b
 
 led-of : (a b : ℕ) (u : Unit) (k : ℕ) → If-any (Led a b) u → k ≡ lengthOf u → (k ≡ 0 → ⊥) → Of a b (k - b) ≡ u
 unfolding lengthOf
@@ -67,7 +67,7 @@ led a b = record { indicator = refl; word = refl }
 pub fixed-none : (f r : ℕ) (s : List ℕ) (k : ℕ) → f ≡ 70 → k ≡ lengthOf (fixed r s) → k ≡ 0 → None ≡ unitOf f r s
 fixed-none f r s k g e z = none-of f r (length s) (fixed r s) k (fixed-any f r s) e z ∙ sym (unit-fixed f r s g)
 
-fixed-led : (r : ℕ) (s : List ℕ) → If-any (Led 0 0) (fixed r s)
+pub fixed-led : (r : ℕ) (s : List ℕ) → If-any (Led 0 0) (fixed r s)
 unfolding fixed
 fixed-led r s =
     if-case (If-any (Led 0 0)) (eqb r 0) None _ (λ a. refl)
@@ -85,7 +85,7 @@ fixed-of f r s k g e z =
 pub variable-none : (f r : ℕ) (s : List ℕ) (k : ℕ) → f ≡ 68 → k ≡ lengthOf (variable r s) → k ≡ 0 → None ≡ unitOf f r s
 variable-none f r s k g e z = none-of f r (length s) (variable r s) k (variable-any f r s) e z ∙ sym (unit-variable f r s g)
 
-variable-led : (r : ℕ) (s : List ℕ) → If-any (Led 0 4) (variable r s)
+pub variable-led : (r : ℕ) (s : List ℕ) → If-any (Led 0 4) (variable r s)
 unfolding variable
 variable-led r s = measured-any (Led 0 4) 0 4 r (length s) (numberIn (part 0 4 s)) (λ k a b c. led 0 4)
 
@@ -101,13 +101,13 @@ pub segment-none : (s : List ℕ) (k : ℕ) → k ≡ lengthOf (segment s) → k
 segment-none s k e z = none-of 83 0 (length s) (segment s) k (segment-any 83 0 s refl) e z
 
 -- a segment begins with an indicator and has bytes
-record Indicated (s : List ℕ) (i w n : ℕ) : Type 0 where
-  led-by : Led (getD s 0 0 - 48) 5 i w n
+pub record Indicated (s : List ℕ) (i w n : ℕ) : Type 0 where
+  pub led-by : Led (getD s 0 0 - 48) 5 i w n
   low : 48 ≤ getD s 0 0
   high : getD s 0 0 ≤ 51
   within : w + n ≤ length s
 
-segment-indicated : (s : List ℕ) → If-any (Indicated s) (segment s)
+pub segment-indicated : (s : List ℕ) → If-any (Indicated s) (segment s)
 unfolding segment
 segment-indicated s =
     if-case (If-any (Indicated s)) (leb 48 (getD s 0 0)) _ None

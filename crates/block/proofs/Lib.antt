@@ -3,6 +3,7 @@ pub mod Units
 pub mod Cuts
 pub mod Places
 pub mod Lengths
+pub mod Wholes
 pub mod Loops
 pub mod Turns
 pub mod Blocks

@@ -45,3 +45,12 @@ unitOf f r s = ifB (eqb f F) (fixed r s) (ifB (eqb f D) (variable r s) (ifB (eqb
 unfoldable pub lengthOf : Unit → ℕ
 lengthOf (Of i w n) = w + n
 lengthOf None = 0
+
+-- the bytes of a control word in a file of format f
+unfoldable pub wordOf : ℕ → ℕ
+wordOf f = ifB (eqb f F) 0 (ifB (eqb f D) 4 5)
+
+-- the bytes, with its control word, of a unit that is a whole record of at most r bytes; 0 where it is none
+unfoldable pub wholeOf : ℕ → Unit → ℕ
+wholeOf r (Of i w n) = ifB (eqb i 0) (ifB (leb n r) (w + n) 0) 0
+wholeOf r None = 0

@@ -11,7 +11,7 @@ ghost use Rattle.base.specs.Part.{allAre};
 ghost use Rattle.base.specs.Digits.{isDigit};
 ghost use Rattle.charset.specs.Number.{numberIn};
 ghost use Rattle.base.specs.Format.{F, D, S};
-ghost use Rattle.block.specs.Unit.{pad, fixed, measured, variable, segment, unitOf, lengthOf};
+ghost use Rattle.block.specs.Unit.{pad, fixed, measured, variable, segment, unitOf, lengthOf, wordOf, wholeOf};
 ghost use Rattle.block.specs.Cut.{cut, someUnits, isCut, units};
 ghost use Rattle.block.specs.Turn.{outcome, isTurn, openAfter, turned, Turning, blockOutcome};
 use base::FIXED;
@@ -125,6 +125,19 @@ fn four_digits(a: u8, b: u8, c: u8, d: u8) -> Number
         }
     }
     Number::Wrong
+}
+
+// The bytes of a control word in a file of that format.
+pub fn word_of(format: u32) -> usize
+    ensures { λ r. ⌜ r ≡ wordOf format ⌝ }
+{
+    if format == FIXED as u32 {
+        return 0;
+    }
+    if format == VARIABLE as u32 {
+        return 4;
+    }
+    5
 }
 
 // ---- the unit at a place
@@ -246,6 +259,40 @@ pub fn unit_at(format: u8, size: u32, s: &[u8], at: usize) -> Unit
         return segment_at(s, at);
     }
     Unit::None
+}
+
+// The bytes of the segment at a place, with its control word, where it is a whole record of at most R bytes; or 0.
+fn whole_segment(size: u32, s: &[u8], at: usize) -> usize
+    ensures { λ r. ⌜ r ≡ wholeOf size (segment (drop at (now (s .entry)))) ⌝ }
+{
+    let n = segment_length(s, at);
+    if n == 0 {
+        return 0;
+    }
+    if s[at] != b'0' {
+        return 0;
+    }
+    let most = size as usize;
+    if most < n - 5 {
+        return 0;
+    }
+    n
+}
+
+// The bytes of the unit at a place, with its control word, where it is a whole record of at most R bytes; or 0.
+pub fn whole_length(format: u8, size: u32, s: &[u8], at: usize) -> usize
+    ensures { λ r. ⌜ r ≡ wholeOf size (unitOf format size (drop at (now (s .entry)))) ⌝ }
+{
+    if format == FIXED {
+        return fixed_length(size, s, at);
+    }
+    if format == VARIABLE {
+        return variable_length(size, s, at);
+    }
+    if format == SEGMENTED {
+        return whole_segment(size, s, at);
+    }
+    0
 }
 
 // ---- one or more units, then padding
