@@ -75,15 +75,15 @@ map-any : (P Q : ℕ → ℕ → ℕ → Type 0) → ((i w n : ℕ) → P i w n 
 map-any P Q g (Of i w n) c = g i w n c
 map-any P Q g None c = refl
 
-word-fixed : (f : ℕ) → f ≡ 70 → wordOf f ≡ 0
+pub word-fixed : (f : ℕ) → f ≡ 70 → wordOf f ≡ 0
 unfolding wordOf
 word-fixed f e = if-true _ _ _ (eq-eqb f 70 e)
 
-word-variable : (f : ℕ) → f ≡ 68 → wordOf f ≡ 4
+pub word-variable : (f : ℕ) → f ≡ 68 → wordOf f ≡ 4
 unfolding wordOf
 word-variable f e = if-false _ _ _ (ne-eqb f 70 (λ h. omega arith)) ∙ if-true _ _ _ (eq-eqb f 68 e)
 
-word-segmented : (f : ℕ) → f ≡ 83 → wordOf f ≡ 5
+pub word-segmented : (f : ℕ) → f ≡ 83 → wordOf f ≡ 5
 unfolding wordOf
 word-segmented f e = if-false _ _ _ (ne-eqb f 70 (λ h. omega arith)) ∙ if-false _ _ _ (ne-eqb f 68 (λ h. omega arith))
 

@@ -2,6 +2,7 @@ pub mod Sections
 pub mod Units
 pub mod Rests
 pub mod Measures
+pub mod Wholes
 pub mod Joins
 pub mod Steps
 pub mod Files

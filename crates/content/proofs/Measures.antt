@@ -167,11 +167,15 @@ pub begun-over : (s : List ℕ) (w : Walk) (i start n : ℕ) (v : Walk) (t : Tak
 unfolding begunBy measuredBy
 begun-over s w i start n v t g e q h = sym (ap measuredBy (begun-one s w i start n v t g e q ∙ if-false _ _ _ (lt-leb n (w .size) h)))
 
+pub is-whole : (s : List ℕ) (w : Walk) (i start n : ℕ) (v : Walk) (t : Taken) → Good s w → t ≡ unitFrom s w → t ≡ One i start n v → n ≤ w .size → i ≡ 0
+    → recordAt s w ≡ whole start n v
+unfolding begunBy
+is-whole s w i start n v t g e q h z = begun-one s w i start n v t g e q ∙ if-true _ _ _ (le-leb n (w .size) h) ∙ if-true _ _ _ (eq-eqb i 0 z)
+
 pub begun-whole : (s : List ℕ) (w : Walk) (i start n : ℕ) (v : Walk) (t : Taken) → Good s w → t ≡ unitFrom s w → t ≡ One i start n v → n ≤ w .size → i ≡ 0
     → Whole start n v ≡ measuredBy (recordAt s w)
-unfolding begunBy measuredBy
-begun-whole s w i start n v t g e q h z =
-    sym (ap measuredBy (begun-one s w i start n v t g e q ∙ if-true _ _ _ (le-leb n (w .size) h) ∙ if-true _ _ _ (eq-eqb i 0 z)))
+unfolding measuredBy
+begun-whole s w i start n v t g e q h z = sym (ap measuredBy (is-whole s w i start n v t g e q h z))
 
 pub begun-other : (s : List ℕ) (w : Walk) (i start n : ℕ) (v : Walk) (t : Taken) → Good s w → t ≡ unitFrom s w → t ≡ One i start n v → n ≤ w .size → (i ≡ 0 → ⊥)
     → (i ≡ 1 → ⊥) → None ≡ measuredBy (recordAt s w)

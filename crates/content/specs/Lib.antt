@@ -1,5 +1,6 @@
 pub mod Section
 pub mod Walk
+pub mod Whole
 pub mod Measure
 pub mod File
 pub mod Found

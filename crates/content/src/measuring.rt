@@ -1,12 +1,18 @@
 // The record at a walk's place, by its numbers: where it stands or how long it is, and the walk behind it. It changes no byte.
 ghost use mathlib.Core.Path.{_≡_};
 ghost use Rattle.content.specs.Walk.{Inside, restAt, recordAt};
+ghost use Rattle.content.specs.Whole.{atBlock, wholeAt};
 ghost use Rattle.content.specs.Measure.{tailBy, measuredBy};
 use crate::Walk;
 use crate::unit::Taken;
 use crate::unit::is_inside;
+use crate::unit::moved;
 use crate::unit::unit_from;
 use crate::unit::unit_next;
+use block::whole_length;
+use block::word_of;
+use image::Shape;
+use image::shape_at;
 
 // The rest of a record that was begun: its length and the walk behind it, or a segment out of turn, or none.
 pub enum Tail {
@@ -19,6 +25,44 @@ pub enum Measured {
     Whole(usize, usize, Walk),
     Split(usize, Walk),
     Nothing,
+}
+
+// The walk at the head of the next block, where nothing is left of the current one and a block stands there; else the walk itself.
+pub fn at_block(image: &[u8], w: Walk) -> Walk
+    ensures { λ r. ⌜ r ≡ atBlock (now (image .entry)) w ⌝ }
+{
+    if w.left != 0 {
+        return w;
+    }
+    match shape_at(image, w.at) {
+        Shape::Block(n) => {
+            if n < w.offset {
+                return w;
+            }
+            moved(w, w.at + 3 + w.offset, n - w.offset)
+        }
+        Shape::Mark => w,
+        Shape::ReelEnd => w,
+        Shape::Broken => w,
+    }
+}
+
+// The bytes, with its control word, of the whole record at the head of what is left of the current block; or 0.
+pub fn whole_at(image: &[u8], w: Walk) -> usize
+    ensures { λ r. ⌜ r ≡ wholeAt (now (image .entry)) w ⌝ }
+{
+    if w.size == 0 {
+        return 0;
+    }
+    if !is_inside(image, w) {
+        return 0;
+    }
+    if 256 <= w.format {
+        return 0;
+    }
+    let start = w.at;
+    let end = start + w.left;
+    whole_length(w.format as u8, w.size, &image[start..end], 0)
 }
 
 // The rest of a record that may have `most` bytes more.
@@ -50,8 +94,8 @@ fn rest_length(image: &[u8], most: usize, from: Walk) -> Tail
     }
 }
 
-// The record at a walk's place.
-pub fn measure(image: &[u8], w: Walk) -> Measured
+// The record at a walk's place, unit by unit.
+fn measure_units(image: &[u8], w: Walk) -> Measured
     ensures { λ r. ⌜ r ≡ measuredBy (recordAt (now (image .entry)) w) ⌝ }
 {
     if w.size == 0 {
@@ -79,4 +123,17 @@ pub fn measure(image: &[u8], w: Walk) -> Measured
             }
         }
     }
+}
+
+// The record at a walk's place. Most records stand whole in a block, and are told by one number.
+pub fn measure(image: &[u8], w: Walk) -> Measured
+    ensures { λ r. ⌜ r ≡ measuredBy (recordAt (now (image .entry)) w) ⌝ }
+{
+    let v = at_block(image, w);
+    let k = whole_at(image, v);
+    if k != 0 {
+        let word = word_of(v.format);
+        return Measured::Whole(v.at + word, k - word, moved(v, v.at + k, v.left - k));
+    }
+    measure_units(image, w)
 }

@@ -24,7 +24,7 @@ pub enum Taken {
 }
 
 // The walk at another place, with so many bytes left there.
-fn moved(w: Walk, at: usize, left: usize) -> Walk
+pub(crate) fn moved(w: Walk, at: usize, left: usize) -> Walk
     ensures { λ r. ⌜ r ≡ moved w at left ⌝ }
 {
     Walk {

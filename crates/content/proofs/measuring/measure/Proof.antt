@@ -1,76 +1,52 @@
-use Rattle.content.proofs.Measures.{measures}
+use Rattle.content.proofs.Wholes.{wholes}
 use Rattle.content.proofs.measuring.measure.Statement.{statement}
 use Rattle.content.proofs.measuring.measure.Tie as tie
 
-returns : tie.Need-returns
-returns c = search measures
+at-block-requires : tie.Need-at-block-requires
+at-block-requires c κs = search wholes
 
-is-inside-requires : tie.Need-is-inside-requires
-is-inside-requires c κs = search measures
+whole-at-requires : tie.Need-whole-at-requires
+whole-at-requires c κs = search wholes
+
+word-of-requires : tie.Need-word-of-requires
+word-of-requires c κs = search wholes
+
+add-t7 : tie.Need-add-t7
+add-t7 c = search wholes
+
+sub-t8 : tie.Need-sub-t8
+sub-t8 c = search wholes
+
+add-moved : tie.Need-add-moved
+add-moved c = search wholes
+
+sub-moved : tie.Need-sub-moved
+sub-moved c = search wholes
+
+moved-requires : tie.Need-moved-requires
+moved-requires c κs = search wholes
+
+returns : tie.Need-returns
+returns c = search wholes
+
+measure-units-requires : tie.Need-measure-units-requires
+measure-units-requires c κs = search wholes
 
 returns-2 : tie.Need-returns-2
-returns-2 c = search measures
-
-cast-most : tie.Need-cast-most
-cast-most c = search measures
-
-unit-from-requires : tie.Need-unit-from-requires
-unit-from-requires c κs = search measures
-
-enum-told : tie.Need-enum-told
-enum-told c = search measures
-
-enum-known-i : tie.Need-enum-known-i
-enum-known-i c = search measures
-
-returns-3 : tie.Need-returns-3
-returns-3 c = search measures
-
-returns-4 : tie.Need-returns-4
-returns-4 c = search measures
-
-returns-5 : tie.Need-returns-5
-returns-5 c = search measures
-
-rest-length-requires : tie.Need-rest-length-requires
-rest-length-requires c κs = search measures
-
-enum-told-2 : tie.Need-enum-told-2
-enum-told-2 c = search measures
-
-enum-known-m : tie.Need-enum-known-m
-enum-known-m c = search measures
-
-add-t18 : tie.Need-add-t18
-add-t18 c = search measures
-
-returns-6 : tie.Need-returns-6
-returns-6 c = search measures
-
-returns-7 : tie.Need-returns-7
-returns-7 c = search measures
-
-returns-8 : tie.Need-returns-8
-returns-8 c = search measures
+returns-2 c = search wholes
 
 pub measure-spec : {M : Type 1} → statement M
 measure-spec =
     tie.close
     (tie.spec
+    at-block-requires
+    whole-at-requires
+    word-of-requires
+    add-t7
+    sub-t8
+    add-moved
+    sub-moved
+    moved-requires
     returns
-    is-inside-requires
-    returns-2
-    cast-most
-    unit-from-requires
-    enum-told
-    enum-known-i
-    returns-3
-    returns-4
-    returns-5
-    rest-length-requires
-    enum-told-2
-    enum-known-m
-    add-t18
-    returns-6
-    returns-7
-    returns-8)
+    measure-units-requires
+    returns-2)
