@@ -13,3 +13,4 @@ pub mod Walked
 pub mod Handed
 pub mod Refusals
 pub mod Records
+pub mod Unsplit
