@@ -24,15 +24,15 @@ use Rattle.block.specs.declared.Unit.the-variants.{Of, None}
 use Rattle.block.proofs.Wholes.{whole-unit}
 use Rattle.content.specs.Section.{dataFrom}
 use Rattle.content.specs.Walk.{moved, leftOf, Inside, isInside, taken, unitHere, opened, blockNext, unitIn, unitNext, orNext, unitFrom, whole, recordAt}
-use Rattle.content.specs.Whole.{headBy, atBlock, wholeAt}
+use Rattle.content.specs.Whole.{headBy, atBlock, standsAt, wholeIn, wholeAt}
 use Rattle.content.specs.Measure.{measuredBy}
 use Rattle.content.specs.declared.Walk.{Walk}
 use Rattle.content.specs.declared.unit.Taken.{Taken}
 use Rattle.content.specs.declared.unit.Taken.the-variants.{One, Nothing}
 use Rattle.content.specs.declared.measuring.Measured.the-variants.{Whole}
 use Rattle.content.proofs.Sections.{start-fits, data-first}
-use Rattle.content.proofs.Units.{inside-true, inside-is, no-format, unit-at}
-use Rattle.content.proofs.Measures.{good-inside, is-whole}
+use Rattle.content.proofs.Units.{inside-not, inside-left, inside-true, inside-is, no-format, unit-at}
+use Rattle.content.proofs.Measures.{is-whole}
 
 -- ---- the head of the next block
 
@@ -72,33 +72,43 @@ pub ruleset heads = (block-left, head-short, head-block, head-mark, head-reel-en
 
 -- ---- the number
 
-pub whole-no-size : (s : List ℕ) (w : Walk) → w .size ≡ 0 → 0 ≡ wholeAt s w
-unfolding wholeAt
-whole-no-size s w h = sym (if-true _ _ _ (eq-eqb (w .size) 0 h))
+pub whole-no-size : (s : List ℕ) (f r at left : ℕ) → r ≡ 0 → 0 ≡ wholeIn s (standsAt f r at left)
+unfolding wholeIn
+whole-no-size s f r at left h = sym (if-true _ _ _ (eq-eqb r 0 h))
 
-pub whole-outside : (s : List ℕ) (w : Walk) (b : Bool) → (w .size ≡ 0 → ⊥) → b ≡ isInside s w → not b ≡ true → 0 ≡ wholeAt s w
-unfolding wholeAt
-whole-outside s w b h e t = sym (if-false _ _ _ (ne-eqb (w .size) 0 h) ∙ if-false _ _ _ (sym e ∙ not-true b t))
+outside : (s : List ℕ) (w : Walk) → (w .size ≡ 0 → ⊥) → isInside s w ≡ false → 0 ≡ wholeIn s w
+unfolding wholeIn
+outside s w h e = sym (if-false _ _ _ (ne-eqb (w .size) 0 h) ∙ if-false _ _ _ e)
 
-whole-inside : (s : List ℕ) (w : Walk) (b : Bool) → (w .size ≡ 0 → ⊥) → b ≡ isInside s w → not b ≡ false
-    → wholeOf (w .size) (unitOf (w .format) (w .size) (leftOf s w)) ≡ wholeAt s w
-unfolding wholeAt
-whole-inside s w b h e t = sym (if-false _ _ _ (ne-eqb (w .size) 0 h) ∙ if-true _ _ _ (sym e ∙ not-false b t))
+pub whole-past : (s : List ℕ) (f r at left : ℕ) → (r ≡ 0 → ⊥) → length s < at → 0 ≡ wholeIn s (standsAt f r at left)
+whole-past s f r at left h k = outside s (standsAt f r at left) h (sym (inside-not s (standsAt f r at left) k))
 
-pub whole-no-format : (s : List ℕ) (w : Walk) (b : Bool) → (w .size ≡ 0 → ⊥) → b ≡ isInside s w → not b ≡ false → 256 ≤ w .format → 0 ≡ wholeAt s w
+pub whole-outside : (s : List ℕ) (f r at left : ℕ) → (r ≡ 0 → ⊥) → at ≤ length s → length s - at < left → 0 ≡ wholeIn s (standsAt f r at left)
+whole-outside s f r at left h k m =
+    outside s (standsAt f r at left) h (sym (inside-left s (standsAt f r at left) k) ∙ lt-leb left (length s - at) m)
+
+within : (s : List ℕ) (w : Walk) → (w .size ≡ 0 → ⊥) → Inside s w → wholeOf (w .size) (unitOf (w .format) (w .size) (leftOf s w)) ≡ wholeIn s w
+unfolding wholeIn
+within s w h k = sym (if-false _ _ _ (ne-eqb (w .size) 0 h) ∙ if-true _ _ _ (inside-is s w k))
+
+pub whole-no-format : (s : List ℕ) (f r at left : ℕ) → (r ≡ 0 → ⊥) → at ≤ length s → left ≤ length s - at → 256 ≤ f → 0 ≡ wholeIn s (standsAt f r at left)
 unfolding wholeOf
-whole-no-format s w b h e t f = ap (wholeOf (w .size)) (no-format (w .format) (w .size) (leftOf s w) f) ∙ whole-inside s w b h e t
+whole-no-format s f r at left h k m g =
+    ap (wholeOf r) (no-format f r (leftOf s (standsAt f r at left)) g) ∙ within s (standsAt f r at left) h (omega arith)
 
-pub whole-number : (s : List ℕ) (w : Walk) (b : Bool) (k : ℕ) → (w .size ≡ 0 → ⊥) → b ≡ isInside s w → not b ≡ false
-    → k ≡ wholeOf (w .size) (unitOf (w .format) (w .size) (drop 0 (take (w .at + w .left - w .at) (drop (w .at) s)))) → k ≡ wholeAt s w
+pub whole-number : (s : List ℕ) (f r at left k : ℕ) → (r ≡ 0 → ⊥) → at ≤ length s → left ≤ length s - at
+    → k ≡ wholeOf r (unitOf f r (drop 0 (take (at + left - at) (drop at s)))) → k ≡ wholeIn s (standsAt f r at left)
 unfolding leftOf
-whole-number s w b k h e t m =
-    m ∙ ap (λ (l : List ℕ). wholeOf (w .size) (unitOf (w .format) (w .size) l)) (part-within (w .at) (w .left) s) ∙ whole-inside s w b h e t
+whole-number s f r at left k h a m e =
+    e ∙ ap (λ (l : List ℕ). wholeOf r (unitOf f r l)) (part-within at left s) ∙ within s (standsAt f r at left) h (omega arith)
 
-pub end-fits : (s : List ℕ) (w : Walk) (b : Bool) → b ≡ isInside s w → not b ≡ false → length s < 18446744073709551616 → Fits w64 (w .at + w .left)
-end-fits s w b e t h = omega (arith, good-inside s w b e t)
+pub end-fits : (s : List ℕ) (at left : ℕ) → at ≤ length s → left ≤ length s - at → length s < 18446744073709551616 → Fits w64 (at + left)
+end-fits s at left a m h = omega arith
 
-pub ruleset numbers = (whole-no-size, whole-outside, whole-no-format, whole-number, end-fits, good-inside, needs)
+pub end-within : (s : List ℕ) (at left : ℕ) → at ≤ length s → left ≤ length s - at → at + left ≤ length s
+end-within s at left a m = omega arith
+
+pub ruleset numbers = (whole-no-size, whole-past, whole-outside, whole-no-format, whole-number, end-fits, end-within, needs)
 
 -- ---- from the number to the record
 
@@ -131,14 +141,19 @@ standing-by s v k some inside e z =
       left = omega arith;
     }
 
+-- the offset length has no part in it
+no-offset : (s : List ℕ) (w : Walk) → wholeAt s w ≡ wholeIn s w
+unfolding wholeIn isInside leftOf
+no-offset s w = refl
+
 pub standing : (s : List ℕ) (v : Walk) (k : ℕ) → k ≡ wholeAt s v → (k ≡ 0 → ⊥) → Standing s v k
-unfolding wholeAt
+unfolding wholeIn
 standing s v k e z =
     if-case (λ (x : ℕ). k ≡ x → Standing s v k) (eqb (v .size) 0) 0 _ (λ a q. absurd (z q))
     (λ a. if-case (λ (x : ℕ). k ≡ x → Standing s v k) (isInside s v) _ 0
     (λ b q. standing-by s v k (eqb-false (v .size) 0 a) (inside-true s v true (sym b) refl) q z)
     (λ b q. absurd (z q)))
-    e
+    (e ∙ no-offset s v)
 
 -- a unit at the head of what is left for v is the unit at w's place, over the same file
 pub record Leads (s : List ℕ) (w v : Walk) : Type 0 where

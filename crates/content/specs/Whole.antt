@@ -23,6 +23,13 @@ headBy w Broken = w
 unfoldable pub atBlock : List ℕ → Walk → Walk
 atBlock s w = ifB (eqb (w .left) 0) (headBy w (shape (drop (w .at) s))) w
 
+-- the walk of these numbers; the offset length has no part in what follows
+abbrev pub standsAt : ℕ → ℕ → ℕ → ℕ → Walk
+standsAt format size at left = record { format = format; size = size; offset = 0; at = at; left = left }
+
 -- the bytes, with its control word, of the whole record at the head of what is left of the current block; 0 where there is none
-unfoldable pub wholeAt : List ℕ → Walk → ℕ
-wholeAt s w = ifB (eqb (w .size) 0) 0 (ifB (isInside s w) (wholeOf (w .size) (unitOf (w .format) (w .size) (leftOf s w))) 0)
+unfoldable pub wholeIn : List ℕ → Walk → ℕ
+wholeIn s w = ifB (eqb (w .size) 0) 0 (ifB (isInside s w) (wholeOf (w .size) (unitOf (w .format) (w .size) (leftOf s w))) 0)
+
+abbrev pub wholeAt : List ℕ → Walk → ℕ
+wholeAt s w = wholeIn s (standsAt (w .format) (w .size) (w .at) (w .left))

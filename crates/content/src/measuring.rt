@@ -1,7 +1,7 @@
 // The record at a walk's place, by its numbers: where it stands or how long it is, and the walk behind it. It changes no byte.
 ghost use mathlib.Core.Path.{_≡_};
 ghost use Rattle.content.specs.Walk.{Inside, restAt, recordAt};
-ghost use Rattle.content.specs.Whole.{atBlock, wholeAt};
+ghost use Rattle.content.specs.Whole.{atBlock, standsAt, wholeIn};
 ghost use Rattle.content.specs.Measure.{tailBy, measuredBy};
 use crate::Walk;
 use crate::unit::Taken;
@@ -47,22 +47,25 @@ pub fn at_block(image: &[u8], w: Walk) -> Walk
     }
 }
 
-// The bytes, with its control word, of the whole record at the head of what is left of the current block; or 0.
-pub fn whole_at(image: &[u8], w: Walk) -> usize
-    ensures { λ r. ⌜ r ≡ wholeAt (now (image .entry)) w ⌝ }
+// The bytes, with its control word, of the whole record at the head of what is left of a block; or 0. It is asked for each record, and so takes its walk
+// as numbers.
+pub fn whole_at(image: &[u8], format: u32, size: u32, at: usize, left: usize) -> usize
+    ensures { λ r. ⌜ r ≡ wholeIn (now (image .entry)) (standsAt format size at left) ⌝ }
 {
-    if w.size == 0 {
+    if size == 0 {
         return 0;
     }
-    if !is_inside(image, w) {
+    if image.len() < at {
         return 0;
     }
-    if 256 <= w.format {
+    if image.len() - at < left {
         return 0;
     }
-    let start = w.at;
-    let end = start + w.left;
-    whole_length(w.format as u8, w.size, &image[start..end], 0)
+    if 256 <= format {
+        return 0;
+    }
+    let end = at + left;
+    whole_length(format as u8, size, &image[at..end], 0)
 }
 
 // The rest of a record that may have `most` bytes more.
@@ -130,7 +133,7 @@ pub fn measure(image: &[u8], w: Walk) -> Measured
     ensures { λ r. ⌜ r ≡ measuredBy (recordAt (now (image .entry)) w) ⌝ }
 {
     let v = at_block(image, w);
-    let k = whole_at(image, v);
+    let k = whole_at(image, v.format, v.size, v.at, v.left);
     if k != 0 {
         let word = word_of(v.format);
         return Measured::Whole(v.at + word, k - word, moved(v, v.at + k, v.left - k));
