@@ -1,4 +1,4 @@
--- Laws of the records from a walk on: the equations of `recordsAt`, and how a record is made of its segments. Assumes nothing.
+-- Laws of the records from a walk on: the equations of `recordsAt` and `endOf`, and how a record is made of its segments. Assumes nothing.
 use mathlib.Core.Path.{_≡_, refl, sym, ap, _∙_, subst}
 use mathlib.Core.Bool.{true}
 use mathlib.Core.List.{List, [], _∷_, _++_, map}
@@ -15,8 +15,8 @@ use Rattle.base.proofs.Parts.{length-part}
 use Rattle.sheet.specs.Flat.{sum}
 use Rattle.content.specs.Walk.{Inside, isInside, unitNext, unitFrom, firstSegment, nextSegment, Rest, ends, fails, before, restBy, restF, restAt, Record, whole, split, nothing, splitBy, begunBy, recordAt}
 use Rattle.content.specs.Measure.{isEnded, bytesBehind, measuredBy, recordBytes}
-use Rattle.content.specs.Walked.{handed, Walks}
-use Rattle.content.specs.Records.{recordsBy, recordsF, recordsAt, factsOf}
+use Rattle.content.specs.Walked.{handed, Walks, alongBy, alongF, along, endOf}
+use Rattle.content.specs.Records.{recordsAt, factsOf}
 use Rattle.content.specs.declared.Walk.{Walk}
 use Rattle.content.specs.declared.counting.Facts.{Facts}
 use Rattle.content.specs.declared.measuring.Measured.{Measured}
@@ -119,42 +119,64 @@ handed-passes s w r v e = subst (If-ends (Passes s w)) e (handed-any s w)
 
 -- ---- the equations
 
-same-by : (x : Rest) (g h : Walk → List (List ℕ)) → ((r : List ℕ) (v : Walk) → x ≡ ends r v → g v ≡ h v) → recordsBy x g ≡ recordsBy x h
-unfolding recordsBy
-same-by (ends r v) g h e = ap (λ (rs : List (List ℕ)). r ∷ rs) (e r v refl)
-same-by fails g h e = refl
+same-by : {A : Type 0} (over : Walk → A) (more : List ℕ → A → A) (w : Walk) (x : Rest) (g h : Walk → A)
+    → ((r : List ℕ) (v : Walk) → x ≡ ends r v → g v ≡ h v) → alongBy over more w x g ≡ alongBy over more w x h
+unfolding alongBy
+same-by over more w (ends r v) g h e = ap (more r) (e r v refl)
+same-by over more w fails g h e = refl
 
-enough : (f g : ℕ) (s : List ℕ) (w : Walk) → length s - w .at < f → length s - w .at < g → recordsF f s w ≡ recordsF g s w
-unfolding recordsF
-enough zero g s w h k = absurd (omega arith)
-enough (suc f) zero s w h k = absurd (omega arith)
-enough (suc f) (suc g) s w h k =
-    same-by (handed s (recordAt s w)) (λ v. recordsF f s v) (λ v. recordsF g s v)
+enough : {A : Type 0} (over : Walk → A) (more : List ℕ → A → A) (f g : ℕ) (s : List ℕ) (w : Walk) → length s - w .at < f → length s - w .at < g
+    → alongF over more f s w ≡ alongF over more g s w
+unfolding alongF
+enough over more zero g s w h k = absurd (omega arith)
+enough over more (suc f) zero s w h k = absurd (omega arith)
+enough over more (suc f) (suc g) s w h k =
+    same-by over more w (handed s (recordAt s w)) (λ v. alongF over more f s v) (λ v. alongF over more g s v)
     (λ r v e.
     let p = handed-passes s w r v e in
     let on = p .onward in
     let in' = p .inside in
-    enough f g s v (omega arith) (omega arith))
+    enough over more f g s v (omega arith) (omega arith))
 
-records-at : (s : List ℕ) (w : Walk) → recordsAt s w ≡ recordsBy (handed s (recordAt s w)) (λ v. recordsAt s v)
-unfolding recordsAt recordsF
-records-at s w =
-    same-by (handed s (recordAt s w)) (λ v. recordsF (length s) s v) (λ v. recordsF (suc (length s)) s v)
+along-at : {A : Type 0} (over : Walk → A) (more : List ℕ → A → A) (s : List ℕ) (w : Walk)
+    → along over more s w ≡ alongBy over more w (handed s (recordAt s w)) (λ v. along over more s v)
+unfolding along alongF
+along-at over more s w =
+    same-by over more w (handed s (recordAt s w)) (λ v. alongF over more (length s) s v) (λ v. alongF over more (suc (length s)) s v)
     (λ r v e.
     let p = handed-passes s w r v e in
     let on = p .onward in
     let in' = p .inside in
-    enough (length s) (suc (length s)) s v (omega arith) (omega arith))
+    enough over more (length s) (suc (length s)) s v (omega arith) (omega arith))
+
+along-more : {A : Type 0} (over : Walk → A) (more : List ℕ → A → A) (s : List ℕ) (w : Walk) (r : List ℕ) (v : Walk) → handed s (recordAt s w) ≡ ends r v
+    → along over more s w ≡ more r (along over more s v)
+unfolding alongBy
+along-more over more s w r v e = along-at over more s w ∙ ap (λ (x : Rest). alongBy over more w x (λ u. along over more s u)) e
+
+along-over : {A : Type 0} (over : Walk → A) (more : List ℕ → A → A) (s : List ℕ) (w : Walk) → handed s (recordAt s w) ≡ fails → along over more s w ≡ over w
+unfolding alongBy
+along-over over more s w e = along-at over more s w ∙ ap (λ (x : Rest). alongBy over more w x (λ u. along over more s u)) e
 
 -- a record, and those from the walk behind it on
 pub records-more : (s : List ℕ) (w : Walk) (r : List ℕ) (v : Walk) → handed s (recordAt s w) ≡ ends r v → recordsAt s w ≡ r ∷ recordsAt s v
-unfolding recordsBy
-records-more s w r v e = records-at s w ∙ ap (λ (x : Rest). recordsBy x (λ u. recordsAt s u)) e
+unfolding recordsAt
+records-more s w r v e = along-more (λ u. []) (λ t ts. t ∷ ts) s w r v e
 
 -- no record, and so none at all
 pub records-over : (s : List ℕ) (w : Walk) → handed s (recordAt s w) ≡ fails → recordsAt s w ≡ []
-unfolding recordsBy
-records-over s w e = records-at s w ∙ ap (λ (x : Rest). recordsBy x (λ u. recordsAt s u)) e
+unfolding recordsAt
+records-over s w e = along-over (λ u. []) (λ t ts. t ∷ ts) s w e
+
+-- a walk ends where the walk behind its next record does
+pub end-more : (s : List ℕ) (w : Walk) (r : List ℕ) (v : Walk) → handed s (recordAt s w) ≡ ends r v → endOf s w ≡ endOf s v
+unfolding endOf
+end-more s w r v e = along-more (λ u. u .at + u .left) (λ t e. e) s w r v e
+
+-- and without one behind what is left of its block
+pub end-over : (s : List ℕ) (w : Walk) → handed s (recordAt s w) ≡ fails → endOf s w ≡ w .at + w .left
+unfolding endOf
+end-over s w e = along-over (λ u. u .at + u .left) (λ t e. e) s w e
 
 -- a walk that hands out exactly these records
 pub walks-records : (s : List ℕ) (w : Walk) (rs : List (List ℕ)) → Walks s w rs → recordsAt s w ≡ rs
@@ -199,6 +221,15 @@ measured-whole s w start n v m e q = records-more s w (part start n s) v (handed
 pub measured-split : (s : List ℕ) (w : Walk) (n : ℕ) (v : Walk) (m : Measured) → m ≡ measuredBy (recordAt s w) → m ≡ Split n v
     → recordsAt s w ≡ recordBytes (recordAt s w) ∷ recordsAt s v
 measured-split s w n v m e q = records-more s w (recordBytes (recordAt s w)) v (handed-split s n v (recordAt s w) (sym e ∙ q) .0)
+
+pub measured-end-nothing : (s : List ℕ) (w : Walk) (m : Measured) → m ≡ measuredBy (recordAt s w) → m ≡ None → endOf s w ≡ w .at + w .left
+measured-end-nothing s w m e q = end-over s w (handed-nothing s (recordAt s w) (sym e ∙ q))
+
+pub measured-end-whole : (s : List ℕ) (w : Walk) (start n : ℕ) (v : Walk) (m : Measured) → m ≡ measuredBy (recordAt s w) → m ≡ Whole start n v → endOf s w ≡ endOf s v
+measured-end-whole s w start n v m e q = end-more s w (part start n s) v (handed-whole s start n v (recordAt s w) (sym e ∙ q))
+
+pub measured-end-split : (s : List ℕ) (w : Walk) (n : ℕ) (v : Walk) (m : Measured) → m ≡ measuredBy (recordAt s w) → m ≡ Split n v → endOf s w ≡ endOf s v
+measured-end-split s w n v m e q = end-more s w (recordBytes (recordAt s w)) v (handed-split s n v (recordAt s w) (sym e ∙ q) .0)
 
 pub split-long : (s : List ℕ) (w : Walk) (n : ℕ) (v : Walk) (m : Measured) → m ≡ measuredBy (recordAt s w) → m ≡ Split n v → length (recordBytes (recordAt s w)) ≡ n
 split-long s w n v m e q = handed-split s n v (recordAt s w) (sym e ∙ q) .1

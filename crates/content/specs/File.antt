@@ -15,7 +15,7 @@ use Rattle.order.specs.Kind.{hdr, eov, eof, isKind}
 use Rattle.order.specs.Due.{dueAfter}
 use Rattle.order.specs.declared.Kind.{Kind}
 use Rattle.order.specs.declared.Phase.{Phase}
-use Rattle.order.specs.declared.Phase.the-variants.{Reel, Header}
+use Rattle.order.specs.declared.Phase.the-variants.{Reel, Header, Data}
 use Rattle.order.specs.declared.Due.{Due}
 use Rattle.order.specs.declared.Due.the-variants.{To, Wrong}
 use Rattle.label.specs.Field.{formatOf, recordLengthOf, offsetOf}
@@ -81,6 +81,10 @@ firstFile s = headerFrom false Reel (length s) 5 (items s)
 -- the file behind one, from behind that file's HDR2 on
 unfoldable pub nextFile : List ℕ → FileAt → NextFile
 nextFile s f = headerFrom false (Header 2) (f .first) (f .second + 80) (decode (drop (f .second + 80) s))
+
+-- the file behind one, from a place between two items of that file's data on
+unfoldable pub fileBehind : List ℕ → FileAt → ℕ → NextFile
+fileBehind s f at = headerFrom false Data (f .first) at (decode (drop at s))
 
 -- ---- files by their numbers
 

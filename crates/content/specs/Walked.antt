@@ -1,7 +1,8 @@
--- What a walk hands out, record by record, and what going from file to file meets.
+-- What a walk hands out, record by record, where it ends, and what going from file to file meets.
+-- `along` counts down a number that is large enough; `along-more` and `along-over` (proofs/Records.antt) are its equations.
 use mathlib.Core.Path.{_≡_}
 use mathlib.Core.List.{List, [], _∷_}
-use Prim.Native.Nat.{ℕ, _+_, _≤_}
+use Prim.Native.Nat.{ℕ, zero, suc, _+_, _≤_}
 use lib.ListN.{length}
 use Rattle.base.specs.Part.{part}
 use Rattle.volume.specs.Meaning.{File, fieldsFrom}
@@ -27,6 +28,22 @@ handed s nothing = fails
 abbrev pub Walks : List ℕ → Walk → List (List ℕ) → Type 0
 Walks s w [] = handed s (recordAt s w) ≡ fails
 Walks s w (r ∷ rs) = (v : Walk) × (handed s (recordAt s w) ≡ ends r v) × Walks s v rs
+
+-- a walk taken to its end: `more` with each record that is handed out, and `over` with the walk behind the last
+unfoldable pub alongBy : {A : Type 0} → (Walk → A) → (List ℕ → A → A) → Walk → Rest → (Walk → A) → A
+alongBy over more w (ends r v) others = more r (others v)
+alongBy over more w fails others = over w
+
+unfoldable pub alongF : {A : Type 0} → (Walk → A) → (List ℕ → A → A) → ℕ → List ℕ → Walk → A
+alongF over more zero s w = over w
+alongF over more (suc f) s w = alongBy over more w (handed s (recordAt s w)) (λ v. alongF over more f s v)
+
+unfoldable pub along : {A : Type 0} → (Walk → A) → (List ℕ → A → A) → List ℕ → Walk → A
+along over more s w = alongF over more (suc (length s)) s w
+
+-- the place behind what is left of the block in which it ends
+unfoldable pub endOf : List ℕ → Walk → ℕ
+endOf s w = along (λ v. v .at + v .left) (λ r e. e) s w
 
 -- a file of the meaning where it stands: its first HDR1 and HDR2 lie within the image and have its fields, and the walk hands out its records
 pub record FileIs (s : List ℕ) (f : FileAt) (d : File) : Type 0 where
