@@ -1,4 +1,5 @@
 pub mod Sections
+pub mod Searches
 pub mod Units
 pub mod Rests
 pub mod Measures

@@ -24,11 +24,13 @@ use Rattle.content.specs.declared.measuring.Measured.the-variants.{Whole
 use Rattle.content.specs.declared.unit.Taken.{Taken}
 use Rattle.content.specs.declared.unit.Taken.the-variants.{One, Nothing}
 use Rattle.content.proofs.Units.{inside-true, inside-is}
+use Rattle.content.proofs.Searches.{Follows, Leads}
 use Rattle.content.proofs.Rests.{Behind, next-behind, from-behind}
 use Rattle.content.proofs.Joins.{Going, going, not-nothing, Splitting, splitting, split-not-nothing}
 use Rattle.content.proofs.Steps.{split-stands}
 
--- ---- a record handed out is passed: the walk behind it is further on by at least its bytes, inside the image, and over the same file
+-- ---- a record handed out is passed: the walk behind it is further on by at least its bytes, inside the image and over the same file, and
+-- from its block on the same file follows
 
 pub record Passes (s : List ℕ) (w : Walk) (r : List ℕ) (v : Walk) : Type 0 where
   pub onward : w .at < v .at
@@ -37,6 +39,7 @@ pub record Passes (s : List ℕ) (w : Walk) (r : List ℕ) (v : Walk) : Type 0 w
   pub format : v .format ≡ w .format
   pub size : v .size ≡ w .size
   pub offset : v .offset ≡ w .offset
+  pub leads : Leads s (w .at + w .left) (v .at + v .left)
 
 abbrev If-ends : (List ℕ → Walk → Type 0) → Rest → Type 0
 If-ends P (ends r v) = P r v
@@ -53,6 +56,7 @@ passes-unit s w start n v b =
       format = b .format;
       size = b .size;
       offset = b .offset;
+      leads = b .leads;
     }
 
 passes-more : (s : List ℕ) (w : Walk) (start n : ℕ) (v : Walk) (r : List ℕ) (u : Walk) → Behind s w start n v → Passes s v r u → Passes s w (part start n s ++ r) u
@@ -65,6 +69,7 @@ passes-more s w start n v r u b p =
       format = p .format ∙ b .format;
       size = p .size ∙ b .size;
       offset = p .offset ∙ b .offset;
+      leads = λ x f. p .leads x (b .leads x f);
     }
 
 passes-before : (s : List ℕ) (w : Walk) (start n : ℕ) (v : Walk) (x : Rest) → Behind s w start n v → If-ends (Passes s v) x
@@ -182,6 +187,17 @@ end-over s w e = along-over (λ u. u .at + u .left) (λ t e. e) s w e
 pub walks-records : (s : List ℕ) (w : Walk) (rs : List (List ℕ)) → Walks s w rs → recordsAt s w ≡ rs
 walks-records s w [] h = records-over s w h
 walks-records s w (r ∷ rs) (v, e, h) = records-more s w r v e ∙ ap (λ (ts : List (List ℕ)). r ∷ ts) (walks-records s v rs h)
+
+-- it ends inside the image, and from there on the same file follows
+pub walks-end : (s : List ℕ) (w : Walk) (rs : List (List ℕ)) → Walks s w rs → Inside s w → (endOf s w ≤ length s) × Leads s (w .at + w .left) (endOf s w)
+walks-end s w [] h inside =
+    let e = sym (end-over s w h) in
+    (subst (λ (n : ℕ). n ≤ length s) e inside, λ x f. subst (Follows s x) e f)
+walks-end s w (r ∷ rs) (v, e, h) inside =
+    let p = handed-passes s w r v e in
+    let (in', on) = walks-end s v rs h (p .inside) in
+    let q = sym (end-more s w r v e) in
+    (subst (λ (n : ℕ). n ≤ length s) q in', λ x f. subst (Follows s x) q (on x (p .leads x f)))
 
 -- ---- the record at a walk's place, by its numbers
 

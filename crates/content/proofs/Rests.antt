@@ -25,9 +25,10 @@ use Rattle.content.specs.declared.unit.Place.the-variants.{At, Nowhere a
 use Rattle.content.specs.declared.unit.Taken.{Taken}
 use Rattle.content.specs.declared.unit.Taken.the-variants.{One, Nothing}
 use Rattle.content.proofs.Sections.{data-within}
+use Rattle.content.proofs.Searches.{Follows, Leads, data-leads}
 use Rattle.content.proofs.Units.{unit-at}
 
--- ---- a unit is further on and inside the image, and the walk behind it is over the same file
+-- ---- a unit is further on and inside the image, the walk behind it is over the same file, and from its block on the same file follows
 
 pub record Behind (s : List ℕ) (w : Walk) (start n : ℕ) (v : Walk) : Type 0 where
   pub onward : w .at < v .at
@@ -37,6 +38,7 @@ pub record Behind (s : List ℕ) (w : Walk) (start n : ℕ) (v : Walk) : Type 0 
   pub format : v .format ≡ w .format
   pub size : v .size ≡ w .size
   pub offset : v .offset ≡ w .offset
+  pub leads : Leads s (w .at + w .left) (v .at + v .left)
 
 abbrev If-one : (ℕ → ℕ → Walk → Type 0) → Taken → Type 0
 If-one P (One i start n v) = P start n v
@@ -49,7 +51,17 @@ here-behind s w (Of i c n) h e =
     let some = k .some in
     let within = k .within in
     let left = k .left in
-    record { onward = omega arith; bytes = omega arith; inside = omega arith; within = within; format = refl; size = refl; offset = refl }
+    let same : w .at + w .left ≡ w .at + c + n + (w .left - (c + n)) = omega arith in
+    record {
+      onward = omega arith;
+      bytes = omega arith;
+      inside = omega arith;
+      within = within;
+      format = refl;
+      size = refl;
+      offset = refl;
+      leads = λ x f. subst (Follows s x) same f;
+    }
 here-behind s w None h e = refl
 
 -- the next block, behind its offset
@@ -59,6 +71,7 @@ pub record Opened (s : List ℕ) (w v : Walk) : Type 0 where
   pub format : v .format ≡ w .format
   pub size : v .size ≡ w .size
   pub offset : v .offset ≡ w .offset
+  pub leads : Leads s (w .at + w .left) (v .at + v .left)
 
 abbrev If-place : (Walk → Type 0) → Place → Type 0
 If-place P (At v) = P v
@@ -71,7 +84,17 @@ open-by s w (Block start n) e =
     let a = c .onward in
     let b = c .within in
     if-case (If-place (Opened s w)) (leb (w .offset) n) (At (moved w (start + w .offset) (n - w .offset))) Off
-    (λ t. let k = leb-true (w .offset) n t in record { onward = omega arith; inside = omega arith; format = refl; size = refl; offset = refl }) (λ _. refl)
+    (λ t.
+    let k = leb-true (w .offset) n t in
+    let same : start + n ≡ start + w .offset + (n - w .offset) = omega arith in
+    record {
+      onward = omega arith;
+      inside = omega arith;
+      format = refl;
+      size = refl;
+      offset = refl;
+      leads = λ x f. subst (Follows s x) same (data-leads s (w .at + w .left) start n e x f);
+    }) (λ _. refl)
 open-by s w Nowhere e = refl
 
 block-behind : (s : List ℕ) (w : Walk) → If-place (Opened s w) (blockNext s w)
@@ -88,6 +111,7 @@ behind-opened s w v (One i start n u) o b =
       format = b .format ∙ o .format;
       size = b .size ∙ o .size;
       offset = b .offset ∙ o .offset;
+      leads = λ x f. b .leads x (o .leads x f);
     }
 behind-opened s w v Nothing o b = refl
 

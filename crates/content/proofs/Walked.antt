@@ -23,7 +23,6 @@ use Rattle.order.specs.Due.{dueAfter}
 use Rattle.order.specs.declared.Kind.{Kind}
 use Rattle.order.specs.declared.Phase.{Phase}
 use Rattle.order.specs.declared.Phase.the-variants.{Header, Data}
-use Rattle.order.specs.declared.Due.{Due}
 use Rattle.order.specs.declared.Due.the-variants.{To}
 use Rattle.label.specs.Field.{formatOf, blockLengthOf, recordLengthOf, offsetOf, setOf}
 use Rattle.label.specs.Judged.{labelFault}
@@ -36,58 +35,30 @@ use Rattle.volume.specs.Run.{Run, ended, stopped, further, next, runs, imageVer
 use Rattle.volume.specs.Meaning.{File, joined, collect, setFrom, fieldsFrom, meaningOf, handedOut, content}
 use Rattle.volume.specs.Accepted.{Faultless, All, MayEnd, behind}
 use Rattle.volume.proofs.Accepted.{Ends, faultless-go, all-ends, accepted-iff}
-use Rattle.sheet.proofs.Moves.{Stage, stage, before, within, fileOver, reelOver, Quiet, Move, stays, nextReel, header1, nextFile as newFile, header2, datum, eof1, eov1, finish, due-goes}
+use Rattle.sheet.proofs.Moves.{Stage, stage, before, within, fileOver, reelOver, Numbered, Quiet, Move, stays, nextReel, header1, nextFile as newFile, header2, datum, eof1, eov1, finish, due-goes}
 use Rattle.sheet.proofs.Stages.{View, view, Holds, isOpen, second-same, end-idle}
 use Rattle.sheet.proofs.Steps.{view-quiet, events-quiet, label-none, context-none}
 use Rattle.sheet.proofs.Legality.{header-long, Kept, kept-start, kept-step, image-end}
-use Rattle.content.specs.Section.{placeBehind, seenAt, turnOf, turnTo, follow, dataFrom}
+use Rattle.content.specs.Section.{placeBehind, dataFrom}
 use Rattle.content.specs.Walk.{opened, unitIn, begunBy}
-use Rattle.content.specs.File.{markFrom, walkFrom, beginsFile, goesOnBehind, firstBehind, onward, headerFrom, firstFile, nextFile, fromFile, filesOn, fileNumbered, begunAt}
+use Rattle.content.specs.File.{markFrom, walkFrom, beginsFile, goesOnBehind, firstBehind, headerFrom, firstFile, nextFile, fileBehind, fromFile, filesOn, fileNumbered, begunAt}
 use Rattle.content.specs.File.{begunBy as startedBy}
-use Rattle.content.specs.Walked.{handed, Walks, FileIs, Filed}
+use Rattle.content.specs.Walked.{handed, Walks, endOf, FileIs, Filed}
 use Rattle.content.specs.declared.Walk.{Walk}
 use Rattle.content.specs.declared.FileAt.{FileAt}
 use Rattle.content.specs.declared.NextFile.{NextFile}
 use Rattle.content.specs.declared.NextFile.the-variants.{At as There, Nowhere as NoFile}
 use Rattle.content.specs.declared.Begun.the-variants.{At as Started, Refused}
-use Rattle.content.specs.declared.section.Seen.{Seen}
-use Rattle.content.specs.declared.section.Seen.the-variants.{Item as Of, Nothing}
-use Rattle.content.specs.declared.section.Turn.{Turn}
 use Rattle.content.specs.declared.section.Extent.{Extent}
 use Rattle.content.specs.declared.section.Extent.the-variants.{At as Block, Nowhere}
 use Rattle.content.specs.declared.unit.Place.{Place}
-use Rattle.content.proofs.Sections.{sees, unseen}
+use Rattle.content.proofs.Searches.{ItemAt, item-at, InOrder, data-on, data-block, data-end, header-on, quiet-begins, quiet-goes, Follows, Leads, follows-here, open-step}
+use Rattle.content.proofs.Records.{walks-end}
 use Rattle.content.proofs.Files.{header-item}
 use Rattle.content.proofs.Blocks.{Hands, block-hands, next-walks}
 use Rattle.content.proofs.Phases.{labels, second-behind, block-data, mark-data, label-labels, block-no-mark, record-some}
 
--- ---- the items of an image by their places
-
-pub record ItemAt (s : List ℕ) (at : ℕ) (x : Item) (xs : List Item) : Type 0 where
-  pub rest : decode (drop (placeBehind at x) s) ≡ xs
-  pub within : placeBehind at x ≤ length s
-  pub bytes : bytesIn x ≡ part (at + 3) (length (bytesIn x)) s
-
-item-at : (s : List ℕ) (at : ℕ) (x : Item) (xs : List Item) → decode (drop at s) ≡ x ∷ xs → isItem x ≡ true → ItemAt s at x xs
-unfolding placeBehind isItem
-item-at s at x xs h good = by-seen (seenAt s Data at) refl
-  where
-    by-seen : (y : Seen) → y ≡ seenAt s Data at → ItemAt s at x xs
-    by-seen Nothing e =
-        unseen s Data at Nothing e refl (λ (ys : List Item). ys ≡ x ∷ xs → ItemAt s at x xs)
-        (λ q. let z : _≡_ {A = ℕ} 0 1 = cc in absurd (omega arith))
-        (λ q. let b : x ≡ broken = cc in absurd (false≢true (subst (λ (y : Item). isItem y ≡ true) b good))) h
-    by-seen (Of k n) e =
-        let c = sees s Data at n k (Of k n) e refl in
-        let all : c .item ∷ decode (drop (at + 3 + n) s) ≡ x ∷ xs = sym (c .here) ∙ h in
-        let a : c .item ≡ x = cc in
-        let b : decode (drop (at + 3 + n) s) ≡ xs = cc in
-        let l : n ≡ length (bytesIn x) = sym (c .long) ∙ ap (λ (y : Item). length (bytesIn y)) a in
-        record {
-          rest = ap (λ (m : ℕ). decode (drop (at + 3 + m) s)) (sym l) ∙ b;
-          within = subst (λ (m : ℕ). at + 3 + m ≤ length s) l (c .within);
-          bytes = ap bytesIn (sym a) ∙ c .bytes ∙ ap (λ (m : ℕ). part (at + 3) m s) l;
-        }
+-- ---- a whole image in order
 
 all-first : (x : Item) (xs : List Item) → allItems (x ∷ xs) ≡ true → isItem x ≡ true
 unfolding allItems
@@ -97,37 +68,20 @@ all-rest : (x : Item) (xs : List Item) → allItems (x ∷ xs) ≡ true → allI
 unfolding allItems
 all-rest x xs = if-case (λ (b : Bool). b ≡ true → allItems xs ≡ true) (isItem x) (allItems xs) false (λ _ q. q) (λ _ q. absurd (false≢true q))
 
--- ---- one item, as the two searches take it
+-- every item of an accepted image is due where it stands
+in-order : (s : List ℕ) (xs : List Item) (t : State) (at : ℕ) → All MayEnd t xs → decode (drop at s) ≡ xs → allItems xs ≡ true → InOrder s (t .phase) at xs
+unfolding stateAfter
+in-order s [] t at all e good = tt
+in-order s (x ∷ xs) t at (q, f, all) e good =
+    let c = item-at s at x xs e (all-first x xs good) in
+    (q, c, f .due, in-order s xs (behind t x q) (placeBehind at x) all (c .rest) (all-rest x xs good))
 
-data-on : (p q : Phase) (at : ℕ) (x : Item) (xs : List Item) (k : Kind) → kindIn p x ≡ k → isKind k dataBlock ≡ false → isKind k (eof 1) ≡ false → dueAfter p k ≡ To q
-    → dataFrom p at (x ∷ xs) ≡ dataFrom q (placeBehind at x) xs
-unfolding dataFrom turnOf turnTo follow
-data-on p q at x xs k e a b d =
-    ap (λ (t : Turn). follow t at x (λ r. dataFrom r (placeBehind at x) xs))
-    (ap (turnOf p) e ∙ if-false _ _ _ a ∙ if-false _ _ _ b ∙ ap turnTo d)
+-- ---- the labels of a file by their places
 
-data-block : (p : Phase) (at : ℕ) (x : Item) (xs : List Item) → kindIn p x ≡ dataBlock → dataFrom p at (x ∷ xs) ≡ Block (at + 3) (length (bytesIn x))
-unfolding dataFrom turnOf follow isKind ifB
-data-block p at x xs e = ap (λ (k : Kind). follow (turnOf p k) at x (λ r. dataFrom r (placeBehind at x) xs)) e
-
-data-end : (p : Phase) (at : ℕ) (x : Item) (xs : List Item) → kindIn p x ≡ eof 1 → dataFrom p at (x ∷ xs) ≡ Nowhere
-unfolding dataFrom turnOf follow isKind ifB
-data-end p at x xs e = ap (λ (k : Kind). follow (turnOf p k) at x (λ r. dataFrom r (placeBehind at x) xs)) e
-
--- an item that begins no file
-header-on : (g : Bool) (p q : Phase) (first at : ℕ) (x : Item) (xs : List Item) (k : Kind) → kindIn p x ≡ k → beginsFile g k ≡ false → dueAfter p k ≡ To q
-    → headerFrom g p first at (x ∷ xs) ≡ headerFrom (goesOnBehind g k) q (firstBehind first (at + 3) k) (placeBehind at x) xs
-unfolding onward
-header-on g p q first at x xs k e b d =
-    header-item g p first at x xs k e ∙ if-false _ _ _ b
-    ∙ ap (λ (r : Due). onward r (λ y. headerFrom (goesOnBehind g k) y (firstBehind first (at + 3) k) (placeBehind at x) xs)) d
-
--- one that begins a file
+-- an item that begins a file
 header-here : (g : Bool) (p : Phase) (first at : ℕ) (x : Item) (xs : List Item) (k : Kind) → kindIn p x ≡ k → beginsFile g k ≡ true
     → headerFrom g p first at (x ∷ xs) ≡ There (record { first = first; second = at + 3; walk = walkFrom (bytesIn x) (markFrom (placeBehind at x) xs) })
 header-here g p first at x xs k e b = header-item g p first at x xs k e ∙ if-true _ _ _ b
-
--- ---- the labels of a file by their places
 
 kind-family : (k : Kind) → isKind k (hdr 1) ≡ true → k .family ≡ 3
 unfolding isKind
@@ -186,14 +140,6 @@ told-on s o p r at x xs k first g g′ w q es e d a b c i h =
           (sym (header-on g p r first at x xs k e c d ∙ ap (λ (y : Bool). headerFrom y r (firstBehind first (at + 3) k) (placeBehind at x) xs) i)) (h .comes);
     }
 
-quiet-begins : (g : Bool) (k : Kind) → isKind k (hdr 2) ≡ false → beginsFile g k ≡ false
-unfolding beginsFile
-quiet-begins g k h = if-false _ _ _ h
-
-quiet-goes : (g : Bool) (k : Kind) → Quiet k → goesOnBehind g k ≡ g
-unfolding goesOnBehind
-quiet-goes g k c = if-false _ _ _ (c .reelEnd) ∙ if-false _ _ _ (c .fileEnd)
-
 told-quiet : (s : List ℕ) (t : State) (a b : Stage) (p r : Phase) (at : ℕ) (x : Item) (xs : List Item) (k : Kind) (first : ℕ) (es : List Event) → Quiet k
     → ((g : Bool) → isOpen b g ≡ isOpen a g) → kindIn p x ≡ k → dueAfter p k ≡ To r
     → Tells s b r (placeBehind at x) xs (firstBehind first (at + 3) k) (stateAfter t r k (bytesIn x) .goesOn) (stateAfter t r k (bytesIn x) .second)
@@ -221,10 +167,14 @@ told-again s p r at x xs first second q es e d f h =
     told-on s true p r at x xs (hdr 2) first true true (walkFrom second 0) q es e d refl refl refl refl
     (subst (λ (w : Walk). Told s true r (placeBehind at x) xs first true w q es) (same-lengths second (bytesIn x) f) h)
 
--- among the labels before the data, the next data block is that behind their mark
+-- among the labels before the data of an open file, the next data block and the next file are those behind their mark
+record Marked (s : List ℕ) (r : Phase) (at : ℕ) (xs : List Item) (m : ℕ) : Type 0 where
+  datum : dataFrom r at xs ≡ dataFrom Data m (decode (drop m s))
+  fits : m ≤ length s
+  follows : (g : Bool) (first : ℕ) → isOpen (stage r) g ≡ true → Follows s (headerFrom g r first at xs) m
+
 abbrev Body : List ℕ → Phase → ℕ → List Item → Type 0
-Body s r at xs =
-    labels r ≡ true → (dataFrom r at xs ≡ dataFrom Data (markFrom at xs) (decode (drop (markFrom at xs) s))) × (markFrom at xs ≤ length s)
+Body s r at xs = labels r ≡ true → Numbered r → Marked s r at xs (markFrom at xs)
 
 -- HDR2 of a new file, with its HDR1 at `first`
 told-new : (s : List ℕ) (p r : Phase) (at : ℕ) (x : Item) (xs : List Item) (first : ℕ) (label : List ℕ) (w : Walk) (q : ℕ) (es : List Event) → ItemAt s at x xs
@@ -237,13 +187,19 @@ told-new s p r at x xs first label w q es c e d z f here long body h = record { 
     m : ℕ
     m = markFrom (placeBehind at x) xs
 
-    there : (dataFrom r (placeBehind at x) xs ≡ dataFrom Data m (decode (drop m s))) × (m ≤ length s)
-    there = body (ap labels (second-behind p r d))
+    second : r ≡ Header 2
+    second = second-behind p r d
+
+    there : Marked s r (placeBehind at x) xs m
+    there = body (ap labels second) (subst Numbered (sym second) two)
+      where
+        two : 2 ≤ 2
+        two = omega arith
 
     hands : Hands s (valueOf (recordLengthOf (bytesIn x))) 0 (unitIn s (opened (walkFrom (bytesIn x) m) (dataFrom Data m (decode (drop m s))))) (joined (collect es .segments))
     hands =
         subst (λ (t : Place). Hands s (valueOf (recordLengthOf (bytesIn x))) 0 (unitIn s t) (joined (collect es .segments))) (opened-from (dataFrom Data m (decode (drop m s))))
-        (subst (λ (y : Extent). Hands s (valueOf (recordLengthOf (bytesIn x))) 0 (unitIn s (opened (walkFrom (bytesIn x) 0) y)) (joined (collect es .segments))) (there .0)
+        (subst (λ (y : Extent). Hands s (valueOf (recordLengthOf (bytesIn x))) 0 (unitIn s (opened (walkFrom (bytesIn x) 0) y)) (joined (collect es .segments))) (there .datum)
         (subst (λ (j : ℕ). Hands s (valueOf (recordLengthOf (bytesIn x))) j (unitIn s (opened (walkFrom (bytesIn x) 0) (dataFrom r (placeBehind at x) xs))) (joined (collect es .segments))) z (h .owed refl)))
       where
         opened-from : (y : Extent) → opened (walkFrom (bytesIn x) 0) y ≡ opened (walkFrom (bytesIn x) m) y
@@ -251,7 +207,7 @@ told-new s p r at x xs first label w q es c e d z f here long body h = record { 
         opened-from Nowhere = unfold opened in refl
 
     walks : Walks s (walkFrom (bytesIn x) m) (joined (collect es .segments))
-    walks = next-walks s (walkFrom (bytesIn x) m) (joined (collect es .segments)) (record-some (bytesIn x) f) refl (there .1) hands
+    walks = next-walks s (walkFrom (bytesIn x) m) (joined (collect es .segments)) (record-some (bytesIn x) f) refl (there .fits) hands
 
     file : FileAt
     file = record { first = first; second = at + 3; walk = walkFrom (bytesIn x) m }
@@ -259,19 +215,33 @@ told-new s p r at x xs first label w q es c e d z f here long body h = record { 
     eighty : length (bytesIn x) ≡ 80
     eighty = header-long p x (ap (λ (k : Kind). k .family) e)
 
+    -- the walk stands behind the mark, and ends where the next file is found
+    ended : (endOf s (walkFrom (bytesIn x) m) ≤ length s) × Leads s (m + 0) (endOf s (walkFrom (bytesIn x) m))
+    ended = let none : m + 0 ≤ length s = omega (arith, there .fits) in walks-end s (walkFrom (bytesIn x) m) (joined (collect es .segments)) walks none
+
+    follows : Follows s (headerFrom false r first (placeBehind at x) xs) (m + 0)
+    follows =
+        let none : m ≡ m + 0 = omega arith in
+        subst (Follows s (headerFrom false r first (placeBehind at x) xs)) none (there .follows false first (ap (λ (y : Phase). isOpen (stage y) false) second))
+
+    -- the next file is sought behind this HDR2
+    next-file : headerFrom false r first (placeBehind at x) xs ≡ nextFile s file
+    next-file = unfold nextFile placeBehind in
+        ap₂ (λ (y : Phase) (ys : List Item). headerFrom false y first (placeBehind at x) ys) second (sym (c .rest))
+        ∙ ap (λ (n : ℕ). headerFrom false (Header 2) first (at + 3 + n) (decode (drop (at + 3 + n) s))) eighty
+
+    behind-file : fileBehind s file (endOf s (walkFrom (bytesIn x) m)) ≡ headerFrom false r first (placeBehind at x) xs
+    behind-file = unfold fileBehind in ended .1 (headerFrom false r first (placeBehind at x) xs) follows .same false first
+
     is : FileIs s file (record { fields = fieldsFrom label (bytesIn x); records = joined (collect es .segments) })
     is = record {
       firstWithin = label-within s first label here long;
       secondWithin = label-within s (at + 3) (bytesIn x) (label-here s at x xs c eighty) eighty;
       fields = ap₂ fieldsFrom (sym here) (sym (label-here s at x xs c eighty));
       walks = walks;
+      ends = ended .0;
+      behind = behind-file ∙ next-file;
     }
-
-    -- the next file is sought behind this HDR2
-    next-file : headerFrom false r first (placeBehind at x) xs ≡ nextFile s file
-    next-file = unfold nextFile placeBehind in
-        ap₂ (λ (y : Phase) (ys : List Item). headerFrom false y first (placeBehind at x) ys) (second-behind p r d) (sym (c .rest))
-        ∙ ap (λ (n : ℕ). headerFrom false (Header 2) first (at + 3 + n) (decode (drop (at + 3 + n) s))) eighty
 
     files : Comes s (headerFrom false p first at (x ∷ xs)) (record { fields = fieldsFrom label (bytesIn x); records = joined (collect es .segments) } ∷ collect es .files) (setOf label)
     files =
@@ -398,21 +368,29 @@ told-step s t p r at x xs first es finish e d i h z here f body told =
 
 -- ---- the labels before the data, up to their mark
 
-nothing-left : (p : Phase) (at : ℕ) (xs : List Item) → xs ≡ [] → dataFrom p at [] ≡ dataFrom Data at xs
-unfolding dataFrom
-nothing-left p at xs h = sym (ap (dataFrom Data at) h)
+nothing-left : (s : List ℕ) (p : Phase) (at : ℕ) → decode (drop at s) ≡ [] → at ≤ length s → Marked s p at [] at
+unfolding dataFrom headerFrom
+nothing-left s p at e fits =
+    record {
+      datum = sym (ap (dataFrom Data at) e);
+      fits = fits;
+      follows = λ g first _. record { ordered = subst (InOrder s Data at) (sym e) tt; same = λ h n. ap (headerFrom h Data n at) e };
+    }
 
-mark-body : (s : List ℕ) (p q : Phase) (at : ℕ) (xs : List Item) → dueAfter p (kindIn p mark) ≡ To q → labels p ≡ true
-    → decode (drop (placeBehind at mark) s) ≡ xs → placeBehind at mark ≤ length s
-    → (dataFrom p at (mark ∷ xs) ≡ dataFrom Data (at + 3) (decode (drop (at + 3) s))) × (at + 3 ≤ length s)
+mark-body : (s : List ℕ) (p q : Phase) (at : ℕ) (xs : List Item) → Numbered p → labels p ≡ true → dueAfter p (kindIn p mark) ≡ To q → ItemAt s at mark xs
+    → InOrder s q (placeBehind at mark) xs → Marked s p at (mark ∷ xs) (at + 3)
 unfolding kindIn bytesIn placeBehind isKind
-mark-body s p q at xs d h r w =
-    let z : at + 3 + 0 ≡ at + 3 = omega arith in (
-      data-on p q at mark xs tapeMark refl refl refl d
-          ∙ ap₂ (λ (y : Phase) (ys : List Item). dataFrom y (at + 3 + 0) ys) (mark-data p q h d) (sym r)
-          ∙ ap (λ (i : ℕ). dataFrom Data i (decode (drop i s))) z,
-      omega arith,
-    )
+mark-body s p q at xs num h d c o =
+    let z : at + 3 + 0 ≡ at + 3 = omega arith in
+    subst (Marked s p at (mark ∷ xs)) z
+    (record {
+      datum = data-on p q at mark xs tapeMark refl refl refl d ∙ ap₂ (λ (y : Phase) (ys : List Item). dataFrom y (at + 3 + 0) ys) (mark-data p q h d) (sym (c .rest));
+      fits = c .within;
+      follows = λ g first open'.
+          let step = open-step g p q first at mark xs (due-goes p tapeMark q num d .move) refl d open' refl in
+          subst (λ (y : NextFile). Follows s y (at + 3 + 0)) (sym (step .0))
+          (follows-here s (goesOnBehind g tapeMark) q (firstBehind first (at + 3) tapeMark) (at + 3 + 0) xs (mark-data p q h d) (c .rest) o);
+    })
 
 no-reel-end : (p q : Phase) → labels p ≡ true → dueAfter p (kindIn p reelEnd) ≡ To q → ⊥
 unfolding kindIn isKind
@@ -422,19 +400,24 @@ no-broken : isItem broken ≡ true → ⊥
 unfolding isItem
 no-broken h = false≢true h
 
-body : (s : List ℕ) (xs : List Item) (t : State) (at : ℕ) → All MayEnd t xs → decode (drop at s) ≡ xs → allItems xs ≡ true → at ≤ length s → Body s (t .phase) at xs
-unfolding markFrom stateAfter
-body s [] t at all e good fits h = (nothing-left (t .phase) at (decode (drop at s)) e, fits)
-body s (mark ∷ xs) t at (q, f, all) e good fits h =
-    let c = item-at s at mark xs e (all-first mark xs good) in
-    mark-body s (t .phase) q at xs (f .due) h (c .rest) (c .within)
-body s (reelEnd ∷ xs) t at (q, f, all) e good fits h = absurd (no-reel-end (t .phase) q h (f .due))
-body s (broken ∷ xs) t at (q, f, all) e good fits h = absurd (no-broken (all-first broken xs good))
-body s (block l ∷ xs) t at (q, f, all) e good fits h =
-    let c = item-at s at (block l) xs e (all-first (block l) xs good) in
-    let k = label-labels (t .phase) (kindIn (t .phase) (block l)) q h (block-no-mark (t .phase) l) (f .due) in
-    let again = body s xs (behind t (block l) q) (placeBehind at (block l)) all (c .rest) (all-rest (block l) xs good) (c .within) (k .phase) in
-    (data-on (t .phase) q at (block l) xs (kindIn (t .phase) (block l)) refl (k .datum) (k .fileEnd) (f .due) ∙ again .0, again .1)
+body : (s : List ℕ) (xs : List Item) (p : Phase) (at : ℕ) → InOrder s p at xs → decode (drop at s) ≡ xs → at ≤ length s → Body s p at xs
+unfolding markFrom
+body s [] p at o e fits h num = nothing-left s p at e fits
+body s (mark ∷ xs) p at (q, c, d, o) e fits h num = mark-body s p q at xs num h d c o
+body s (reelEnd ∷ xs) p at (q, c, d, o) e fits h num = absurd (no-reel-end p q h d)
+body s (broken ∷ xs) p at (q, c, d, o) e fits h num = absurd (no-broken (c .good))
+body s (block l ∷ xs) p at (q, c, d, o) e fits h num =
+    let k = label-labels p (kindIn p (block l)) q h (block-no-mark p l) d in
+    let go = due-goes p (kindIn p (block l)) q num d in
+    let again = body s xs q (placeBehind at (block l)) o (c .rest) (c .within) (k .phase) (go .numbered) in
+    record {
+      datum = data-on p q at (block l) xs (kindIn p (block l)) refl (k .datum) (k .fileEnd) d ∙ again .datum;
+      fits = again .fits;
+      follows = λ g first open'.
+          let step = open-step g p q first at (block l) xs (go .move) refl d open' (k .fileEnd) in
+          subst (λ (y : NextFile). Follows s y (markFrom (placeBehind at (block l)) xs)) (sym (step .0))
+          (again .follows (goesOnBehind g (kindIn p (block l))) (firstBehind first (at + 3) (kindIn p (block l))) (step .1));
+    }
 
 -- ---- a whole reading
 
@@ -477,7 +460,7 @@ told s (x ∷ xs) t at first (q, f, all) e good kept sized here =
     let go = due-goes (t .phase) (kindIn (t .phase) x) q (kept .numbered) (f .due) in
     subst (Tells s (stage (t .phase)) (t .phase) at (x ∷ xs) first (t .goesOn) (t .second) (t .pending)) (sym (handed-more t x xs q f all))
     (told-step s t (t .phase) q at x xs first (handedOut (runs (behind t x q) xs)) (go .move) refl (f .due) c (kept .holds) sized here (f .sound)
-    (body s xs (behind t x q) (placeBehind at x) all (c .rest) (all-rest x xs good) (c .within))
+    (body s xs q (placeBehind at x) (in-order s xs (behind t x q) (placeBehind at x) all (c .rest) (all-rest x xs good)) (c .rest) (c .within))
     (told s xs (behind t x q) (placeBehind at x) (firstBehind first (at + 3) (kindIn (t .phase) x)) all (c .rest) (all-rest x xs good) (kept-step t x q kept f)
     (sized-step t q (bytesIn x) (go .move) sized (f .sound)) (first-step s t (t .phase) first at x xs c here)))
 

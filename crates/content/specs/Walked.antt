@@ -7,7 +7,7 @@ use lib.ListN.{length}
 use Rattle.base.specs.Part.{part}
 use Rattle.volume.specs.Meaning.{File, fieldsFrom}
 use Rattle.content.specs.Walk.{Rest, ends, fails, Record, whole, split, nothing, recordAt, stepAt, joinAt}
-use Rattle.content.specs.File.{nextFile}
+use Rattle.content.specs.File.{nextFile, fileBehind}
 use Rattle.content.specs.Found.{foundBy, partOf}
 use Rattle.content.specs.declared.Walk.{Walk}
 use Rattle.content.specs.declared.Step.{Step}
@@ -45,12 +45,15 @@ along over more s w = alongF over more (suc (length s)) s w
 unfoldable pub endOf : List ℕ → Walk → ℕ
 endOf s w = along (λ v. v .at + v .left) (λ r e. e) s w
 
--- a file of the meaning where it stands: its first HDR1 and HDR2 lie within the image and have its fields, and the walk hands out its records
+-- a file of the meaning where it stands: its first HDR1 and HDR2 lie within the image and have its fields, the walk hands out its records, and what
+-- follows the file is found from the end of its records on, too
 pub record FileIs (s : List ℕ) (f : FileAt) (d : File) : Type 0 where
   pub firstWithin : f .first + 80 ≤ length s
   pub secondWithin : f .second + 80 ≤ length s
   pub fields : d .fields ≡ fieldsFrom (part (f .first) 80 s) (part (f .second) 80 s)
   pub walks : Walks s (f .walk) (d .records)
+  pub ends : endOf s (f .walk) ≤ length s
+  pub behind : fileBehind s f (endOf s (f .walk)) ≡ nextFile s f
 
 -- going from file to file meets exactly these, and none behind the last
 abbrev pub Filed : List ℕ → NextFile → List File → Type 0
