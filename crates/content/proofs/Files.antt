@@ -24,13 +24,13 @@ use Rattle.order.specs.Kind.{other, isKind}
 use Rattle.order.specs.Due.{dueAfter}
 use Rattle.order.specs.declared.Kind.{Kind}
 use Rattle.order.specs.declared.Phase.{Phase}
-use Rattle.order.specs.declared.Phase.the-variants.{Reel, Header}
+use Rattle.order.specs.declared.Phase.the-variants.{Reel, Header, Data}
 use Rattle.order.specs.declared.Due.{Due}
 use Rattle.order.specs.declared.Due.the-variants.{To, Wrong}
 use Rattle.volume.specs.Fault.{valueOf}
 use Rattle.volume.specs.Step.{kindIn, bytesIn}
 use Rattle.content.specs.Section.{placeBehind, seenAt}
-use Rattle.content.specs.File.{markFrom, walkFrom, beginsFile, goesOnBehind, firstBehind, onward, headerFrom, firstFile, nextFile, fromFile, filesOn, fileNumbered}
+use Rattle.content.specs.File.{markFrom, walkFrom, beginsFile, goesOnBehind, firstBehind, onward, headerFrom, firstFile, nextFile, fileBehind, fromFile, filesOn, fileNumbered}
 use Rattle.content.specs.declared.Walk.{Walk}
 use Rattle.content.specs.declared.section.Seen.{Seen}
 use Rattle.content.specs.declared.section.Seen.the-variants.{Item as Of, Nothing}
@@ -215,10 +215,14 @@ pub next-file : (s : List ℕ) (f : FileAt) (x : NextFile)
 unfolding nextFile
 next-file s f x e = e
 
+pub file-behind : (s : List ℕ) (f : FileAt) (at : ℕ) (x : NextFile) → x ≡ headerFrom false Data (f .first) at (decode (drop at s)) → x ≡ fileBehind s f at
+unfolding fileBehind
+file-behind s f at x e = e
+
 pub behind-fits : (s : List ℕ) (f : FileAt) → length s < 18446744073709551616 → f .second ≤ length s → 80 ≤ length s - f .second → Fits w64 (f .second + 80)
 behind-fits s f h a b = record { fits = omega arith }
 
-pub ruleset follows = (first-file, next-outside, next-cut, next-file, behind-fits, needs)
+pub ruleset follows = (first-file, next-outside, next-cut, next-file, file-behind, behind-fits, needs)
 
 -- ---- files by their numbers
 

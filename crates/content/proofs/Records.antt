@@ -1,4 +1,4 @@
--- Laws of the records from a walk on: the equations of `recordsAt` and `endOf`, and how a record is made of its segments. Assumes nothing.
+-- Laws of the records from a walk on: the equations of `recordsAt`, `lastOf` and `endOf`, and how a record is made of its segments. Assumes nothing.
 use mathlib.Core.Path.{_≡_, refl, sym, ap, _∙_, subst}
 use mathlib.Core.Bool.{true}
 use mathlib.Core.List.{List, [], _∷_, _++_, map}
@@ -15,10 +15,10 @@ use Rattle.base.proofs.Parts.{length-part}
 use Rattle.sheet.specs.Flat.{sum}
 use Rattle.content.specs.Walk.{Inside, isInside, unitNext, unitFrom, firstSegment, nextSegment, Rest, ends, fails, before, restBy, restF, restAt, Record, whole, split, nothing, splitBy, begunBy, recordAt}
 use Rattle.content.specs.Measure.{isEnded, bytesBehind, measuredBy, recordBytes}
-use Rattle.content.specs.Walked.{handed, Walks, alongBy, alongF, along, endOf}
-use Rattle.content.specs.Records.{recordsAt, factsOf}
+use Rattle.content.specs.Walked.{handed, Walks, alongBy, alongF, along, lastOf, endOf}
+use Rattle.content.specs.Records.{recordsAt, factsOf, countedFrom}
 use Rattle.content.specs.declared.Walk.{Walk}
-use Rattle.content.specs.declared.counting.Facts.{Facts}
+use Rattle.content.specs.declared.counting.Counted.{Counted}
 use Rattle.content.specs.declared.measuring.Measured.{Measured}
 use Rattle.content.specs.declared.measuring.Measured.the-variants.{Whole, Split, Nothing as None}
 use Rattle.content.specs.declared.unit.Taken.{Taken}
@@ -174,14 +174,22 @@ unfolding recordsAt
 records-over s w e = along-over (λ u. []) (λ t ts. t ∷ ts) s w e
 
 -- a walk ends where the walk behind its next record does
+last-more : (s : List ℕ) (w : Walk) (r : List ℕ) (v : Walk) → handed s (recordAt s w) ≡ ends r v → lastOf s w ≡ lastOf s v
+unfolding lastOf
+last-more s w r v e = along-more (λ u. u) (λ t u. u) s w r v e
+
 pub end-more : (s : List ℕ) (w : Walk) (r : List ℕ) (v : Walk) → handed s (recordAt s w) ≡ ends r v → endOf s w ≡ endOf s v
 unfolding endOf
-end-more s w r v e = along-more (λ u. u .at + u .left) (λ t e. e) s w r v e
+end-more s w r v e = ap (λ (u : Walk). u .at + u .left) (last-more s w r v e)
 
--- and without one behind what is left of its block
+-- and without one where it stands
+last-over : (s : List ℕ) (w : Walk) → handed s (recordAt s w) ≡ fails → lastOf s w ≡ w
+unfolding lastOf
+last-over s w e = along-over (λ u. u) (λ t u. u) s w e
+
 pub end-over : (s : List ℕ) (w : Walk) → handed s (recordAt s w) ≡ fails → endOf s w ≡ w .at + w .left
 unfolding endOf
-end-over s w e = along-over (λ u. u .at + u .left) (λ t e. e) s w e
+end-over s w e = ap (λ (u : Walk). u .at + u .left) (last-over s w e)
 
 -- a walk that hands out exactly these records
 pub walks-records : (s : List ℕ) (w : Walk) (rs : List (List ℕ)) → Walks s w rs → recordsAt s w ≡ rs
@@ -327,19 +335,20 @@ next-some s w t h e f q =
 
 -- ---- records counted: what was counted and what is left make the whole
 
-pub record Counted (s : List ℕ) (from : Walk) (records bytes : ℕ) (w : Walk) : Type 0 where
+pub record Counting (s : List ℕ) (from : Walk) (records bytes : ℕ) (w : Walk) : Type 0 where
   pub some : records ≤ w .at
   pub most : bytes ≤ w .at
   pub number : records + length (recordsAt s w) ≡ length (recordsAt s from)
   pub total : bytes + sum (map length (recordsAt s w)) ≡ sum (map length (recordsAt s from))
+  pub last : lastOf s w ≡ lastOf s from
 
-pub counted-none : (s : List ℕ) (from : Walk) → Counted s from 0 0 from
-counted-none s from = record { some = omega arith; most = omega arith; number = omega arith; total = omega arith }
+pub counting-none : (s : List ℕ) (from : Walk) → Counting s from 0 0 from
+counting-none s from = record { some = omega arith; most = omega arith; number = omega arith; total = omega arith; last = refl }
 
-counted-more : (s : List ℕ) (from : Walk) (records bytes : ℕ) (w : Walk) (r : List ℕ) (n : ℕ) (v : Walk) → Counted s from records bytes w
-    → handed s (recordAt s w) ≡ ends r v → length r ≡ n → Counted s from (records + 1) (bytes + n) v
+counting-more : (s : List ℕ) (from : Walk) (records bytes : ℕ) (w : Walk) (r : List ℕ) (n : ℕ) (v : Walk) → Counting s from records bytes w
+    → handed s (recordAt s w) ≡ ends r v → length r ≡ n → Counting s from (records + 1) (bytes + n) v
 unfolding sum
-counted-more s from records bytes w r n v c e l =
+counting-more s from records bytes w r n v c e l =
     let p = handed-passes s w r v e in
     let rs = records-more s w r v e in
     record {
@@ -347,27 +356,33 @@ counted-more s from records bytes w r n v c e l =
       most = omega (arith, c .most, p .bytes, l);
       number = omega (arith, c .number, ap length rs);
       total = omega (arith, c .total, ap (λ (ts : List (List ℕ)). sum (map length ts)) rs, l);
+      last = sym (last-more s w r v e) ∙ c .last;
     }
 
-pub counted-whole : (s : List ℕ) (from : Walk) (records bytes : ℕ) (w : Walk) (start n : ℕ) (v : Walk) (m : Measured) → Counted s from records bytes w
-    → m ≡ measuredBy (recordAt s w) → m ≡ Whole start n v → Counted s from (records + 1) (bytes + n) v
-counted-whole s from records bytes w start n v m c e q =
-    counted-more s from records bytes w (part start n s) n v c (handed-whole s start n v (recordAt s w) (sym e ∙ q)) (length-part start n s (whole-within s w start n v m e q))
+pub counting-whole : (s : List ℕ) (from : Walk) (records bytes : ℕ) (w : Walk) (start n : ℕ) (v : Walk) (m : Measured) → Counting s from records bytes w
+    → m ≡ measuredBy (recordAt s w) → m ≡ Whole start n v → Counting s from (records + 1) (bytes + n) v
+counting-whole s from records bytes w start n v m c e q =
+    counting-more s from records bytes w (part start n s) n v c (handed-whole s start n v (recordAt s w) (sym e ∙ q)) (length-part start n s (whole-within s w start n v m e q))
 
-pub counted-split : (s : List ℕ) (from : Walk) (records bytes : ℕ) (w : Walk) (n : ℕ) (v : Walk) (m : Measured) → Counted s from records bytes w
-    → m ≡ measuredBy (recordAt s w) → m ≡ Split n v → Counted s from (records + 1) (bytes + n) v
-counted-split s from records bytes w n v m c e q =
+pub counting-split : (s : List ℕ) (from : Walk) (records bytes : ℕ) (w : Walk) (n : ℕ) (v : Walk) (m : Measured) → Counting s from records bytes w
+    → m ≡ measuredBy (recordAt s w) → m ≡ Split n v → Counting s from (records + 1) (bytes + n) v
+counting-split s from records bytes w n v m c e q =
     let both = handed-split s n v (recordAt s w) (sym e ∙ q) in
-    counted-more s from records bytes w (recordBytes (recordAt s w)) n v c (both .0) (both .1)
+    counting-more s from records bytes w (recordBytes (recordAt s w)) n v c (both .0) (both .1)
 
-pub counted-all : (s : List ℕ) (from : Walk) (records bytes : ℕ) (w : Walk) (m : Measured) → Counted s from records bytes w → m ≡ measuredBy (recordAt s w) → m ≡ None
-    → _≡_ {A = Facts} (record { records = records; bytes = bytes }) (factsOf (recordsAt s from))
-unfolding factsOf sum
+pub counted-all : (s : List ℕ) (from : Walk) (records bytes : ℕ) (w : Walk) (m : Measured) → Counting s from records bytes w → m ≡ measuredBy (recordAt s w) → m ≡ None
+    → _≡_ {A = Counted} (record { facts = record { records = records; bytes = bytes }; last = w }) (countedFrom s from)
+unfolding countedFrom factsOf sum
 counted-all s from records bytes w m c e q =
     let none = measured-nothing s w m e q in
     let a : records ≡ length (recordsAt s from) = omega (arith, c .number, ap length none) in
     let b : bytes ≡ sum (map length (recordsAt s from)) = omega (arith, c .total, ap (λ (ts : List (List ℕ)). sum (map length ts)) none) in
-    λ i. record { records = a i; bytes = b i }
+    let z : w ≡ lastOf s from = sym (last-over s w (handed-nothing s (recordAt s w) (sym e ∙ q))) ∙ c .last in
+    λ i. record { facts = record { records = a i; bytes = b i }; last = z i }
+
+pub counted-facts : (s : List ℕ) (from : Walk) (x : Counted) → x ≡ countedFrom s from → x .facts ≡ factsOf (recordsAt s from)
+unfolding countedFrom
+counted-facts s from x e = ap (λ (y : Counted). y .facts) e
 
 -- the numbers fit, and the walk goes on
 record Further (s : List ℕ) (records bytes : ℕ) (w : Walk) (n : ℕ) (v : Walk) : Type 0 where
@@ -375,51 +390,51 @@ record Further (s : List ℕ) (records bytes : ℕ) (w : Walk) (n : ℕ) (v : Wa
   total : bytes + n ≤ length s
   falls : length s - v .at < length s - w .at
 
-further : (s : List ℕ) (from : Walk) (records bytes : ℕ) (w : Walk) (r : List ℕ) (n : ℕ) (v : Walk) → Counted s from records bytes w
+further : (s : List ℕ) (from : Walk) (records bytes : ℕ) (w : Walk) (r : List ℕ) (n : ℕ) (v : Walk) → Counting s from records bytes w
     → handed s (recordAt s w) ≡ ends r v → length r ≡ n → Further s records bytes w n v
 further s from records bytes w r n v c e l =
     let p = handed-passes s w r v e in
-    let k = counted-more s from records bytes w r n v c e l in
+    let k = counting-more s from records bytes w r n v c e l in
     record {
       number = omega (arith, k .some, p .inside);
       total = omega (arith, k .most, p .inside);
       falls = omega (arith, p .onward, p .inside);
     }
 
-further-whole : (s : List ℕ) (from : Walk) (records bytes : ℕ) (w : Walk) (start n : ℕ) (v : Walk) (m : Measured) → Counted s from records bytes w
+further-whole : (s : List ℕ) (from : Walk) (records bytes : ℕ) (w : Walk) (start n : ℕ) (v : Walk) (m : Measured) → Counting s from records bytes w
     → m ≡ measuredBy (recordAt s w) → m ≡ Whole start n v → Further s records bytes w n v
 further-whole s from records bytes w start n v m c e q =
     further s from records bytes w (part start n s) n v c (handed-whole s start n v (recordAt s w) (sym e ∙ q)) (length-part start n s (whole-within s w start n v m e q))
 
-further-split : (s : List ℕ) (from : Walk) (records bytes : ℕ) (w : Walk) (n : ℕ) (v : Walk) (m : Measured) → Counted s from records bytes w
+further-split : (s : List ℕ) (from : Walk) (records bytes : ℕ) (w : Walk) (n : ℕ) (v : Walk) (m : Measured) → Counting s from records bytes w
     → m ≡ measuredBy (recordAt s w) → m ≡ Split n v → Further s records bytes w n v
 further-split s from records bytes w n v m c e q =
     let both = handed-split s n v (recordAt s w) (sym e ∙ q) in
     further s from records bytes w (recordBytes (recordAt s w)) n v c (both .0) (both .1)
 
-pub whole-number : (s : List ℕ) (from : Walk) (records bytes : ℕ) (w : Walk) (start n : ℕ) (v : Walk) (m : Measured) → Counted s from records bytes w
+pub whole-number : (s : List ℕ) (from : Walk) (records bytes : ℕ) (w : Walk) (start n : ℕ) (v : Walk) (m : Measured) → Counting s from records bytes w
     → m ≡ measuredBy (recordAt s w) → m ≡ Whole start n v → length s < 18446744073709551616 → Fits w64 (records + 1)
 whole-number s from records bytes w start n v m c e q h = omega (arith, further-whole s from records bytes w start n v m c e q .number)
 
-pub split-number : (s : List ℕ) (from : Walk) (records bytes : ℕ) (w : Walk) (n : ℕ) (v : Walk) (m : Measured) → Counted s from records bytes w
+pub split-number : (s : List ℕ) (from : Walk) (records bytes : ℕ) (w : Walk) (n : ℕ) (v : Walk) (m : Measured) → Counting s from records bytes w
     → m ≡ measuredBy (recordAt s w) → m ≡ Split n v → length s < 18446744073709551616 → Fits w64 (records + 1)
 split-number s from records bytes w n v m c e q h = omega (arith, further-split s from records bytes w n v m c e q .number)
 
-pub whole-total : (s : List ℕ) (from : Walk) (records bytes : ℕ) (w : Walk) (start n : ℕ) (v : Walk) (m : Measured) → Counted s from records bytes w
+pub whole-total : (s : List ℕ) (from : Walk) (records bytes : ℕ) (w : Walk) (start n : ℕ) (v : Walk) (m : Measured) → Counting s from records bytes w
     → m ≡ measuredBy (recordAt s w) → m ≡ Whole start n v → length s < 18446744073709551616 → Fits w64 (bytes + n)
 whole-total s from records bytes w start n v m c e q h = omega (arith, further-whole s from records bytes w start n v m c e q .total)
 
-pub split-total : (s : List ℕ) (from : Walk) (records bytes : ℕ) (w : Walk) (n : ℕ) (v : Walk) (m : Measured) → Counted s from records bytes w
+pub split-total : (s : List ℕ) (from : Walk) (records bytes : ℕ) (w : Walk) (n : ℕ) (v : Walk) (m : Measured) → Counting s from records bytes w
     → m ≡ measuredBy (recordAt s w) → m ≡ Split n v → length s < 18446744073709551616 → Fits w64 (bytes + n)
 split-total s from records bytes w n v m c e q h = omega (arith, further-split s from records bytes w n v m c e q .total)
 
-pub whole-falls : (s : List ℕ) (from : Walk) (records bytes : ℕ) (w : Walk) (start n : ℕ) (v : Walk) (m : Measured) → Counted s from records bytes w
+pub whole-falls : (s : List ℕ) (from : Walk) (records bytes : ℕ) (w : Walk) (start n : ℕ) (v : Walk) (m : Measured) → Counting s from records bytes w
     → m ≡ measuredBy (recordAt s w) → m ≡ Whole start n v → length s - v .at < length s - w .at
 whole-falls s from records bytes w start n v m c e q = further-whole s from records bytes w start n v m c e q .falls
 
-pub split-falls : (s : List ℕ) (from : Walk) (records bytes : ℕ) (w : Walk) (n : ℕ) (v : Walk) (m : Measured) → Counted s from records bytes w
+pub split-falls : (s : List ℕ) (from : Walk) (records bytes : ℕ) (w : Walk) (n : ℕ) (v : Walk) (m : Measured) → Counting s from records bytes w
     → m ≡ measuredBy (recordAt s w) → m ≡ Split n v → length s - v .at < length s - w .at
 split-falls s from records bytes w n v m c e q = further-split s from records bytes w n v m c e q .falls
 
 pub ruleset counts =
-    (counted-none, counted-whole, counted-split, counted-all, whole-number, split-number, whole-total, split-total, whole-falls, split-falls, needs)
+    (counting-none, counting-whole, counting-split, counted-all, counted-facts, whole-number, split-number, whole-total, split-total, whole-falls, split-falls, needs)

@@ -41,9 +41,12 @@ alongF over more (suc f) s w = alongBy over more w (handed s (recordAt s w)) (λ
 unfoldable pub along : {A : Type 0} → (Walk → A) → (List ℕ → A → A) → List ℕ → Walk → A
 along over more s w = alongF over more (suc (length s)) s w
 
--- the place behind what is left of the block in which it ends
+-- the walk behind the last record, and the place behind what is left of its block
+unfoldable pub lastOf : List ℕ → Walk → Walk
+lastOf s w = along (λ v. v) (λ r v. v) s w
+
 unfoldable pub endOf : List ℕ → Walk → ℕ
-endOf s w = along (λ v. v .at + v .left) (λ r e. e) s w
+endOf s w = lastOf s w .at + lastOf s w .left
 
 -- a file of the meaning where it stands: its first HDR1 and HDR2 lie within the image and have its fields, the walk hands out its records, and what
 -- follows the file is found from the end of its records on, too

@@ -6,7 +6,7 @@ ghost use lib.ListN.{length, drop};
 ghost use Rattle.base.specs.Part.{part};
 ghost use Rattle.image.specs.Item.{decode};
 ghost use Rattle.volume.specs.Fault.{valueOf};
-ghost use Rattle.content.specs.File.{markFrom, walkFrom, beginsFile, goesOnBehind, firstBehind, headerFrom, firstFile, nextFile, filesOn, fileNumbered};
+ghost use Rattle.content.specs.File.{markFrom, walkFrom, beginsFile, goesOnBehind, firstBehind, headerFrom, firstFile, nextFile, fileBehind, filesOn, fileNumbered};
 use crate::FileAt;
 use crate::NextFile;
 use crate::Walk;
@@ -163,6 +163,13 @@ pub fn next_file(image: &[u8], f: FileAt) -> NextFile
         return NextFile::Nowhere;
     }
     header_from(image, Phase::Header(2), f.first, second + 80)
+}
+
+// The file behind one, from a place between two items of its data on, be that right or forged.
+pub fn file_behind(image: &[u8], f: FileAt, at: usize) -> NextFile
+    ensures { λ r. ⌜ r ≡ fileBehind (now (image .entry)) f at ⌝ }
+{
+    header_from(image, Phase::Data, f.first, at)
 }
 
 // The file so many files behind one.
