@@ -2,18 +2,18 @@
 use mathlib.Core.Path.{_≡_, refl, sym, ap, ap₂, _∙_, subst}
 use mathlib.Core.Bool.{Bool, true, false, false≢true}
 use mathlib.Core.List.{List, [], _∷_, _++_, append-assoc, append-nil, map}
-use Prim.Native.Nat.{ℕ, zero, suc, _+_, _-_, _≤_, _<_}
+use Prim.Native.Nat.{ℕ, suc, _+_, _-_, _≤_, _<_}
 use native.Mathlib.Omega.{arith}
 use borrow.Author.Needs.{needs}
 use mir.Val.{Fits}
 use mir.Syntax.{w64}
 use lib.ListN.{length}
-use Rattle.base.specs.If.{ifB, if-case}
+use Rattle.base.specs.If.{if-case}
 use Rattle.base.specs.Part.{part}
 use Rattle.base.specs.Digits.{digits}
 use Rattle.base.proofs.Parts.{length-part, put-none}
 use Rattle.output.proofs.Writing.{wrote-wrote, wrote-same}
-use Rattle.image.specs.Item.{Item, decode}
+use Rattle.image.specs.Item.{Item}
 use Rattle.image.specs.Framing.{items}
 use Rattle.order.specs.declared.Phase.{Phase}
 use Rattle.order.specs.declared.Phase.the-variants.{Reel, Header}
@@ -22,19 +22,19 @@ use Rattle.order.specs.declared.Due.the-variants.{To, Wrong}
 use Rattle.order.specs.Due.{dueAfter}
 use Rattle.volume.specs.Step.{kindIn, bytesIn}
 use Rattle.volume.specs.Run.{imageVerdict}
-use Rattle.volume.specs.Meaning.{File, Meaning, content}
+use Rattle.volume.specs.Meaning.{File, content}
 use Rattle.sheet.specs.Flat.{sum}
 use Rattle.sheet.proofs.Entries.{entry-name, entry-second}
 use Rattle.content.specs.Section.{placeBehind}
-use Rattle.content.specs.File.{headerFrom, beginsFile, goesOnBehind, firstBehind, onward, firstFile, nextFile}
-use Rattle.content.specs.Records.{recordsAt, factsOf}
-use Rattle.content.specs.Walked.{Walks, FileIs, Filed}
-use Rattle.content.specs.declared.Walk.{Walk}
+use Rattle.content.specs.File.{headerFrom, beginsFile, goesOnBehind, firstBehind, onward, firstFile, nextFile, fileBehind}
+use Rattle.content.specs.Records.{recordsAt, factsOf, countedFrom}
+use Rattle.content.specs.Walked.{endOf, FileIs, Filed}
 use Rattle.content.specs.declared.counting.Facts.{Facts}
+use Rattle.content.specs.declared.counting.Counted.{Counted}
 use Rattle.content.specs.declared.FileAt.{FileAt}
 use Rattle.content.specs.declared.NextFile.{NextFile}
 use Rattle.content.specs.declared.NextFile.the-variants.{At, Nowhere}
-use Rattle.content.proofs.Records.{walks-records}
+use Rattle.content.proofs.Records.{walks-records, counted-facts}
 use Rattle.content.proofs.Walked.{files-all}
 use Rattle.listing.specs.Page.{Wrote, endless}
 use Rattle.listing.specs.Text.{heading, named, counted, described, line, lines, listingOf}
@@ -44,27 +44,25 @@ use Rattle.listing.specs.Place.{describedAt, lineAt}
 
 -- what is said of a file, by the parts of the image that the code cuts out
 pub described-written : (s : List ℕ) (f : FileAt) (first second i g : List ℕ) (x : Facts) (o : List ℕ) (a : ℕ) (p : List ℕ) (r : ℕ) (q : List ℕ) (t : ℕ)
-    → first ≡ part (f .first) 80 s → second ≡ part (f .second) 80 s → i ≡ part 4 17 first → g ≡ part 4 1 second → x ≡ factsOf (recordsAt s (f .walk))
-    → Wrote o a (named i g) p r → Wrote p r (counted (x .records) (x .bytes)) q t → Wrote o a (describedAt s f) q t
+    → first ≡ part (f .first) 80 s → second ≡ part (f .second) 80 s → i ≡ part 4 17 first → g ≡ part 4 1 second
+    → Wrote o a (named i g) p r → Wrote p r (counted (x .records) (x .bytes)) q t → Wrote o a (describedAt s f x) q t
 unfolding describedAt
-described-written s f first second i g x o a p r q t ef es ei eg ex w v =
-    wrote-same o a (named i g ++ counted (x .records) (x .bytes)) (describedAt s f) q t
-    (ap₂ (λ (y z : List ℕ). y ++ z)
-    (ap₂ named (ei ∙ ap (part 4 17) ef) (eg ∙ ap (part 4 1) es))
-    (ap (λ (y : Facts). counted (y .records) (y .bytes)) ex))
+described-written s f first second i g x o a p r q t ef es ei eg w v =
+    wrote-same o a (named i g ++ counted (x .records) (x .bytes)) (describedAt s f x) q t
+    (ap (λ (y : List ℕ). y ++ counted (x .records) (x .bytes)) (ap₂ named (ei ∙ ap (part 4 17) ef) (eg ∙ ap (part 4 1) es)))
     (wrote-wrote o a (named i g) p r (counted (x .records) (x .bytes)) q t w v)
 
-pub line-written : (s : List ℕ) (f : FileAt) (n : ℕ) (d o : List ℕ) (a : ℕ) (p : List ℕ) (r : ℕ) (q : List ℕ) (t : ℕ)
-    → d ≡ digits 4 n → Wrote o a d p r → Wrote p r (describedAt s f) q t → Wrote o a (lineAt s n f) q t
+pub line-written : (s : List ℕ) (f : FileAt) (x : Facts) (n : ℕ) (d o : List ℕ) (a : ℕ) (p : List ℕ) (r : ℕ) (q : List ℕ) (t : ℕ)
+    → d ≡ digits 4 n → Wrote o a d p r → Wrote p r (describedAt s f x) q t → Wrote o a (lineAt s n f x) q t
 unfolding lineAt
-line-written s f n d o a p r q t e w v =
-    wrote-same o a (d ++ describedAt s f) (lineAt s n f) q t (ap (λ (y : List ℕ). y ++ describedAt s f) e)
-    (wrote-wrote o a d p r (describedAt s f) q t w v)
+line-written s f x n d o a p r q t e w v =
+    wrote-same o a (d ++ describedAt s f x) (lineAt s n f x) q t (ap (λ (y : List ℕ). y ++ describedAt s f x) e)
+    (wrote-wrote o a d p r (describedAt s f x) q t w v)
 
 pub ruleset describing = (described-written, line-written, needs)
 
 -- where a file of the meaning stands, its line is found
-line-is : (s : List ℕ) (n : ℕ) (f : FileAt) (d : File) → FileIs s f d → lineAt s n f ≡ line n d
+line-is : (s : List ℕ) (n : ℕ) (f : FileAt) (d : File) → FileIs s f d → lineAt s n f (factsOf (recordsAt s (f .walk))) ≡ line n d
 unfolding lineAt line described describedAt factsOf
 line-is s n f d c =
     let first : length (part (f .first) 80 s) ≡ 80 = length-part (f .first) 80 s (c .firstWithin) in
@@ -107,6 +105,7 @@ header-behind g p first at (x ∷ xs) =
 -- ---- the loop of `put_listing`: the lines written, then those of the files that are left
 
 pub record Lining (s o : List ℕ) (a : ℕ) (p : List ℕ) (r n : ℕ) (x : NextFile) : Type 0 where
+  pub room : length s < 18446744073709551616
   pub before : List ℕ
   pub rest : List File
   pub filed : Filed s x rest
@@ -118,10 +117,12 @@ pub record Lining (s o : List ℕ) (a : ℕ) (p : List ℕ) (r n : ℕ) (x : Nex
 wrote-none : (o : List ℕ) (a : ℕ) → a ≤ endless → Wrote o a [] o a
 wrote-none o a h = record { kept = refl; place = omega arith; done = λ _ _. sym (put-none o a) }
 
-pub lining-none : (s o p : List ℕ) (r : ℕ) (x : NextFile) → imageVerdict s .number ≡ 0 → x ≡ firstFile s → Wrote o 0 heading p r → Lining s p r p r 1 x
+pub lining-none : (s o p : List ℕ) (r : ℕ) (x : NextFile) → length s < 18446744073709551616 → imageVerdict s .number ≡ 0 → x ≡ firstFile s → Wrote o 0 heading p r
+    → Lining s p r p r 1 x
 unfolding firstFile
-lining-none s o p r x h e w =
+lining-none s o p r x l h e w =
     record {
+      room = l;
       before = [];
       rest = content s .files;
       filed = subst (λ (y : NextFile). Filed s y (content s .files)) (sym e) (files-all s h);
@@ -145,7 +146,7 @@ pub record Next (s : List ℕ) (n : ℕ) (f : FileAt) (rest : List File) : Type 
   pub others : List File
   pub is : FileIs s f file
   pub filed : Filed s (nextFile s f) others
-  pub lined : lines n rest ≡ lineAt s n f ++ lines (n + 1) others
+  pub lined : lines n rest ≡ lineAt s n f (factsOf (recordsAt s (f .walk))) ++ lines (n + 1) others
 
 next-file : (s : List ℕ) (n : ℕ) (x : NextFile) (f : FileAt) (ds : List File) → Filed s x ds → x ≡ At f → Next s n f ds
 unfolding isFile fileIn lines
@@ -172,6 +173,15 @@ lining-all s e o a p r n x w c z =
     all [] h q = sym (append-nil (c .before)) ∙ q
     all (d ∷ ds) (g, e′, _, _) q = absurd (false≢true (sym (ap isFile z) ∙ ap isFile e′))
 
+-- how far the image goes on behind a file's HDR2
+abbrev pub left : List ℕ → NextFile → ℕ
+left s (At f) = suc (length s - f .second)
+left s Nowhere = 0
+
+left-falls : (s : List ℕ) (f : FileAt) (y : NextFile) → f .second + 80 ≤ length s → Behind (f .second + 80) y → left s y < left s (At f)
+left-falls s f (At g) h b = omega arith
+left-falls s f Nowhere h b = omega arith
+
 module _ (s o : List ℕ) (a : ℕ) (p : List ℕ) (r n : ℕ) (x : NextFile) (f : FileAt) (c : Lining s o a p r n x) (e : x ≡ At f) where
   next : Next s n f (c .rest)
   next = next-file s n x f (c .rest) (c .filed) e
@@ -183,35 +193,40 @@ module _ (s o : List ℕ) (a : ℕ) (p : List ℕ) (r n : ℕ) (x : NextFile) (f
   unfolding nextFile
   behind = header-behind false (Header 2) (f .first) (f .second + 80) _
 
-  pub lining-more : (q : List ℕ) (t : ℕ) (y : NextFile) → Wrote p r (lineAt s n f) q t → y ≡ nextFile s f → Lining s o a q t (n + 1) y
-  lining-more q t y w h =
+  pub number-fits : Fits w64 (n + 1)
+  number-fits = let inside : f .second + 80 ≤ length s = next .is .secondWithin in omega (arith, after, c .room)
+
+  -- the walk over the file's records ends inside the image, and the next file is found from there on
+  end : (y : Counted) → y ≡ countedFrom s (f .walk) → y .last .at + y .last .left ≡ endOf s (f .walk)
+  unfolding countedFrom endOf
+  end y h = ap (λ (z : Counted). z .last .at + z .last .left) h
+
+  found : (y : Counted) (z : NextFile) → y ≡ countedFrom s (f .walk) → z ≡ fileBehind s f (y .last .at + y .last .left) → z ≡ nextFile s f
+  found y z h k = k ∙ ap (fileBehind s f) (end y h) ∙ next .is .behind
+
+  pub end-fits : (y : Counted) → y ≡ countedFrom s (f .walk) → Fits w64 (y .last .at + y .last .left)
+  end-fits y h = omega (arith, end y h, next .is .ends, c .room)
+
+  pub lining-more : (y : Counted) (q : List ℕ) (t : ℕ) (z : NextFile) → y ≡ countedFrom s (f .walk) → Wrote p r (lineAt s n f (y .facts)) q t
+      → z ≡ fileBehind s f (y .last .at + y .last .left) → Lining s o a q t (n + 1) z
+  lining-more y q t z h w k =
       record {
-        before = c .before ++ lineAt s n f;
+        room = c .room;
+        before = c .before ++ lineAt s n f (y .facts);
         rest = next .others;
-        filed = subst (λ (k : NextFile). Filed s k (next .others)) (sym h) (next .filed);
-        wrote = wrote-wrote o a (c .before) p r (lineAt s n f) q t (c .wrote) w;
+        filed = subst (λ (u : NextFile). Filed s u (next .others)) (sym (found y z h k)) (next .filed);
+        wrote = wrote-wrote o a (c .before) p r (lineAt s n f (y .facts)) q t (c .wrote) w;
         whole =
-            append-assoc (c .before) (lineAt s n f) (lines (n + 1) (next .others))
+            append-assoc (c .before) (lineAt s n f (y .facts)) (lines (n + 1) (next .others))
+            ∙ ap (λ (u : Facts). c .before ++ (lineAt s n f u ++ lines (n + 1) (next .others))) (counted-facts s (f .walk) y h)
             ∙ ap (λ (l : List ℕ). c .before ++ l) (sym (next .lined))
             ∙ c .whole;
-        number = subst (Behind (n + 1 + 1)) (sym h) (behind-less (n + 1 + 1) (f .second + 80) (nextFile s f) (omega (arith, after)) behind);
+        number = subst (Behind (n + 1 + 1)) (sym (found y z h k)) (behind-less (n + 1 + 1) (f .second + 80) (nextFile s f) (omega (arith, after)) behind);
       }
 
-  pub number-fits : length s < 18446744073709551616 → Fits w64 (n + 1)
-  number-fits h = let inside : f .second + 80 ≤ length s = next .is .secondWithin in omega (arith, after)
+  pub lining-falls : (y : Counted) (z : NextFile) → y ≡ countedFrom s (f .walk) → z ≡ fileBehind s f (y .last .at + y .last .left) → left s z < left s x
+  lining-falls y z h k =
+      subst (λ (u : NextFile). left s z < left s u) (sym e)
+      (left-falls s f z (next .is .secondWithin) (subst (Behind (f .second + 80)) (sym (found y z h k)) behind))
 
--- how far the image goes on behind a file's HDR2
-abbrev pub left : List ℕ → NextFile → ℕ
-left s (At f) = suc (length s - f .second)
-left s Nowhere = 0
-
-left-falls : (s : List ℕ) (f : FileAt) (y : NextFile) → f .second + 80 ≤ length s → Behind (f .second + 80) y → left s y < left s (At f)
-left-falls s f (At g) h b = omega arith
-left-falls s f Nowhere h b = omega arith
-
-pub lining-falls : (s o : List ℕ) (a : ℕ) (p : List ℕ) (r n : ℕ) (x : NextFile) (f : FileAt) (y : NextFile) → Lining s o a p r n x → x ≡ At f → y ≡ nextFile s f → left s y < left s x
-lining-falls s o a p r n x f y c e h =
-    subst (λ (k : NextFile). left s y < left s k) (sym e)
-    (left-falls s f y (next s o a p r n x f c e .is .secondWithin) (subst (Behind (f .second + 80)) (sym h) (behind s o a p r n x f c e)))
-
-pub ruleset lining = (lining-none, lining-all, lining-more, number-fits, lining-falls, needs)
+pub ruleset lining = (lining-none, lining-all, lining-more, number-fits, end-fits, lining-falls, needs)

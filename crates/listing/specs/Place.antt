@@ -1,16 +1,14 @@
--- The line of a file by the places where its labels and its records stand in the image.
+-- The line of a file by the places where its labels stand in the image, and what was counted of its records.
 use mathlib.Core.List.{List, _++_}
 use Prim.Native.Nat.{ℕ}
 use Rattle.base.specs.Part.{part}
 use Rattle.base.specs.Digits.{digits}
-use Rattle.content.specs.Records.{recordsAt, factsOf}
 use Rattle.content.specs.declared.FileAt.{FileAt}
+use Rattle.content.specs.declared.counting.Facts.{Facts}
 use Rattle.listing.specs.Text.{named, counted}
 
-unfoldable pub describedAt : List ℕ → FileAt → List ℕ
-describedAt s f =
-    named (part 4 17 (part (f .first) 80 s)) (part 4 1 (part (f .second) 80 s))
-    ++ counted (factsOf (recordsAt s (f .walk)) .records) (factsOf (recordsAt s (f .walk)) .bytes)
+unfoldable pub describedAt : List ℕ → FileAt → Facts → List ℕ
+describedAt s f x = named (part 4 17 (part (f .first) 80 s)) (part 4 1 (part (f .second) 80 s)) ++ counted (x .records) (x .bytes)
 
-unfoldable pub lineAt : List ℕ → ℕ → FileAt → List ℕ
-lineAt s n f = digits 4 n ++ describedAt s f
+unfoldable pub lineAt : List ℕ → ℕ → FileAt → Facts → List ℕ
+lineAt s n f x = digits 4 n ++ describedAt s f x

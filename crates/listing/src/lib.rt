@@ -10,8 +10,9 @@ ghost use Rattle.listing.specs.Page.{Wrote};
 ghost use Rattle.listing.specs.Text.{listingOf, refusalLine, textOf};
 use base::Verdict;
 use content::NextFile;
+use content::count_records;
+use content::file_behind;
 use content::first_file;
-use content::next_file;
 use line::put_heading;
 use line::put_line;
 use line::put_refusal;
@@ -32,9 +33,14 @@ fn put_listing(out: &mut [u8], image: &[u8]) -> usize
         match next {
             NextFile::Nowhere => return end,
             NextFile::At(f) => {
-                end = put_line(out, end, image, n, f);
+                let w = f.walk;
+                let x = count_records(image, w);
+                let facts = x.facts;
+                let last = x.last;
+                end = put_line(out, end, image, n, f, facts);
                 n += 1;
-                next = next_file(image, f);
+                // What the walk went over is not gone over again: the next file is sought from its end on.
+                next = file_behind(image, f, last.at + last.left);
             }
         }
     }

@@ -7,8 +7,8 @@ use crate::page::put;
 use crate::page::put_number;
 use base::Verdict;
 use base::part_of;
+use content::Facts;
 use content::FileAt;
-use content::file_facts;
 use output::four_digits;
 
 // Writes the place of a refusal, and ends the line.
@@ -55,22 +55,27 @@ fn put_counts(out: &mut [u8], at: usize, records: u64, size: u64) -> usize
 }
 
 // Writes what is said of a file, and ends the line.
-fn put_file(out: &mut [u8], at: usize, image: &[u8], f: FileAt) -> usize
-    ensures { λ r. ⌜ Wrote (now (out .entry)) at (describedAt (now (image .entry)) f) (now (out .exit)) r ⌝ }
+fn put_file(out: &mut [u8], at: usize, image: &[u8], f: FileAt, x: Facts) -> usize
+    ensures { λ r. ⌜ Wrote (now (out .entry)) at (describedAt (now (image .entry)) f x) (now (out .exit)) r ⌝ }
 {
     let first = part_of(image, f.first, 80);
     let second = part_of(image, f.second, 80);
     let behind = put_names(out, at, part_of(first, 4, 17), part_of(second, 4, 1));
-    let w = f.walk;
-    let x = file_facts(image, w);
     put_counts(out, behind, x.records, x.bytes)
 }
 
-// Writes the line of file n, from 1.
-pub(crate) fn put_line(out: &mut [u8], at: usize, image: &[u8], n: usize, f: FileAt) -> usize
-    ensures { λ r. ⌜ Wrote (now (out .entry)) at (lineAt (now (image .entry)) n f) (now (out .exit)) r ⌝ }
+// Writes the line of file n, from 1, of whose records this was counted.
+pub(crate) fn put_line(
+    out: &mut [u8],
+    at: usize,
+    image: &[u8],
+    n: usize,
+    f: FileAt,
+    x: Facts,
+) -> usize
+    ensures { λ r. ⌜ Wrote (now (out .entry)) at (lineAt (now (image .entry)) n f x) (now (out .exit)) r ⌝ }
 {
     let d = four_digits(n);
     let behind = put(out, at, &d);
-    put_file(out, behind, image, f)
+    put_file(out, behind, image, f, x)
 }

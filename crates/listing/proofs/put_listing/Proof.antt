@@ -29,14 +29,20 @@ returns c = search lining
 enum-known-next : tie.Need-enum-known-next Inv-loop μ-loop
 enum-known-next c = search lining
 
+count-records-requires : tie.Need-count-records-requires Inv-loop μ-loop
+count-records-requires c κs = search lining
+
 put-line-requires : tie.Need-put-line-requires Inv-loop μ-loop
 put-line-requires c κs = search lining
 
 add-n : tie.Need-add-n Inv-loop μ-loop
 add-n c = search lining
 
-next-file-requires : tie.Need-next-file-requires Inv-loop μ-loop
-next-file-requires c κs = search lining
+add-file-behind : tie.Need-add-file-behind Inv-loop μ-loop
+add-file-behind c = search lining
+
+file-behind-requires : tie.Need-file-behind-requires Inv-loop μ-loop
+file-behind-requires c κs = search lining
 
 loop-less : tie.Need-loop-less Inv-loop μ-loop
 loop-less c = search lining
@@ -57,8 +63,10 @@ put-listing-spec =
     same-length
     returns
     enum-known-next
+    count-records-requires
     put-line-requires
     add-n
-    next-file-requires
+    add-file-behind
+    file-behind-requires
     loop-less
     loop-again)

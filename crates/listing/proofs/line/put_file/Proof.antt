@@ -17,9 +17,6 @@ part-of-requires-4 c κs = search describing
 put-names-requires : tie.Need-put-names-requires
 put-names-requires c κs = search describing
 
-file-facts-requires : tie.Need-file-facts-requires
-file-facts-requires c κs = search describing
-
 put-counts-requires : tie.Need-put-counts-requires
 put-counts-requires c κs = search describing
 
@@ -38,7 +35,6 @@ put-file-spec =
     part-of-requires-3
     part-of-requires-4
     put-names-requires
-    file-facts-requires
     put-counts-requires
     same-length
     returns)
