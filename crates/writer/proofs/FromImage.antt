@@ -38,10 +38,11 @@ use Rattle.writer.specs.Pack.{startOf}
 use Rattle.writer.specs.Write.{writeSheet}
 use Rattle.writer.specs.Rewrite.{sheetFrom}
 use Rattle.writer.specs.Output.{Wrote}
-use Rattle.writer.specs.Source.{laterAt, endAt, leftAt, Good, Opened}
+use Rattle.writer.specs.Source.{laterAt, leftAt, Good, Opened}
 use Rattle.writer.specs.Reels.{Layable, FilePut}
 use Rattle.writer.specs.Sets.{Origin, read, originOf, totalOf, filesAt, Placed, Walked, behindRead, Fileable, OneFiled, sheetAt, Writable}
 use Rattle.writer.proofs.RoundTrip.{LegalSheet, legal-sheet}
+use Rattle.writer.proofs.Sources.{image-good}
 use Rattle.writer.proofs.Filing.{opened-left, legal-others, file-layable, one-filed, sheet-named}
 
 -- ---- the records of a file opened
@@ -52,28 +53,19 @@ unopened w =
       at = 0;
       here = 0;
       left = 0;
+      next = w .at;
+      stop = w .left;
+      rest = 0;
+      offset = w .offset;
+      size = w .size;
+      format = w .format;
       begun = 0;
       live = true;
-      next = 0;
-      stop = 0;
       image = true;
-      walk = w;
-      behind = w;
     }
-
-no-end : (lengths : List ℕ) (w : Walk) → endAt lengths (unopened w) ≡ 0
-unfolding endAt
-no-end lengths w = if-true _ _ _ refl
 
 pub walk-good : (lengths bytes : List ℕ) (w : Walk) → Good lengths bytes (unopened w)
-walk-good lengths bytes w =
-    record {
-      holds = record { inside = omega arith; sheet = λ _. refl; further = λ z. absurd (omega arith) };
-      order = omega arith;
-      within = omega arith;
-      inside = omega (arith, no-end lengths w);
-      over = λ z. absurd (false≢true (sym z));
-    }
+walk-good lengths bytes w = image-good lengths bytes (unopened w) refl (record { inside = omega arith; sheet = λ _. refl; further = λ z. absurd (omega arith) })
 
 pub walk-opened : (lengths bytes : List ℕ) (w : Walk) (d : Cursor) → Opened lengths bytes (unopened w) d → Walked lengths bytes w d
 unfolding laterAt

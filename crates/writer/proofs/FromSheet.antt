@@ -43,22 +43,21 @@ place f nth first byte = record { nth = nth; first = first; byte = byte; file = 
 
 -- ---- the records of a file opened
 
-abbrev nowhere : Walk
-nowhere = record { format = 0; size = 0; offset = 0; at = 0; left = 0 }
-
 abbrev unopened : ℕ → ℕ → ℕ → Cursor
 unopened byte first stop =
     record {
       at = byte;
       here = 0;
       left = 0;
-      begun = 0;
-      live = true;
       next = first;
       stop = stop;
+      rest = 0;
+      offset = 0;
+      size = 0;
+      format = 0;
+      begun = 0;
+      live = true;
       image = false;
-      walk = nowhere;
-      behind = nowhere;
     }
 
 pub begun-good : (lengths bytes : List ℕ) (byte first stop : ℕ) → first ≤ stop → stop ≤ length lengths
@@ -68,8 +67,8 @@ begun-good lengths bytes byte first stop h k i =
     let ends : ifB false 0 (suc (byte + 0 + sum (part first (stop - first) lengths))) ≡ suc (byte + 0 + sum (part first (stop - first) lengths)) = if-false _ _ _ refl in
     record {
       holds = record { inside = omega arith; sheet = λ _. refl; further = λ z. absurd (omega arith) };
-      order = h;
-      within = k;
+      order = λ _. h;
+      within = λ _. k;
       inside = omega arith;
       over = λ z. absurd (false≢true (sym z));
     }
@@ -300,6 +299,9 @@ module _ (set files counts lengths bytes : List ℕ) (quota : ℕ) (names : List
 
   abbrev from : Origin
   from = originOf false files counts
+
+  abbrev nowhere : Walk
+  nowhere = record { format = 0; size = 0; offset = 0; at = 0; left = 0 }
 
   abbrev start : Place
   start = place (record { first = 0; second = 0; walk = nowhere }) 0 0 0

@@ -7,6 +7,7 @@ pub mod Acts
 pub mod Laying
 pub mod RoundTrip
 pub mod Entering
+pub mod Segments
 pub mod Sources
 pub mod Filling
 pub mod Items

@@ -2,19 +2,21 @@
 use mathlib.Core.Path.{_≡_, refl, sym, ap, _∙_, subst}
 use mathlib.Core.Bool.{Bool, true, false, false≢true}
 use mathlib.Core.List.{List, [], _∷_, _++_}
-use Prim.Native.Nat.{ℕ, suc, _+_, _-_, _≤_, _<_}
+use Prim.Native.Nat.{ℕ, suc, _+_, _-_, _*_, _^_, _≤_, _<_}
 use native.Mathlib.Omega.{arith}
 use native.Mathlib.Numerals.{add-one}
-use borrow.Author.Needs.{needs}
+use borrow.Author.Needs.{scaled-fits, needs}
+use mir.Val.{Fits}
+use mir.Syntax.{w64}
 use borrow.Author.Tests.{leb-true, leb-false, eqb-true, eqb-false}
 use lib.Dec.{leb, eqb}
 use lib.ListN.{length, take, drop, getD, length-append}
 use lib.Seq.{drop-cons, drop-drop, take-take, take-all, take-at, take-add, take-append-le, drop-append-le, length-take-le}
-use Rattle.base.specs.If.{ifB, if-true, if-false, if-case}
+use Rattle.base.specs.If.{ifB, if-true, if-false}
 use Rattle.base.specs.Part.{part}
 use Rattle.base.proofs.Parts.{length-part, drop-take}
 use Rattle.sheet.specs.Flat.{sum, cutBy}
-use Rattle.content.specs.Walk.{isInside, unitFrom, unitNext, firstSegment, nextSegment, recordAt}
+use Rattle.content.specs.Walk.{firstSegment, nextSegment, recordAt}
 use Rattle.content.specs.Measure.{bytesBehind, measuredBy, recordBytes}
 use Rattle.content.specs.Records.{recordsAt}
 use Rattle.content.specs.declared.Walk.{Walk}
@@ -22,49 +24,51 @@ use Rattle.content.specs.declared.unit.Taken.{Taken}
 use Rattle.content.specs.declared.unit.Taken.the-variants.{One, Nothing}
 use Rattle.content.specs.declared.measuring.Measured.{Measured}
 use Rattle.content.specs.declared.measuring.Measured.the-variants.{Whole, Split, Nothing as None}
-use Rattle.content.proofs.Units.{inside-true}
-use Rattle.content.proofs.Rests.{Behind, next-behind, from-behind}
 use Rattle.content.proofs.Joins.{Going, Splitting}
 use Rattle.content.proofs.Records.{measured-nothing, measured-whole, measured-split, split-long, whole-within, first-split, first-some, next-going, next-some}
 use Rattle.writer.specs.declared.source.Cursor.{Cursor}
 use Rattle.writer.specs.declared.source.Moved.{Moved}
 use Rattle.writer.specs.Output.{Wrote}
-use Rattle.writer.specs.Source.{bytesAt, lengthsAt, laterAt, endAt, stopAt, Further, Holds, Good, Handed, Copied, Spelled, Onward, Segmented, past, opened, Opened}
+use Rattle.writer.specs.Source.{walkOf, behindOf, bytesAt, lengthsAt, laterAt, endAt, stopAt, Further, Holds, Good, Handed, Copied, Spelled, Onward, Segmented, past, opened, Opened}
 use Rattle.writer.proofs.Packing.{by-test}
+use Rattle.writer.proofs.Segments.{Segment, next-segment, first-segment, whole-walk, split-walk}
 use Rattle.output.proofs.Writing.{wrote-wrote}
 
-abbrev cursor : ℕ → ℕ → ℕ → ℕ → Bool → ℕ → ℕ → Bool → Walk → Walk → Cursor
-cursor at here left begun live next stop image walk behind =
+-- cursor c with another segment or record open
+abbrev moved : Cursor → ℕ → ℕ → ℕ → ℕ → ℕ → ℕ → Bool → Bool → Cursor
+moved c at here left next rest begun live image =
     record {
       at = at;
       here = here;
       left = left;
+      next = next;
+      stop = c .stop;
+      rest = rest;
+      offset = c .offset;
+      size = c .size;
+      format = c .format;
       begun = begun;
       live = live;
-      next = next;
-      stop = stop;
       image = image;
-      walk = walk;
-      behind = behind;
     }
 
 -- ---- what is left of the open record
 
 -- the open segment, and what the walk behind it would give
 abbrev onwards : List ℕ → Cursor → List ℕ
-onwards bytes c = part (c .at) (c .here) bytes ++ bytesBehind bytes (c .walk)
+onwards bytes c = part (c .at) (c .here) bytes ++ bytesBehind bytes (walkOf c)
 
 length-here : (bytes : List ℕ) (c : Cursor) → Holds bytes c → length (part (c .at) (c .here) bytes) ≡ c .here
 length-here bytes c h = length-part (c .at) (c .here) bytes (h .inside)
 
-length-onwards : (bytes : List ℕ) (c : Cursor) → Holds bytes c → length (onwards bytes c) ≡ c .here + length (bytesBehind bytes (c .walk))
+length-onwards : (bytes : List ℕ) (c : Cursor) → Holds bytes c → length (onwards bytes c) ≡ c .here + length (bytesBehind bytes (walkOf c))
 length-onwards bytes c h =
-    length-append (part (c .at) (c .here) bytes) (bytesBehind bytes (c .walk)) ∙ ap (λ (n : ℕ). n + length (bytesBehind bytes (c .walk))) (length-here bytes c h)
+    length-append (part (c .at) (c .here) bytes) (bytesBehind bytes (walkOf c)) ∙ ap (λ (n : ℕ). n + length (bytesBehind bytes (walkOf c))) (length-here bytes c h)
 
 pub length-bytes : (bytes : List ℕ) (c : Cursor) → Holds bytes c → length (bytesAt bytes c) ≡ c .left
 unfolding bytesAt
 length-bytes bytes c h =
-    let all : length (onwards bytes c) ≡ c .here + length (bytesBehind bytes (c .walk)) = length-onwards bytes c h in
+    let all : length (onwards bytes c) ≡ c .here + length (bytesBehind bytes (walkOf c)) = length-onwards bytes c h in
     by-test (leb (c .left) (c .here)) (λ t. let few = leb-true (c .left) (c .here) t in length-take-le (c .left) (onwards bytes c) (omega arith))
     (λ t. let some = h .further (leb-false (c .left) (c .here) t) .all in length-take-le (c .left) (onwards bytes c) (omega arith))
 
@@ -95,14 +99,21 @@ module _ (bytes : List ℕ) (c : Cursor) (k : ℕ) (h : Holds bytes c) (m : k �
   unfolding bytesAt
   front =
       take-take k (c .left) (onwards bytes c) l
-      ∙ take-append-le k (part (c .at) (c .here) bytes) (bytesBehind bytes (c .walk)) within
+      ∙ take-append-le k (part (c .at) (c .here) bytes) (bytesBehind bytes (walkOf c)) within
       ∙ part-taken (c .at) (c .here) k bytes m
+
+  -- the walk behind the open segment stays where it is
+  same-walk : walkOf d ≡ walkOf c
+  same-walk =
+      let stays : c .at + k + (c .here - k) ≡ c .at + c .here = omega arith in
+      λ i. record { format = c .format; size = c .size; offset = c .offset; at = stays i; left = c .rest }
 
   behind : bytesAt bytes d ≡ drop k (bytesAt bytes c)
   unfolding bytesAt
   behind =
-      ap (λ (s : List ℕ). take (c .left - k) (s ++ bytesBehind bytes (c .walk))) (sym (part-dropped (c .at) (c .here) k bytes))
-      ∙ ap (take (c .left - k)) (sym (drop-append-le k (part (c .at) (c .here) bytes) (bytesBehind bytes (c .walk)) within))
+      ap (λ (w : Walk). take (c .left - k) (part (c .at + k) (c .here - k) bytes ++ bytesBehind bytes w)) same-walk
+      ∙ ap (λ (s : List ℕ). take (c .left - k) (s ++ bytesBehind bytes (walkOf c))) (sym (part-dropped (c .at) (c .here) k bytes))
+      ∙ ap (take (c .left - k)) (sym (drop-append-le k (part (c .at) (c .here) bytes) (bytesBehind bytes (walkOf c)) within))
       ∙ sym (drop-take k (c .left) (onwards bytes c))
 
   place : c .at + k + (c .left - k) ≡ c .at + c .left
@@ -117,16 +128,17 @@ module _ (bytes : List ℕ) (c : Cursor) (k : ℕ) (h : Holds bytes c) (m : k �
             λ less.
             let f = h .further (omega arith) in
             let all = f .all in
-            record { goes = record { inside = f .goes .inside; ended = f .goes .ended; fits = omega arith }; all = omega arith };
+            subst (λ (w : Walk). Further bytes w (c .here - k) (c .left - k)) (sym same-walk)
+            (record { goes = record { inside = f .goes .inside; ended = f .goes .ended; fits = omega arith }; all = omega arith });
       }
 
   end : (lengths : List ℕ) → endAt lengths d ≡ endAt lengths c
   unfolding endAt lengthsAt
   end lengths = ap (λ (n : ℕ). ifB (c .image) 0 (suc (n + sum (lengthsAt lengths c)))) place
 
-  handed : Handed bytes c k d
+  pub past-handed : Handed bytes c k d
   unfolding laterAt lengthsAt
-  handed =
+  past-handed =
       record {
         remains = behind;
         left = omega arith;
@@ -143,7 +155,7 @@ module _ (bytes : List ℕ) (c : Cursor) (k : ℕ) (h : Holds bytes c) (m : k �
               over = λ e. absurd (false≢true (sym e));
             };
         end = end;
-        later = λ lengths. ap (λ (n : ℕ). ifB (c .image) (recordsAt bytes (c .behind)) (cutBy (lengthsAt lengths c) (drop n bytes))) place;
+        later = λ lengths. ap (λ (n : ℕ). ifB (c .image) (recordsAt bytes (behindOf c)) (cutBy (lengthsAt lengths c) (drop n bytes))) place;
       }
 
   pub spelled : (s o : List ℕ) (at : ℕ) (p : List ℕ) (r : ℕ) (x : Cursor) → s ≡ part (c .at) k bytes → Wrote o at s p r → x ≡ past c k
@@ -151,9 +163,9 @@ module _ (bytes : List ℕ) (c : Cursor) (k : ℕ) (h : Holds bytes c) (m : k �
   spelled s o at p r x e w q =
       subst (λ (y : Cursor). Spelled bytes c k o at p (record { at = r; cur = y })) (sym q)
       (record {
-        copied = record { wrote = subst (λ (bs : List ℕ). Wrote o at bs p r) (e ∙ sym front) w; handed = handed };
+        copied = record { wrote = subst (λ (bs : List ℕ). Wrote o at bs p r) (e ∙ sym front) w; handed = past-handed };
         here = omega arith;
-        walk = refl;
+        walk = same-walk;
       })
 
 pub holds-fits : (bytes : List ℕ) (c : Cursor) → Holds bytes c → c .at + c .here ≤ length bytes
@@ -187,50 +199,40 @@ copied-copied bytes c j o at p m k q n x y =
       handed = handed-handed bytes c j (m .cur) k (n .cur) (x .handed) (y .handed);
     }
 
--- a segment is further on and inside the image
-next-at : (s : List ℕ) (w : Walk) (i start n : ℕ) (v : Walk) → nextSegment s w ≡ One i start n v → Behind s w start n v
-unfolding nextSegment
-next-at s w i start n v =
-    if-case (λ (t : Taken). t ≡ One i start n v → Behind s w start n v) (isInside s w) (unitNext s w) Nothing (λ _ e. next-behind s w i start n v e)
-    (λ _ e. let z : _≡_ {A = ℕ} 0 1 = cc in absurd (omega arith))
-
-first-at : (s : List ℕ) (w : Walk) (i start n : ℕ) (v : Walk) → firstSegment s w ≡ One i start n v → Behind s w start n v
-unfolding firstSegment
-first-at s w i start n v =
-    if-case (λ (t : Taken). t ≡ One i start n v → Behind s w start n v) (isInside s w) (unitFrom s w) Nothing
-    (λ h e. from-behind s w i start n v (inside-true s w true (sym h) refl) e) (λ _ e. let z : _≡_ {A = ℕ} 0 1 = cc in absurd (omega arith))
-
 nothing-here : (at : ℕ) (s : List ℕ) → part at 0 s ≡ []
 unfolding part
 nothing-here at s = refl
 
 module _ (bytes : List ℕ) (c : Cursor) (h : Holds bytes c) (z : c .here ≡ 0) (l : 0 < c .left) (b : c .begun ≡ 1) (v : c .live ≡ true) where
-  f : Further bytes (c .walk) (c .here) (c .left)
+  f : Further bytes (walkOf c) (c .here) (c .left)
   f = h .further (omega arith)
 
-  all-behind : bytesAt bytes c ≡ bytesBehind bytes (c .walk)
+  all-behind : bytesAt bytes c ≡ bytesBehind bytes (walkOf c)
   unfolding bytesAt
   all-behind =
-      ap (λ (n : ℕ). take (c .left) (part (c .at) n bytes ++ bytesBehind bytes (c .walk))) z
-      ∙ ap (λ (s : List ℕ). take (c .left) (s ++ bytesBehind bytes (c .walk))) (nothing-here (c .at) bytes)
-      ∙ take-all (c .left) (bytesBehind bytes (c .walk)) (omega (arith, f .all))
+      ap (λ (n : ℕ). take (c .left) (part (c .at) n bytes ++ bytesBehind bytes (walkOf c))) z
+      ∙ ap (λ (s : List ℕ). take (c .left) (s ++ bytesBehind bytes (walkOf c))) (nothing-here (c .at) bytes)
+      ∙ take-all (c .left) (bytesBehind bytes (walkOf c)) (omega (arith, f .all))
 
   -- only an image has a record that goes on
   is-image : c .image ≡ true
   is-image = by-test (c .image) (λ e. e) (λ e. let q = h .sheet e in absurd (omega arith))
 
-  pub onward-none : (t : Taken) → t ≡ nextSegment bytes (c .walk) → t ≡ Nothing → Onward bytes c c
-  onward-none t e q = absurd (next-some bytes (c .walk) t (f .goes .inside) (f .goes .ended) e q)
+  next-is : (w : Walk) (t : Taken) → w ≡ walkOf c → t ≡ nextSegment bytes w → t ≡ nextSegment bytes (walkOf c)
+  next-is w t k e = e ∙ ap (nextSegment bytes) k
 
-  module _ (i at here : ℕ) (walk : Walk) (t : Taken) (e : t ≡ nextSegment bytes (c .walk)) (q : t ≡ One i at here walk) where
-    g : Going bytes (c .walk) i at here walk
-    g = next-going bytes (c .walk) i at here walk t (f .goes .inside) (f .goes .ended) e q
+  pub onward-none : (w : Walk) (t : Taken) → w ≡ walkOf c → t ≡ nextSegment bytes w → t ≡ Nothing → Onward bytes c c
+  onward-none w t k e q = absurd (next-some bytes (walkOf c) t (f .goes .inside) (f .goes .ended) (next-is w t k e) q)
 
-    a : Behind bytes (c .walk) at here walk
-    a = next-at bytes (c .walk) i at here walk (sym e ∙ q)
+  module _ (w : Walk) (i at here : ℕ) (walk : Walk) (t : Taken) (k : w ≡ walkOf c) (e : t ≡ nextSegment bytes w) (q : t ≡ One i at here walk) where
+    g : Going bytes (walkOf c) i at here walk
+    g = next-going bytes (walkOf c) i at here walk t (f .goes .inside) (f .goes .ended) (next-is w t k e) q
+
+    a : Segment bytes (walkOf c) at here walk
+    a = next-segment bytes (walkOf c) i at here walk (sym (next-is w t k e) ∙ q)
 
     abbrev o : Cursor
-    o = cursor at here (c .left) 1 true (c .next) (c .stop) (c .image) walk (c .behind)
+    o = moved c at here (c .left) (c .next) (walk .left) 1 true (c .image)
 
     joined : (eqb i 3 ≡ false) → length (part at here bytes ++ bytesBehind bytes walk) ≡ c .left
     joined s = ap length (sym (g .more (eqb-false i 3 s) .0)) ∙ omega (arith, f .all)
@@ -238,7 +240,8 @@ module _ (bytes : List ℕ) (c : Cursor) (h : Holds bytes c) (z : c .here ≡ 0)
     same-bytes : bytesAt bytes o ≡ bytesAt bytes c
     unfolding bytesAt
     same-bytes =
-        by-test (eqb i 3)
+        ap (λ (v : Walk). take (c .left) (part at here bytes ++ bytesBehind bytes v)) (a .walk)
+        ∙ by-test (eqb i 3)
         (λ s.
         let last = g .last (eqb-true i 3 s) in
         take-at (part at here bytes) (bytesBehind bytes walk) (c .left) (ap length (sym last) ∙ omega (arith, f .all)) ∙ sym last)
@@ -248,13 +251,14 @@ module _ (bytes : List ℕ) (c : Cursor) (h : Holds bytes c) (z : c .here ≡ 0)
     holds-on : Holds bytes o
     holds-on =
         record {
-          inside = a .within;
+          inside = a .behind .within;
           sheet = λ s. absurd (false≢true (sym s ∙ is-image));
           further =
               λ less.
-              by-test (eqb i 3)
+              subst (λ (v : Walk). Further bytes v here (c .left)) (sym (a .walk))
+              (by-test (eqb i 3)
               (λ s.
-              let last : length (bytesBehind bytes (c .walk)) ≡ length (part at here bytes) = ap length (g .last (eqb-true i 3 s)) in
+              let last : length (bytesBehind bytes (walkOf c)) ≡ length (part at here bytes) = ap length (g .last (eqb-true i 3 s)) in
               absurd (omega (arith, f .all, g .long)))
               (λ s.
               let sum : length (part at here bytes ++ bytesBehind bytes walk) ≡ length (part at here bytes) + length (bytesBehind bytes walk)
@@ -262,7 +266,7 @@ module _ (bytes : List ℕ) (c : Cursor) (h : Holds bytes c) (z : c .here ≡ 0)
               record {
                 goes = record { inside = g .inside; ended = g .more (eqb-false i 3 s) .1; fits = omega (arith, joined s, g .long) };
                 all = omega (arith, joined s, g .long);
-              });
+              }));
         }
 
     ends-on : (lengths : List ℕ) → endAt lengths o ≡ endAt lengths c
@@ -292,7 +296,7 @@ module _ (bytes : List ℕ) (c : Cursor) (h : Holds bytes c) (z : c .here ≡ 0)
                 end = ends-on;
                 later = λ lengths. if-true _ _ _ is-image ∙ sym (if-true _ _ _ is-image);
               };
-          falls = omega (arith, a .onward, a .inside);
+          falls = omega (arith, a .behind .onward, a .behind .inside, ap (λ (v : Walk). v .at) (a .walk));
         }
 
 pub ruleset onwardly = (onward-none, onward-one, needs)
@@ -325,7 +329,7 @@ segmented bytes c o at p m d x y =
             wrote = x .copied .wrote;
             handed = subst (λ (k : ℕ). Handed bytes c k d) none (handed-handed bytes c (c .here) (m .cur) 0 d (x .copied .handed) (y .handed));
           };
-      falls = subst (λ (w : Walk). length bytes - d .walk .at < length bytes - w .at) (x .walk) (y .falls);
+      falls = subst (λ (w : Walk). length bytes - walkOf d .at < length bytes - w .at) (x .walk) (y .falls);
     }
 
 pub all-here : (c : Cursor) → c .here < c .left → c .here ≤ c .left
@@ -378,7 +382,7 @@ module _ (bytes : List ℕ) (c : Cursor) (k : ℕ) (o : List ℕ) (at : ℕ) (d 
   copying-kept = x .kept
 
 pub segment-falls : (bytes : List ℕ) (d : Cursor) (p : List ℕ) (place : ℕ) (q : List ℕ) (m : Moved) → Segmented bytes d p place q m
-    → length bytes - m .cur .walk .at < length bytes - d .walk .at
+    → length bytes - walkOf (m .cur) .at < length bytes - walkOf d .at
 segment-falls bytes d p place q m y = y .falls
 
 pub ruleset copying = (copying-none, copying-more, copying-last, copying-holds, copying-live, copying-most, copying-less, copying-kept, segment-falls, needs)
@@ -422,7 +426,13 @@ module _ (lengths bytes : List ℕ) (c : Cursor) (g : Good lengths bytes c) (l :
       let here : c .at + c .left ≡ c .at = omega arith in
       if-false _ _ _ s ∙ ap (λ (n : ℕ). cutBy (part (c .next) (c .stop - c .next) lengths) (drop n bytes)) here
 
-  pub opened-none : c .stop ≤ c .next → Opened lengths bytes c (cursor (c .at) 0 0 0 false (c .next) (c .stop) false (c .walk) (c .behind))
+  pub next-within : c .next < c .stop → c .next < length lengths
+  next-within h = omega (arith, g .within s)
+
+  pub next-scaled : c .next < c .stop → length lengths * 8 < 2 ^ 63 → Fits w64 (c .next * 8)
+  next-scaled h k = scaled-fits (c .next) (length lengths) 8 (next-within h) k
+
+  pub opened-none : c .stop ≤ c .next → Opened lengths bytes c (moved c (c .at) 0 0 (c .next) (c .rest) 0 false false)
   unfolding endAt stopAt lengthsAt cutBy sum
   opened-none h =
       let none : part (c .next) (c .stop - c .next) lengths ≡ [] = none-left lengths (c .next) (c .stop) h in
@@ -433,8 +443,8 @@ module _ (lengths bytes : List ℕ) (c : Cursor) (g : Good lengths bytes c) (l :
         good =
             record {
               holds = record { inside = omega (arith, g .inside, end-is); sheet = λ _. refl; further = λ z. absurd (omega arith) };
-              order = g .order;
-              within = g .within;
+              order = λ _. g .order s;
+              within = λ _. g .within s;
               inside = omega (arith, g .inside, end-is);
               over = λ _. omega arith;
             };
@@ -445,20 +455,21 @@ module _ (lengths bytes : List ℕ) (c : Cursor) (g : Good lengths bytes c) (l :
       }
 
   pub opened-some : (n : ℕ) → c .next < c .stop → n ≡ getD lengths (c .next) 0
-      → Opened lengths bytes c (cursor (c .at) n n 0 true (c .next + 1) (c .stop) false (c .walk) (c .behind))
+      → Opened lengths bytes c (moved c (c .at) n n (c .next + 1) (c .rest) 0 true false)
   unfolding bytesAt laterAt endAt lengthsAt cutBy sum
   opened-some n h e =
       let one : part (c .next) (c .stop - c .next) lengths ≡ n ∷ part (c .next + 1) (c .stop - (c .next + 1)) lengths
-      = one-left lengths (c .next) (c .stop) h (g .within) ∙ ap (λ (k : ℕ). k ∷ part (c .next + 1) (c .stop - (c .next + 1)) lengths) (sym e) in
+      = one-left lengths (c .next) (c .stop) h (g .within s) ∙ ap (λ (k : ℕ). k ∷ part (c .next + 1) (c .stop - (c .next + 1)) lengths) (sym e) in
       let total : sum (part (c .next) (c .stop - c .next) lengths) ≡ n + sum (part (c .next + 1) (c .stop - (c .next + 1)) lengths) = ap sum one in
       let ends : ifB false 0 (suc (c .at + n + sum (part (c .next + 1) (c .stop - (c .next + 1)) lengths))) ≡ suc (c .at + n + sum (part (c .next + 1) (c .stop - (c .next + 1)) lengths)) = if-false _ _ _ refl in
       let room : c .at + n ≤ length bytes = omega (arith, g .inside, end-is) in
+      let behind : Walk = walkOf (moved c (c .at) n n (c .next + 1) (c .rest) 0 true false) in
       record {
         good =
             record {
               holds = record { inside = room; sheet = λ _. refl; further = λ z. absurd (omega arith) };
-              order = omega arith;
-              within = g .within;
+              order = λ _. omega arith;
+              within = λ _. g .within s;
               inside = omega (arith, g .inside, end-is);
               over = λ q. absurd (false≢true (sym q));
             };
@@ -469,113 +480,120 @@ module _ (lengths bytes : List ℕ) (c : Cursor) (g : Good lengths bytes c) (l :
             λ _.
             later-is
             ∙ ap (λ (ns : List ℕ). cutBy ns (drop (c .at) bytes)) one
-            ∙ ap (λ (t : List ℕ). t ∷ cutBy (part (c .next + 1) (c .stop - (c .next + 1)) lengths) (drop n (drop (c .at) bytes))) (sym (one-part bytes (c .walk) (c .at) n room))
-            ∙ ap (λ (t : List ℕ). take n (part (c .at) n bytes ++ bytesBehind bytes (c .walk)) ∷ cutBy (part (c .next + 1) (c .stop - (c .next + 1)) lengths) t) (drop-drop n (c .at) bytes)
-            ∙ ap (λ (t : List (List ℕ)). take n (part (c .at) n bytes ++ bytesBehind bytes (c .walk)) ∷ t) (sym (if-false _ _ _ refl));
+            ∙ ap (λ (t : List ℕ). t ∷ cutBy (part (c .next + 1) (c .stop - (c .next + 1)) lengths) (drop n (drop (c .at) bytes))) (sym (one-part bytes behind (c .at) n room))
+            ∙ ap (λ (t : List ℕ). take n (part (c .at) n bytes ++ bytesBehind bytes behind) ∷ cutBy (part (c .next + 1) (c .stop - (c .next + 1)) lengths) t) (drop-drop n (c .at) bytes)
+            ∙ ap (λ (t : List (List ℕ)). take n (part (c .at) n bytes ++ bytesBehind bytes behind) ∷ t) (sym (if-false _ _ _ refl));
       }
 
-pub ruleset listed = (opened-none, opened-some, needs)
+pub ruleset listed = (next-within, next-scaled, opened-none, opened-some, needs)
 
 -- ---- the next record of an image
 
-module _ (lengths bytes : List ℕ) (c : Cursor) (g : Good lengths bytes c) (s : c .image ≡ true) (m : Measured) (e : m ≡ measuredBy (recordAt bytes (c .behind))) where
-  later-image : laterAt lengths bytes c ≡ recordsAt bytes (c .behind)
+no-end : (lengths : List ℕ) (d : Cursor) → d .image ≡ true → endAt lengths d ≡ 0
+unfolding endAt
+no-end lengths d i = if-true _ _ _ i
+
+no-stop : (d : Cursor) → d .image ≡ true → stopAt d ≡ 0
+unfolding stopAt
+no-stop d i = if-true _ _ _ i
+
+pub image-good : (lengths bytes : List ℕ) (d : Cursor) → d .image ≡ true → Holds bytes d → Good lengths bytes d
+image-good lengths bytes d i h =
+    record {
+      holds = h;
+      order = λ z. absurd (false≢true (sym z ∙ i));
+      within = λ z. absurd (false≢true (sym z ∙ i));
+      inside = omega (arith, no-end lengths d i);
+      over = λ _. no-stop d i ∙ sym (no-end lengths d i);
+    }
+
+module _ (lengths bytes : List ℕ) (c : Cursor) (s : c .image ≡ true) where
+  later-image : laterAt lengths bytes c ≡ recordsAt bytes (behindOf c)
   unfolding laterAt
   later-image = if-true _ _ _ s
 
-  no-end : (live : Bool) (at here left : ℕ) (walk behind : Walk) → endAt lengths (opened c live at here left walk behind) ≡ 0
-  unfolding endAt
-  no-end live at here left walk behind = if-true _ _ _ refl
-
-  no-stop : (live : Bool) (at here left : ℕ) (walk behind : Walk) → stopAt (opened c live at here left walk behind) ≡ 0
-  unfolding stopAt
-  no-stop live at here left walk behind = if-true _ _ _ refl
-
-  same-end : (live : Bool) (at here left : ℕ) (walk behind : Walk) → endAt lengths (opened c live at here left walk behind) ≡ endAt lengths c
-  unfolding endAt
-  same-end live at here left walk behind = if-true _ _ _ refl ∙ sym (if-true _ _ _ s)
-
-  good-on : (live : Bool) (at here left : ℕ) (walk behind : Walk) → Holds bytes (opened c live at here left walk behind)
-      → Good lengths bytes (opened c live at here left walk behind)
-  good-on live at here left walk behind h =
+  -- no record of an image is open
+  image-closed : (d : Cursor) → d .image ≡ true → d .begun ≡ 0 → d .live ≡ false → Holds bytes d → recordsAt bytes (behindOf c) ≡ [] → Opened lengths bytes c d
+  image-closed d i b l h r =
       record {
-        holds = h;
-        order = g .order;
-        within = g .within;
-        inside = omega (arith, no-end live at here left walk behind);
-        over = λ _. no-stop live at here left walk behind ∙ sym (no-end live at here left walk behind);
+        good = image-good lengths bytes d i h;
+        end = no-end lengths d i ∙ sym (no-end lengths c s);
+        begun = b;
+        none = λ _. later-image ∙ r;
+        some = λ z. absurd (false≢true (sym l ∙ z));
       }
-
-  pub image-none : (d : Cursor) → m ≡ None → d ≡ opened c false 0 0 0 (c .behind) (c .behind) → Opened lengths bytes c d
-  image-none d q k =
-      subst (Opened lengths bytes c) (sym k)
-      (record {
-        good =
-            good-on false 0 0 0 (c .behind) (c .behind)
-            (record { inside = omega arith; sheet = λ _. refl; further = λ z. absurd (omega arith) });
-        end = same-end false 0 0 0 (c .behind) (c .behind);
-        begun = refl;
-        none = λ _. later-image ∙ measured-nothing bytes (c .behind) m e q;
-        some = λ z. absurd (false≢true z);
-      })
 
   -- an open record of an image, from its first segment on
-  image-some : (at here left : ℕ) (walk behind : Walk) → Holds bytes (opened c true at here left walk behind)
-      → recordsAt bytes (c .behind) ≡ take left (part at here bytes ++ bytesBehind bytes walk) ∷ recordsAt bytes behind
-      → Opened lengths bytes c (opened c true at here left walk behind)
-  unfolding bytesAt laterAt
-  image-some at here left walk behind h r =
+  image-open : (d : Cursor) → d .image ≡ true → d .begun ≡ 0 → d .live ≡ true → Holds bytes d
+      → recordsAt bytes (behindOf c) ≡ bytesAt bytes d ∷ recordsAt bytes (behindOf d) → Opened lengths bytes c d
+  unfolding laterAt
+  image-open d i b l h r =
       record {
-        good = good-on true at here left walk behind h;
-        end = same-end true at here left walk behind;
-        begun = refl;
-        none = λ z. absurd (false≢true (sym z));
-        some =
-            λ _.
-            later-image ∙ r ∙ ap (λ (t : List (List ℕ)). take left (part at here bytes ++ bytesBehind bytes walk) ∷ t) (sym (if-true _ _ _ refl));
+        good = image-good lengths bytes d i h;
+        end = no-end lengths d i ∙ sym (no-end lengths c s);
+        begun = b;
+        none = λ z. absurd (false≢true (sym z ∙ l));
+        some = λ _. later-image ∙ r ∙ ap (λ (t : List (List ℕ)). bytesAt bytes d ∷ t) (sym (if-true _ _ _ i));
       }
 
-  pub image-whole : (d : Cursor) (at n : ℕ) (v : Walk) → m ≡ Whole at n v → d ≡ opened c true at n n v v → Opened lengths bytes c d
-  image-whole d at n v q k =
-      let room : at + n ≤ length bytes = whole-within bytes (c .behind) at n v m e q in
-      subst (Opened lengths bytes c) (sym k)
-      (image-some at n n v v (record { inside = room; sheet = λ _. refl; further = λ z. absurd (omega arith) })
-      (measured-whole bytes (c .behind) at n v m e q
-      ∙ ap (λ (t : List ℕ). t ∷ recordsAt bytes v) (sym (take-at (part at n bytes) (bytesBehind bytes v) n (length-part at n bytes room)))))
+  module _ (w : Walk) (k : w ≡ behindOf c) (m : Measured) (e : m ≡ measuredBy (recordAt bytes w)) where
+    measured-is : m ≡ measuredBy (recordAt bytes (behindOf c))
+    measured-is = e ∙ ap (λ (v : Walk). measuredBy (recordAt bytes v)) k
 
-  module _ (n : ℕ) (v : Walk) (q : m ≡ Split n v) (t : Taken) (f : t ≡ firstSegment bytes (c .behind)) where
-    first-none : (d : Cursor) → t ≡ Nothing → Opened lengths bytes c d
-    first-none d z = absurd (first-some bytes (c .behind) n v m t e q f z)
+    pub image-none : (d : Cursor) → m ≡ None → d ≡ opened c false 0 0 0 0 (c .next) (c .stop) → Opened lengths bytes c d
+    image-none d q z =
+        subst (Opened lengths bytes c) (sym z)
+        (image-closed (opened c false 0 0 0 0 (c .next) (c .stop)) refl refl refl
+        (record { inside = omega arith; sheet = λ _. refl; further = λ less. absurd (omega arith) }) (measured-nothing bytes (behindOf c) m measured-is q))
 
-    first-one : (d : Cursor) (i at here : ℕ) (u : Walk) → t ≡ One i at here u → d ≡ opened c true at here n u v → Opened lengths bytes c d
-    first-one d i at here u z k =
-        let p : Splitting bytes (c .behind) at here u = first-split bytes (c .behind) n v m i at here u t e q f z in
-        let long : length (recordBytes (recordAt bytes (c .behind))) ≡ n = split-long bytes (c .behind) n v m e q in
-        let sum : length (part at here bytes ++ bytesBehind bytes u) ≡ n = ap length (sym (p .bytes)) ∙ long in
-        let sides : length (part at here bytes ++ bytesBehind bytes u) ≡ length (part at here bytes) + length (bytesBehind bytes u)
-        = length-append (part at here bytes) (bytesBehind bytes u) in
-        let all : here + length (bytesBehind bytes u) ≡ n = omega (arith, p .long) in
-        subst (Opened lengths bytes c) (sym k)
-        (image-some at here n u v
-        (record {
-          inside = first-at bytes (c .behind) i at here u (sym f ∙ z) .within;
-          sheet = λ y. absurd (false≢true (sym y));
-          further = λ _. record { goes = record { inside = p .inside; ended = p .ended; fits = omega arith }; all = all };
-        })
-        (measured-split bytes (c .behind) n v m e q
-        ∙ ap (λ (x : List ℕ). x ∷ recordsAt bytes v) (p .bytes ∙ sym (take-all n (part at here bytes ++ bytesBehind bytes u) (omega arith)))))
+    pub image-whole : (d : Cursor) (at n : ℕ) (v : Walk) → m ≡ Whole at n v → d ≡ opened c true at n n (v .left) (v .at) (v .left) → Opened lengths bytes c d
+    unfolding bytesAt
+    image-whole d at n v q z =
+        let room : at + n ≤ length bytes = whole-within bytes (behindOf c) at n v m measured-is q in
+        let o : Cursor = opened c true at n n (v .left) (v .at) (v .left) in
+        subst (Opened lengths bytes c) (sym z)
+        (image-open (opened c true at n n (v .left) (v .at) (v .left)) refl refl refl
+        (record { inside = room; sheet = λ _. refl; further = λ less. absurd (omega arith) })
+        (measured-whole bytes (behindOf c) at n v m measured-is q
+        ∙ ap (λ (t : List ℕ). t ∷ recordsAt bytes v) (sym (take-at (part at n bytes) (bytesBehind bytes (walkOf o)) n (length-part at n bytes room)))
+        ∙ ap (λ (u : Walk). take n (part at n bytes ++ bytesBehind bytes (walkOf o)) ∷ recordsAt bytes u) (sym (whole-walk bytes (behindOf c) at n v (sym measured-is ∙ q)))))
 
-  pub image-split : (n : ℕ) (v : Walk) → m ≡ Split n v → Split n v ≡ measuredBy (recordAt bytes (c .behind))
-  image-split n v q = sym q ∙ e
+    pub image-split : (n : ℕ) (v : Walk) → m ≡ Split n v → Split n v ≡ measuredBy (recordAt bytes (behindOf c))
+    image-split n v q = sym q ∙ measured-is
 
 pub ruleset imaged = (image-none, image-whole, image-split, needs)
 
-module _ (lengths bytes : List ℕ) (c : Cursor) (g : Good lengths bytes c) (s : c .image ≡ true) (n : ℕ) (v : Walk) (e : Split n v ≡ measuredBy (recordAt bytes (c .behind)))
-    (t : Taken) (f : t ≡ firstSegment bytes (c .behind)) where
-  pub split-none : (d : Cursor) → t ≡ Nothing → Opened lengths bytes c d
-  split-none = first-none lengths bytes c g s (Split n v) e n v refl t f
+module _ (lengths bytes : List ℕ) (c : Cursor) (s : c .image ≡ true) (n : ℕ) (v : Walk) (e : Split n v ≡ measuredBy (recordAt bytes (behindOf c))) (w : Walk)
+    (k : w ≡ behindOf c) (t : Taken) (f : t ≡ firstSegment bytes w) where
+  first-is : t ≡ firstSegment bytes (behindOf c)
+  first-is = f ∙ ap (firstSegment bytes) k
 
-  pub split-one : (d : Cursor) (i at here : ℕ) (u : Walk) → t ≡ One i at here u → d ≡ opened c true at here n u v → Opened lengths bytes c d
-  split-one = first-one lengths bytes c g s (Split n v) e n v refl t f
+  pub split-none : (d : Cursor) → t ≡ Nothing → Opened lengths bytes c d
+  split-none d z = absurd (first-some bytes (behindOf c) n v (Split n v) t e refl first-is z)
+
+  pub split-one : (d : Cursor) (i at here : ℕ) (u : Walk) → t ≡ One i at here u → d ≡ opened c true at here n (u .left) (v .at) (v .left) → Opened lengths bytes c d
+  unfolding bytesAt
+  split-one d i at here u z q =
+      let a : Segment bytes (behindOf c) at here u = first-segment bytes (behindOf c) i at here u (sym first-is ∙ z) in
+      let p : Splitting bytes (behindOf c) at here u = first-split bytes (behindOf c) n v (Split n v) i at here u t e refl first-is z in
+      let long : length (recordBytes (recordAt bytes (behindOf c))) ≡ n = split-long bytes (behindOf c) n v (Split n v) e refl in
+      let sum : length (part at here bytes ++ bytesBehind bytes u) ≡ n = ap length (sym (p .bytes)) ∙ long in
+      let sides : length (part at here bytes ++ bytesBehind bytes u) ≡ length (part at here bytes) + length (bytesBehind bytes u)
+      = length-append (part at here bytes) (bytesBehind bytes u) in
+      let all : here + length (bytesBehind bytes u) ≡ n = omega (arith, p .long) in
+      subst (Opened lengths bytes c) (sym q)
+      (image-open lengths bytes c s (opened c true at here n (u .left) (v .at) (v .left)) refl refl refl
+      (record {
+        inside = a .behind .within;
+        sheet = λ y. absurd (false≢true (sym y));
+        further =
+            λ _.
+            subst (λ (x : Walk). Further bytes x here n) (sym (a .walk))
+            (record { goes = record { inside = p .inside; ended = p .ended; fits = omega arith }; all = all });
+      })
+      (measured-split bytes (behindOf c) n v (Split n v) e refl
+      ∙ ap (λ (x : List ℕ). x ∷ recordsAt bytes v) (p .bytes ∙ sym (take-all n (part at here bytes ++ bytesBehind bytes u) (omega arith)))
+      ∙ ap (λ (x : Walk). take n (part at here bytes ++ bytesBehind bytes x) ∷ recordsAt bytes v) (sym (a .walk))
+      ∙ ap (λ (x : Walk). take n (part at here bytes ++ bytesBehind bytes (walkOf (opened c true at here n (u .left) (v .at) (v .left)))) ∷ recordsAt bytes x) (sym (split-walk bytes (behindOf c) n v (sym e)))))
 
 pub ruleset split = (split-none, split-one, needs)

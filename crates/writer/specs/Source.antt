@@ -18,9 +18,16 @@ use Rattle.writer.specs.declared.source.Moved.{Moved}
 use Rattle.writer.specs.Pack.{Left, finished, going}
 use Rattle.writer.specs.Output.{Wrote}
 
+-- the walks of an image behind the open segment, and behind the open record
+abbrev pub walkOf : Cursor → Walk
+walkOf c = record { format = c .format; size = c .size; offset = c .offset; at = c .at + c .here; left = c .rest }
+
+abbrev pub behindOf : Cursor → Walk
+behindOf c = record { format = c .format; size = c .size; offset = c .offset; at = c .next; left = c .stop }
+
 -- what is left of the open record: of the open segment, and, where it goes on behind it, of the others
 unfoldable pub bytesAt : List ℕ → Cursor → List ℕ
-bytesAt bytes c = take (c .left) (part (c .at) (c .here) bytes ++ bytesBehind bytes (c .walk))
+bytesAt bytes c = take (c .left) (part (c .at) (c .here) bytes ++ bytesBehind bytes (walkOf c))
 
 -- the lengths of the records behind it on a sheet
 unfoldable pub lengthsAt : List ℕ → Cursor → List ℕ
@@ -28,7 +35,7 @@ lengthsAt lengths c = part (c .next) (c .stop - c .next) lengths
 
 -- the records behind it
 unfoldable pub laterAt : List ℕ → List ℕ → Cursor → List (List ℕ)
-laterAt lengths bytes c = ifB (c .image) (recordsAt bytes (c .behind)) (cutBy (lengthsAt lengths c) (drop (c .at + c .left) bytes))
+laterAt lengths bytes c = ifB (c .image) (recordsAt bytes (behindOf c)) (cutBy (lengthsAt lengths c) (drop (c .at + c .left) bytes))
 
 -- on a sheet, one more than the place where the bytes of the file end; a file of an image does not end at a place, and has 0
 unfoldable pub endAt : List ℕ → Cursor → ℕ
@@ -51,13 +58,13 @@ pub record Further (bytes : List ℕ) (w : Walk) (here left : ℕ) : Type 0 wher
 pub record Holds (bytes : List ℕ) (c : Cursor) : Type 0 where
   pub inside : c .at + c .here ≤ length bytes
   pub sheet : c .image ≡ false → c .here ≡ c .left
-  pub further : c .here < c .left → Further bytes (c .walk) (c .here) (c .left)
+  pub further : c .here < c .left → Further bytes (walkOf c) (c .here) (c .left)
 
--- a cursor within its source; behind the last record of a sheet's file it stands at the end of the file
+-- a cursor within its source, the lengths too where that is a sheet; behind the last record of a sheet's file it stands at the end of the file
 pub record Good (lengths bytes : List ℕ) (c : Cursor) : Type 0 where
   pub holds : Holds bytes c
-  pub order : c .next ≤ c .stop
-  pub within : c .stop ≤ length lengths
+  pub order : c .image ≡ false → c .next ≤ c .stop
+  pub within : c .image ≡ false → c .stop ≤ length lengths
   pub inside : endAt lengths c ≤ suc (length bytes)
   pub over : c .live ≡ false → stopAt c ≡ endAt lengths c
 
@@ -79,13 +86,15 @@ past c k =
       at = c .at + k;
       here = c .here - k;
       left = c .left - k;
-      begun = 1;
-      live = true;
       next = c .next;
       stop = c .stop;
+      rest = c .rest;
+      offset = c .offset;
+      size = c .size;
+      format = c .format;
+      begun = 1;
+      live = true;
       image = c .image;
-      walk = c .walk;
-      behind = c .behind;
     }
 
 -- k bytes of the open record were written
@@ -97,32 +106,34 @@ pub record Copied (bytes : List ℕ) (c : Cursor) (k : ℕ) (o : List ℕ) (at :
 pub record Spelled (bytes : List ℕ) (c : Cursor) (k : ℕ) (o : List ℕ) (at : ℕ) (p : List ℕ) (m : Moved) : Type 0 where
   pub copied : Copied bytes c k o at p m
   pub here : m .cur .here + k ≡ c .here
-  pub walk : m .cur .walk ≡ c .walk
+  pub walk : walkOf (m .cur) ≡ walkOf c
 
 -- cursor d is c with the next segment of its record opened: the walk is further on in the image
 pub record Onward (bytes : List ℕ) (c d : Cursor) : Type 0 where
   pub handed : Handed bytes c 0 d
-  pub falls : length bytes - d .walk .at < length bytes - c .walk .at
+  pub falls : length bytes - walkOf d .at < length bytes - walkOf c .at
 
 -- what was left of the open segment was written, and the next one opened
 pub record Segmented (bytes : List ℕ) (c : Cursor) (o : List ℕ) (at : ℕ) (p : List ℕ) (m : Moved) : Type 0 where
   pub copied : Copied bytes c (c .here) o at p m
-  pub falls : length bytes - m .cur .walk .at < length bytes - c .walk .at
+  pub falls : length bytes - walkOf (m .cur) .at < length bytes - walkOf c .at
 
 -- cursor c with another record of an image open, from that place on, or none
-abbrev pub opened : Cursor → Bool → ℕ → ℕ → ℕ → Walk → Walk → Cursor
-opened c live at here left walk behind =
+abbrev pub opened : Cursor → Bool → ℕ → ℕ → ℕ → ℕ → ℕ → ℕ → Cursor
+opened c live at here left rest next stop =
     record {
       at = at;
       here = here;
       left = left;
+      next = next;
+      stop = stop;
+      rest = rest;
+      offset = c .offset;
+      size = c .size;
+      format = c .format;
       begun = 0;
       live = live;
-      next = c .next;
-      stop = c .stop;
       image = true;
-      walk = walk;
-      behind = behind;
     }
 
 -- cursor d is c with the next record opened, or without a record where there is no next

@@ -25,7 +25,6 @@ use crate::reel::Reel;
 use crate::reel::put_file;
 use crate::source::Cursor;
 use crate::source::next;
-use crate::source::next_of_image;
 use crate::source::wide;
 use base::part_of;
 use content::FileAt;
@@ -62,13 +61,6 @@ fn begin(lengths: &[u64], bytes: &[u8], byte: usize, first: usize, stop: usize) 
     requires { ⌜ byte + sum (part first (stop - first) (now lengths)) ≤ length (now bytes) ⌝ }
     ensures { λ r. ⌜ Begun (now (lengths .entry)) (now (bytes .entry)) byte first stop r ⌝ }
 {
-    let nowhere = Walk {
-        format: 0,
-        size: 0,
-        offset: 0,
-        at: 0,
-        left: 0,
-    };
     next(
         lengths,
         bytes,
@@ -76,13 +68,15 @@ fn begin(lengths: &[u64], bytes: &[u8], byte: usize, first: usize, stop: usize) 
             at: byte,
             here: 0,
             left: 0,
-            begun: 0,
-            live: true,
             next: first,
             stop,
+            rest: 0,
+            offset: 0,
+            size: 0,
+            format: 0,
+            begun: 0,
+            live: true,
             image: false,
-            walk: nowhere,
-            behind: nowhere,
         },
     )
 }
@@ -184,20 +178,22 @@ fn lay_listed(
 fn begin_walk(lengths: &[u64], bytes: &[u8], w: Walk) -> Cursor
     ensures { λ r. ⌜ Walked (now (lengths .entry)) (now (bytes .entry)) w r ⌝ }
 {
-    next_of_image(
+    next(
         lengths,
         bytes,
         Cursor {
             at: 0,
             here: 0,
             left: 0,
+            next: w.at,
+            stop: w.left,
+            rest: 0,
+            offset: w.offset,
+            size: w.size,
+            format: w.format,
             begun: 0,
             live: true,
-            next: 0,
-            stop: 0,
             image: true,
-            walk: w,
-            behind: w,
         },
     )
 }

@@ -4,7 +4,7 @@ ghost use mathlib.Core.Path.{_≡_};
 ghost use mathlib.Core.Bool.{true, false};
 ghost use Prim.Native.Nat.{_+_, _≤_, _<_};
 ghost use lib.ListN.{length};
-ghost use Rattle.writer.specs.Source.{Holds, Good, Copied, Spelled, Onward, Segmented, past, opened, Opened};
+ghost use Rattle.writer.specs.Source.{walkOf, behindOf, Holds, Good, Copied, Spelled, Onward, Segmented, past, opened, Opened};
 ghost use Rattle.content.specs.Walk.{recordAt};
 ghost use Rattle.content.specs.Measure.{measuredBy};
 ghost use Rattle.content.specs.declared.measuring.Measured.the-variants.{Split};
@@ -19,16 +19,19 @@ use content::next_segment;
 
 // Where the writer is in a file: the place and number of the bytes that are left of the open segment, and the number of those that are left of the
 // open record; 1 where some of that record has been handed over, else 0; and whether a record is open at all.
-// Of a sheet, whose records are one segment each, the next length and the end of the file's lengths; of an image, the walk behind the open segment and
-// the walk behind the open record.
+// Of a sheet, whose records are one segment each, the next length and the end of the file's lengths. Of an image, the place behind the open record and
+// the bytes that are left of its block there; the bytes that are left of the block behind the open segment; and the offset length, the record length
+// and the format of the file.
 pub struct Cursor {
     pub at: usize,
     pub here: usize,
     pub left: usize,
     pub next: usize,
     pub stop: usize,
-    pub walk: Walk,
-    pub behind: Walk,
+    pub rest: usize,
+    pub offset: usize,
+    pub size: u32,
+    pub format: u32,
     pub begun: u8,
     pub live: bool,
     pub image: bool,
@@ -47,26 +50,53 @@ pub(crate) fn wide(n: u64) -> usize
     n as usize
 }
 
+// The walk of an image behind the open segment.
+fn walk_of(bytes: &[u8], c: Cursor) -> Walk
+    requires { ⌜ Holds (now bytes) c ⌝ }
+    ensures { λ r. ⌜ r ≡ walkOf c ⌝ }
+{
+    Walk {
+        format: c.format,
+        size: c.size,
+        offset: c.offset,
+        at: c.at + c.here,
+        left: c.rest,
+    }
+}
+
+// The walk of an image behind the open record.
+fn behind_of(c: Cursor) -> Walk
+    ensures { λ r. ⌜ r ≡ behindOf c ⌝ }
+{
+    Walk {
+        format: c.format,
+        size: c.size,
+        offset: c.offset,
+        at: c.next,
+        left: c.stop,
+    }
+}
+
 // The cursor behind k bytes of the open segment.
-fn past(bytes: &[u8], c: Cursor, k: usize) -> Cursor
+pub(crate) fn past(bytes: &[u8], c: Cursor, k: usize) -> Cursor
     requires { ⌜ Holds (now bytes) c ⌝ }
     requires { ⌜ k ≤ c .here ⌝ }
     requires { ⌜ k ≤ c .left ⌝ }
     ensures { λ r. ⌜ r ≡ past c k ⌝ }
 {
-    let walk = c.walk;
-    let behind = c.behind;
     Cursor {
         at: c.at + k,
         here: c.here - k,
         left: c.left - k,
-        begun: 1,
-        live: true,
         next: c.next,
         stop: c.stop,
+        rest: c.rest,
+        offset: c.offset,
+        size: c.size,
+        format: c.format,
+        begun: 1,
+        live: true,
         image: c.image,
-        walk,
-        behind,
     }
 }
 
@@ -91,20 +121,21 @@ fn go_on(bytes: &[u8], c: Cursor) -> Cursor
     requires { ⌜ c .live ≡ true ⌝ }
     ensures { λ r. ⌜ Onward (now (bytes .entry)) c r ⌝ }
 {
-    let behind = c.behind;
-    match next_segment(bytes, c.walk) {
+    match next_segment(bytes, walk_of(bytes, c)) {
         Taken::Nothing => c,
-        Taken::One(_, at, here, walk) => Cursor {
+        Taken::One(_, at, here, v) => Cursor {
             at,
             here,
             left: c.left,
-            begun: 1,
-            live: true,
             next: c.next,
             stop: c.stop,
+            rest: v.left,
+            offset: c.offset,
+            size: c.size,
+            format: c.format,
+            begun: 1,
+            live: true,
             image: c.image,
-            walk,
-            behind,
         },
     }
 }
@@ -156,27 +187,27 @@ pub(crate) fn copy(bytes: &[u8], c: Cursor, k: usize, out: &mut [u8], at: usize)
 }
 
 // Opens the next record of a sheet's file.
-fn next_of_sheet(lengths: &[u64], bytes: &[u8], c: Cursor) -> Cursor
+pub(crate) fn next_of_sheet(lengths: &[u64], bytes: &[u8], c: Cursor) -> Cursor
     requires { ⌜ Good (now lengths) (now bytes) c ⌝ }
     requires { ⌜ c .left ≡ 0 ⌝ }
     requires { ⌜ c .image ≡ false ⌝ }
     ensures { λ r. ⌜ Opened (now (lengths .entry)) (now (bytes .entry)) c r ⌝ }
 {
-    let walk = c.walk;
-    let behind = c.behind;
     let i = c.next;
     if c.stop <= i {
         return Cursor {
             at: c.at,
             here: 0,
             left: 0,
-            begun: 0,
-            live: false,
             next: i,
             stop: c.stop,
+            rest: c.rest,
+            offset: c.offset,
+            size: c.size,
+            format: c.format,
+            begun: 0,
+            live: false,
             image: false,
-            walk,
-            behind,
         };
     }
     let n = wide(lengths[i]);
@@ -184,13 +215,15 @@ fn next_of_sheet(lengths: &[u64], bytes: &[u8], c: Cursor) -> Cursor
         at: c.at,
         here: n,
         left: n,
-        begun: 0,
-        live: true,
         next: i + 1,
         stop: c.stop,
+        rest: c.rest,
+        offset: c.offset,
+        size: c.size,
+        format: c.format,
+        begun: 0,
+        live: true,
         image: false,
-        walk,
-        behind,
     }
 }
 
@@ -201,22 +234,25 @@ fn opened(
     at: usize,
     here: usize,
     left: usize,
-    walk: Walk,
-    behind: Walk,
+    rest: usize,
+    next: usize,
+    stop: usize,
 ) -> Cursor
-    ensures { λ r. ⌜ r ≡ opened c live at here left walk behind ⌝ }
+    ensures { λ r. ⌜ r ≡ opened c live at here left rest next stop ⌝ }
 {
     Cursor {
         at,
         here,
         left,
+        next,
+        stop,
+        rest,
+        offset: c.offset,
+        size: c.size,
+        format: c.format,
         begun: 0,
         live,
-        next: c.next,
-        stop: c.stop,
         image: true,
-        walk,
-        behind,
     }
 }
 
@@ -224,26 +260,24 @@ fn opened(
 fn open_split(lengths: &[u64], bytes: &[u8], c: Cursor, n: usize, v: Walk) -> Cursor
     requires { ⌜ Good (now lengths) (now bytes) c ⌝ }
     requires { ⌜ c .image ≡ true ⌝ }
-    requires { ⌜ Split n v ≡ measuredBy (recordAt (now bytes) (c .behind)) ⌝ }
+    requires { ⌜ Split n v ≡ measuredBy (recordAt (now bytes) (behindOf c)) ⌝ }
     ensures { λ r. ⌜ Opened (now (lengths .entry)) (now (bytes .entry)) c r ⌝ }
 {
-    let w = c.behind;
-    match first_segment(bytes, w) {
-        Taken::Nothing => opened(c, false, 0, 0, 0, w, w),
-        Taken::One(_, at, here, u) => opened(c, true, at, here, n, u, v),
+    match first_segment(bytes, behind_of(c)) {
+        Taken::Nothing => opened(c, false, 0, 0, 0, 0, c.next, c.stop),
+        Taken::One(_, at, here, u) => opened(c, true, at, here, n, u.left, v.at, v.left),
     }
 }
 
 // Opens the next record of an image's file.
-pub(crate) fn next_of_image(lengths: &[u64], bytes: &[u8], c: Cursor) -> Cursor
+fn next_of_image(lengths: &[u64], bytes: &[u8], c: Cursor) -> Cursor
     requires { ⌜ Good (now lengths) (now bytes) c ⌝ }
     requires { ⌜ c .image ≡ true ⌝ }
     ensures { λ r. ⌜ Opened (now (lengths .entry)) (now (bytes .entry)) c r ⌝ }
 {
-    let w = c.behind;
-    match measure(bytes, w) {
-        Measured::Nothing => opened(c, false, 0, 0, 0, w, w),
-        Measured::Whole(at, n, v) => opened(c, true, at, n, n, v, v),
+    match measure(bytes, behind_of(c)) {
+        Measured::Nothing => opened(c, false, 0, 0, 0, 0, c.next, c.stop),
+        Measured::Whole(at, n, v) => opened(c, true, at, n, n, v.left, v.at, v.left),
         Measured::Split(n, v) => open_split(lengths, bytes, c, n, v),
     }
 }

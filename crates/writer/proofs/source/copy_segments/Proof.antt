@@ -1,5 +1,6 @@
 use Prim.Native.Nat.{_-_}
 use lib.ListN.{length}
+use Rattle.writer.specs.Source.{walkOf}
 use Rattle.writer.proofs.Sources.{Copying}
 use Rattle.writer.proofs.Sources.{copying}
 use Rattle.writer.proofs.source.copy_segments.Statement.{statement}
@@ -9,7 +10,7 @@ abbrev Inv-loop : tie.InvT-loop
 Inv-loop bytes k out₀ at cur₀ left₀ place₀ out cur left place = Copying bytes cur₀ k out₀ at cur left out place
 
 abbrev μ-loop : tie.MeasureT-loop
-μ-loop bytes k out₀ at cur₀ left₀ place₀ out cur left place = length bytes - cur .walk .at
+μ-loop bytes k out₀ at cur₀ left₀ place₀ out cur left place = length bytes - walkOf cur .at
 
 loop-holds : tie.Need-loop-holds Inv-loop μ-loop
 loop-holds c = search copying

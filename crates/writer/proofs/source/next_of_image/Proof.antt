@@ -2,6 +2,9 @@ use Rattle.writer.proofs.Sources.{imaged}
 use Rattle.writer.proofs.source.next_of_image.Statement.{statement}
 use Rattle.writer.proofs.source.next_of_image.Tie as tie
 
+behind-of-requires : tie.Need-behind-of-requires
+behind-of-requires c κs = search imaged
+
 measure-requires : tie.Need-measure-requires
 measure-requires c κs = search imaged
 
@@ -36,6 +39,7 @@ pub next-of-image-spec : {M : Type 1} → statement M
 next-of-image-spec =
     tie.close
     (tie.spec
+    behind-of-requires
     measure-requires
     enum-told
     opened-requires

@@ -14,12 +14,12 @@ shared-slice-read-wide c = search listed
 wide-requires : tie.Need-wide-requires
 wide-requires c κs = search listed
 
-add-t9 : tie.Need-add-t9
-add-t9 c = search listed
+add-t7 : tie.Need-add-t7
+add-t7 c = search listed
 
 returns-2 : tie.Need-returns-2
 returns-2 c = search listed
 
 pub next-of-sheet-spec : {M : Type 1} → statement M
 next-of-sheet-spec =
-    tie.close (tie.spec returns mul-wide shared-slice-read-wide wide-requires add-t9 returns-2)
+    tie.close (tie.spec returns mul-wide shared-slice-read-wide wide-requires add-t7 returns-2)

@@ -2,6 +2,9 @@ use Rattle.writer.proofs.Sources.{split}
 use Rattle.writer.proofs.source.open_split.Statement.{statement}
 use Rattle.writer.proofs.source.open_split.Tie as tie
 
+behind-of-requires : tie.Need-behind-of-requires
+behind-of-requires c κs = search split
+
 first-segment-requires : tie.Need-first-segment-requires
 first-segment-requires c κs = search split
 
@@ -27,6 +30,7 @@ pub open-split-spec : {M : Type 1} → statement M
 open-split-spec =
     tie.close
     (tie.spec
+    behind-of-requires
     first-segment-requires
     enum-told
     opened-requires
