@@ -65,7 +65,7 @@ unopened w =
     }
 
 pub walk-good : (lengths bytes : List ℕ) (w : Walk) → Good lengths bytes (unopened w)
-walk-good lengths bytes w = image-good lengths bytes (unopened w) refl (record { inside = omega arith; sheet = λ _. refl; further = λ z. absurd (omega arith) })
+walk-good lengths bytes w = image-good lengths bytes (unopened w) refl (record { inside = omega arith; whole = λ _. refl; further = λ z. absurd (omega arith) })
 
 pub walk-opened : (lengths bytes : List ℕ) (w : Walk) (d : Cursor) → Opened lengths bytes (unopened w) d → Walked lengths bytes w d
 unfolding laterAt

@@ -66,7 +66,7 @@ unfolding endAt lengthsAt
 begun-good lengths bytes byte first stop h k i =
     let ends : ifB false 0 (suc (byte + 0 + sum (part first (stop - first) lengths))) ≡ suc (byte + 0 + sum (part first (stop - first) lengths)) = if-false _ _ _ refl in
     record {
-      holds = record { inside = omega arith; sheet = λ _. refl; further = λ z. absurd (omega arith) };
+      holds = record { inside = omega arith; whole = λ _. refl; further = λ z. absurd (omega arith) };
       order = λ _. h;
       within = λ _. k;
       inside = omega arith;

@@ -1,6 +1,6 @@
 -- The cursor over the slices of a sheet, and over an image: how it moves. Assumes nothing.
 use mathlib.Core.Path.{_≡_, refl, sym, ap, _∙_, subst}
-use mathlib.Core.Bool.{Bool, true, false, false≢true}
+use mathlib.Core.Bool.{Bool, true, false, not, false≢true}
 use mathlib.Core.List.{List, [], _∷_, _++_}
 use Prim.Native.Nat.{ℕ, suc, _+_, _-_, _*_, _^_, _≤_, _<_}
 use native.Mathlib.Omega.{arith}
@@ -8,15 +8,19 @@ use native.Mathlib.Numerals.{add-one}
 use borrow.Author.Needs.{scaled-fits, needs}
 use mir.Val.{Fits}
 use mir.Syntax.{w64}
-use borrow.Author.Tests.{leb-true, leb-false, eqb-true, eqb-false}
+use borrow.Author.Tests.{leb-true, leb-false, eqb-true, eqb-false, eq-eqb}
 use lib.Dec.{leb, eqb}
 use lib.ListN.{length, take, drop, getD, length-append}
 use lib.Seq.{drop-cons, drop-drop, take-take, take-all, take-at, take-add, take-append-le, drop-append-le, length-take-le}
 use Rattle.base.specs.If.{ifB, if-true, if-false}
+use Rattle.base.specs.Format.{S}
 use Rattle.base.specs.Part.{part}
 use Rattle.base.proofs.Parts.{length-part, drop-take}
 use Rattle.sheet.specs.Flat.{sum, cutBy}
+use Rattle.content.specs.Whole.{atBlock, wholeAt}
+use Rattle.content.specs.Walk.{moved as movedTo}
 use Rattle.content.specs.Walk.{firstSegment, nextSegment, recordAt}
+use Rattle.block.specs.Unit.{wordOf}
 use Rattle.content.specs.Measure.{bytesBehind, measuredBy, recordBytes}
 use Rattle.content.specs.Records.{recordsAt}
 use Rattle.content.specs.declared.Walk.{Walk}
@@ -25,11 +29,13 @@ use Rattle.content.specs.declared.unit.Taken.the-variants.{One, Nothing}
 use Rattle.content.specs.declared.measuring.Measured.{Measured}
 use Rattle.content.specs.declared.measuring.Measured.the-variants.{Whole, Split, Nothing as None}
 use Rattle.content.proofs.Joins.{Going, Splitting}
+use Rattle.content.proofs.Unsplit.{split-format}
+use Rattle.content.proofs.Wholes.{measured-whole as whole-measured, word-least, whole-left, whole-start, whole-end}
 use Rattle.content.proofs.Records.{measured-nothing, measured-whole, measured-split, split-long, whole-within, first-split, first-some, next-going, next-some}
 use Rattle.writer.specs.declared.source.Cursor.{Cursor}
 use Rattle.writer.specs.declared.source.Moved.{Moved}
 use Rattle.writer.specs.Output.{Wrote}
-use Rattle.writer.specs.Source.{walkOf, behindOf, bytesAt, lengthsAt, laterAt, endAt, stopAt, Further, Holds, Good, Handed, Copied, Spelled, Onward, Segmented, past, opened, Opened}
+use Rattle.writer.specs.Source.{isWhole, walkOf, behindOf, bytesAt, lengthsAt, laterAt, endAt, stopAt, Further, Holds, Good, Handed, Copied, Spelled, Onward, Segmented, past, opened, Opened}
 use Rattle.writer.proofs.Packing.{by-test}
 use Rattle.writer.proofs.Segments.{Segment, next-segment, first-segment, whole-walk, split-walk}
 use Rattle.output.proofs.Writing.{wrote-wrote}
@@ -51,6 +57,20 @@ moved c at here left next rest begun live image =
       live = live;
       image = image;
     }
+
+-- ---- records of one segment
+
+sheet-whole : (c : Cursor) → c .image ≡ false → isWhole c ≡ true
+unfolding isWhole
+sheet-whole c e = if-false _ _ _ e
+
+image-format : (c : Cursor) → c .image ≡ true → isWhole c ≡ true → c .format ≡ S → ⊥
+unfolding isWhole
+image-format c i h e = false≢true (sym (if-true _ _ _ i ∙ ap not (eq-eqb (c .format) S e)) ∙ h)
+
+same-format : (d c : Cursor) → d .image ≡ true → c .image ≡ true → d .format ≡ c .format → isWhole d ≡ isWhole c
+unfolding isWhole
+same-format d c i s f = if-true _ _ _ i ∙ ap (λ (n : ℕ). not (eqb n S)) f ∙ sym (if-true _ _ _ s)
 
 -- ---- what is left of the open record
 
@@ -120,10 +140,11 @@ module _ (bytes : List ℕ) (c : Cursor) (k : ℕ) (h : Holds bytes c) (m : k �
   place = omega arith
 
   holds : Holds bytes d
+  unfolding isWhole
   holds =
       record {
         inside = omega (arith, h .inside);
-        sheet = λ e. let q = h .sheet e in omega arith;
+        whole = λ e. let q = h .whole e in omega arith;
         further =
             λ less.
             let f = h .further (omega arith) in
@@ -216,7 +237,7 @@ module _ (bytes : List ℕ) (c : Cursor) (h : Holds bytes c) (z : c .here ≡ 0)
 
   -- only an image has a record that goes on
   is-image : c .image ≡ true
-  is-image = by-test (c .image) (λ e. e) (λ e. let q = h .sheet e in absurd (omega arith))
+  is-image = by-test (c .image) (λ e. e) (λ e. let q = h .whole (sheet-whole c e) in absurd (omega arith))
 
   next-is : (w : Walk) (t : Taken) → w ≡ walkOf c → t ≡ nextSegment bytes w → t ≡ nextSegment bytes (walkOf c)
   next-is w t k e = e ∙ ap (nextSegment bytes) k
@@ -249,10 +270,11 @@ module _ (bytes : List ℕ) (c : Cursor) (h : Holds bytes c) (z : c .here ≡ 0)
         ∙ sym all-behind
 
     holds-on : Holds bytes o
+    unfolding isWhole
     holds-on =
         record {
           inside = a .behind .within;
-          sheet = λ s. absurd (false≢true (sym s ∙ is-image));
+          whole = λ s. let q = h .whole s in absurd (omega arith);
           further =
               λ less.
               subst (λ (v : Walk). Further bytes v here (c .left)) (sym (a .walk))
@@ -432,6 +454,9 @@ module _ (lengths bytes : List ℕ) (c : Cursor) (g : Good lengths bytes c) (l :
   pub next-scaled : c .next < c .stop → length lengths * 8 < 2 ^ 63 → Fits w64 (c .next * 8)
   next-scaled h k = scaled-fits (c .next) (length lengths) 8 (next-within h) k
 
+  both-sheet : (d : Cursor) → d .image ≡ false → isWhole d ≡ isWhole c
+  both-sheet d e = sheet-whole d e ∙ sym (sheet-whole c s)
+
   pub opened-none : c .stop ≤ c .next → Opened lengths bytes c (moved c (c .at) 0 0 (c .next) (c .rest) 0 false false)
   unfolding endAt stopAt lengthsAt cutBy sum
   opened-none h =
@@ -442,7 +467,7 @@ module _ (lengths bytes : List ℕ) (c : Cursor) (g : Good lengths bytes c) (l :
       record {
         good =
             record {
-              holds = record { inside = omega (arith, g .inside, end-is); sheet = λ _. refl; further = λ z. absurd (omega arith) };
+              holds = record { inside = omega (arith, g .inside, end-is); whole = λ _. refl; further = λ z. absurd (omega arith) };
               order = λ _. g .order s;
               within = λ _. g .within s;
               inside = omega (arith, g .inside, end-is);
@@ -450,6 +475,7 @@ module _ (lengths bytes : List ℕ) (c : Cursor) (g : Good lengths bytes c) (l :
             };
         end = omega (arith, end-is);
         begun = refl;
+        whole = both-sheet _ refl;
         none = λ _. later-is ∙ ap (λ (ns : List ℕ). cutBy ns (drop (c .at) bytes)) none;
         some = λ e. absurd (false≢true e);
       }
@@ -467,7 +493,7 @@ module _ (lengths bytes : List ℕ) (c : Cursor) (g : Good lengths bytes c) (l :
       record {
         good =
             record {
-              holds = record { inside = room; sheet = λ _. refl; further = λ z. absurd (omega arith) };
+              holds = record { inside = room; whole = λ _. refl; further = λ z. absurd (omega arith) };
               order = λ _. omega arith;
               within = λ _. g .within s;
               inside = omega (arith, g .inside, end-is);
@@ -475,6 +501,7 @@ module _ (lengths bytes : List ℕ) (c : Cursor) (g : Good lengths bytes c) (l :
             };
         end = omega (arith, end-is);
         begun = refl;
+        whole = both-sheet _ refl;
         none = λ q. absurd (false≢true (sym q));
         some =
             λ _.
@@ -513,25 +540,27 @@ module _ (lengths bytes : List ℕ) (c : Cursor) (s : c .image ≡ true) where
   later-image = if-true _ _ _ s
 
   -- no record of an image is open
-  image-closed : (d : Cursor) → d .image ≡ true → d .begun ≡ 0 → d .live ≡ false → Holds bytes d → recordsAt bytes (behindOf c) ≡ [] → Opened lengths bytes c d
-  image-closed d i b l h r =
+  image-closed : (d : Cursor) → d .image ≡ true → d .format ≡ c .format → d .begun ≡ 0 → d .live ≡ false → Holds bytes d → recordsAt bytes (behindOf c) ≡ [] → Opened lengths bytes c d
+  image-closed d i f b l h r =
       record {
         good = image-good lengths bytes d i h;
         end = no-end lengths d i ∙ sym (no-end lengths c s);
         begun = b;
+        whole = same-format d c i s f;
         none = λ _. later-image ∙ r;
         some = λ z. absurd (false≢true (sym l ∙ z));
       }
 
   -- an open record of an image, from its first segment on
-  image-open : (d : Cursor) → d .image ≡ true → d .begun ≡ 0 → d .live ≡ true → Holds bytes d
+  image-open : (d : Cursor) → d .image ≡ true → d .format ≡ c .format → d .begun ≡ 0 → d .live ≡ true → Holds bytes d
       → recordsAt bytes (behindOf c) ≡ bytesAt bytes d ∷ recordsAt bytes (behindOf d) → Opened lengths bytes c d
   unfolding laterAt
-  image-open d i b l h r =
+  image-open d i f b l h r =
       record {
         good = image-good lengths bytes d i h;
         end = no-end lengths d i ∙ sym (no-end lengths c s);
         begun = b;
+        whole = same-format d c i s f;
         none = λ z. absurd (false≢true (sym z ∙ l));
         some = λ _. later-image ∙ r ∙ ap (λ (t : List (List ℕ)). bytesAt bytes d ∷ t) (sym (if-true _ _ _ i));
       }
@@ -543,8 +572,8 @@ module _ (lengths bytes : List ℕ) (c : Cursor) (s : c .image ≡ true) where
     pub image-none : (d : Cursor) → m ≡ None → d ≡ opened c false 0 0 0 0 (c .next) (c .stop) → Opened lengths bytes c d
     image-none d q z =
         subst (Opened lengths bytes c) (sym z)
-        (image-closed (opened c false 0 0 0 0 (c .next) (c .stop)) refl refl refl
-        (record { inside = omega arith; sheet = λ _. refl; further = λ less. absurd (omega arith) }) (measured-nothing bytes (behindOf c) m measured-is q))
+        (image-closed (opened c false 0 0 0 0 (c .next) (c .stop)) refl refl refl refl
+        (record { inside = omega arith; whole = λ _. refl; further = λ less. absurd (omega arith) }) (measured-nothing bytes (behindOf c) m measured-is q))
 
     pub image-whole : (d : Cursor) (at n : ℕ) (v : Walk) → m ≡ Whole at n v → d ≡ opened c true at n n (v .left) (v .at) (v .left) → Opened lengths bytes c d
     unfolding bytesAt
@@ -552,8 +581,8 @@ module _ (lengths bytes : List ℕ) (c : Cursor) (s : c .image ≡ true) where
         let room : at + n ≤ length bytes = whole-within bytes (behindOf c) at n v m measured-is q in
         let o : Cursor = opened c true at n n (v .left) (v .at) (v .left) in
         subst (Opened lengths bytes c) (sym z)
-        (image-open (opened c true at n n (v .left) (v .at) (v .left)) refl refl refl
-        (record { inside = room; sheet = λ _. refl; further = λ less. absurd (omega arith) })
+        (image-open (opened c true at n n (v .left) (v .at) (v .left)) refl refl refl refl
+        (record { inside = room; whole = λ _. refl; further = λ less. absurd (omega arith) })
         (measured-whole bytes (behindOf c) at n v m measured-is q
         ∙ ap (λ (t : List ℕ). t ∷ recordsAt bytes v) (sym (take-at (part at n bytes) (bytesBehind bytes (walkOf o)) n (length-part at n bytes room)))
         ∙ ap (λ (u : Walk). take n (part at n bytes ++ bytesBehind bytes (walkOf o)) ∷ recordsAt bytes u) (sym (whole-walk bytes (behindOf c) at n v (sym measured-is ∙ q)))))
@@ -562,6 +591,27 @@ module _ (lengths bytes : List ℕ) (c : Cursor) (s : c .image ≡ true) where
     image-split n v q = sym q ∙ measured-is
 
 pub ruleset imaged = (image-none, image-whole, image-split, needs)
+
+-- the next record of an image, where it stands whole in a block
+pub whole-opened : (lengths bytes : List ℕ) (c : Cursor) (w v : Walk) (k word : ℕ) (d : Cursor) → c .image ≡ true → w ≡ behindOf c → v ≡ atBlock bytes w
+    → k ≡ wholeAt bytes v → (k ≡ 0 → ⊥) → word ≡ wordOf (v .format)
+    → d ≡ opened c true (v .at + word) (k - word) (k - word) (v .left - k) (v .at + k) (v .left - k) → Opened lengths bytes c d
+whole-opened lengths bytes c w v k word d s e h m z q r =
+    image-whole lengths bytes c s w e (Whole (v .at + word) (k - word) (movedTo v (v .at + k) (v .left - k))) (whole-measured bytes w v _ k word h m z q refl) d
+    (v .at + word) (k - word) (movedTo v (v .at + k) (v .left - k)) refl r
+
+pub ruleset wholly = (whole-opened, word-least, whole-left, whole-start, whole-end, needs)
+
+-- ---- one or the other
+
+pub whole-image : (c : Cursor) → c .image ≡ true → not (eqb (c .format) S) ≡ isWhole c
+unfolding isWhole
+whole-image c e = sym (if-true _ _ _ e)
+
+pub whole-sheet : (c : Cursor) → c .image ≡ false → true ≡ isWhole c
+whole-sheet c e = sym (sheet-whole c e)
+
+pub ruleset kinds = (whole-image, whole-sheet, needs)
 
 module _ (lengths bytes : List ℕ) (c : Cursor) (s : c .image ≡ true) (n : ℕ) (v : Walk) (e : Split n v ≡ measuredBy (recordAt bytes (behindOf c))) (w : Walk)
     (k : w ≡ behindOf c) (t : Taken) (f : t ≡ firstSegment bytes w) where
@@ -582,10 +632,10 @@ module _ (lengths bytes : List ℕ) (c : Cursor) (s : c .image ≡ true) (n : �
       = length-append (part at here bytes) (bytesBehind bytes u) in
       let all : here + length (bytesBehind bytes u) ≡ n = omega (arith, p .long) in
       subst (Opened lengths bytes c) (sym q)
-      (image-open lengths bytes c s (opened c true at here n (u .left) (v .at) (v .left)) refl refl refl
+      (image-open lengths bytes c s (opened c true at here n (u .left) (v .at) (v .left)) refl refl refl refl
       (record {
         inside = a .behind .within;
-        sheet = λ y. absurd (false≢true (sym y));
+        whole = λ y. absurd (split-format bytes (behindOf c) n v (image-format (opened c true at here n (u .left) (v .at) (v .left)) refl y) e);
         further =
             λ _.
             subst (λ (x : Walk). Further bytes x here n) (sym (a .walk))

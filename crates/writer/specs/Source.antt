@@ -3,11 +3,13 @@
 -- The writer knows of a cursor whether a record is open, its bytes that are left, the records behind it, and where the file ends; and the two
 -- moves, `Handed` and `Opened`. How a source holds a record is known here alone.
 use mathlib.Core.Path.{_≡_}
-use mathlib.Core.Bool.{Bool, true, false}
+use mathlib.Core.Bool.{Bool, true, false, not}
 use mathlib.Core.List.{List, [], _∷_, _++_}
 use Prim.Native.Nat.{ℕ, suc, _+_, _-_, _≤_, _<_}
+use lib.Dec.{eqb}
 use lib.ListN.{length, take, drop}
 use Rattle.base.specs.If.{ifB}
+use Rattle.base.specs.Format.{S}
 use Rattle.base.specs.Part.{part}
 use Rattle.sheet.specs.Flat.{sum, cutBy}
 use Rattle.content.specs.Measure.{GoesOn, bytesBehind}
@@ -24,6 +26,10 @@ walkOf c = record { format = c .format; size = c .size; offset = c .offset; at =
 
 abbrev pub behindOf : Cursor → Walk
 behindOf c = record { format = c .format; size = c .size; offset = c .offset; at = c .next; left = c .stop }
+
+-- the records are one segment each: those of a sheet, and those of the F and D files of an image
+unfoldable pub isWhole : Cursor → Bool
+isWhole c = ifB (c .image) (not (eqb (c .format) S)) true
 
 -- what is left of the open record: of the open segment, and, where it goes on behind it, of the others
 unfoldable pub bytesAt : List ℕ → Cursor → List ℕ
@@ -54,10 +60,10 @@ pub record Further (bytes : List ℕ) (w : Walk) (here left : ℕ) : Type 0 wher
   pub goes : GoesOn bytes w here left
   pub all : here + length (bytesBehind bytes w) ≡ left
 
--- the open segment stands within the bytes, and the record goes on where there is more of it; on a sheet a record is one segment
+-- the open segment stands within the bytes, and the record goes on where there is more of it
 pub record Holds (bytes : List ℕ) (c : Cursor) : Type 0 where
   pub inside : c .at + c .here ≤ length bytes
-  pub sheet : c .image ≡ false → c .here ≡ c .left
+  pub whole : isWhole c ≡ true → c .here ≡ c .left
   pub further : c .here < c .left → Further bytes (walkOf c) (c .here) (c .left)
 
 -- a cursor within its source, the lengths too where that is a sheet; behind the last record of a sheet's file it stands at the end of the file
@@ -141,5 +147,6 @@ pub record Opened (lengths bytes : List ℕ) (c d : Cursor) : Type 0 where
   pub good : Good lengths bytes d
   pub end : endAt lengths d ≡ endAt lengths c
   pub begun : d .begun ≡ 0
+  pub whole : isWhole d ≡ isWhole c
   pub none : d .live ≡ false → laterAt lengths bytes c ≡ []
   pub some : d .live ≡ true → laterAt lengths bytes c ≡ bytesAt bytes d ∷ laterAt lengths bytes d

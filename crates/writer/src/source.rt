@@ -4,18 +4,22 @@ ghost use mathlib.Core.Path.{_≡_};
 ghost use mathlib.Core.Bool.{true, false};
 ghost use Prim.Native.Nat.{_+_, _≤_, _<_};
 ghost use lib.ListN.{length};
-ghost use Rattle.writer.specs.Source.{walkOf, behindOf, Holds, Good, Copied, Spelled, Onward, Segmented, past, opened, Opened};
+ghost use Rattle.writer.specs.Source.{isWhole, walkOf, behindOf, Holds, Good, Copied, Spelled, Onward, Segmented, past, opened, Opened};
 ghost use Rattle.content.specs.Walk.{recordAt};
 ghost use Rattle.content.specs.Measure.{measuredBy};
 ghost use Rattle.content.specs.declared.measuring.Measured.the-variants.{Split};
 use crate::out::put_bytes;
+use base::SEGMENTED;
 use base::part_of;
+use block::word_of;
 use content::Measured;
 use content::Taken;
 use content::Walk;
+use content::at_block;
 use content::first_segment;
 use content::measure;
 use content::next_segment;
+use content::whole_at;
 
 // Where the writer is in a file: the place and number of the bytes that are left of the open segment, and the number of those that are left of the
 // open record; 1 where some of that record has been handed over, else 0; and whether a record is open at all.
@@ -98,6 +102,16 @@ pub(crate) fn past(bytes: &[u8], c: Cursor, k: usize) -> Cursor
         live: true,
         image: c.image,
     }
+}
+
+// Whether the records are one segment each.
+pub(crate) fn is_whole(c: Cursor) -> bool
+    ensures { λ r. ⌜ r ≡ isWhole c ⌝ }
+{
+    if c.image {
+        return c.format != SEGMENTED as u32;
+    }
+    true
 }
 
 // Writes k bytes of the open segment.
@@ -280,6 +294,35 @@ fn next_of_image(lengths: &[u64], bytes: &[u8], c: Cursor) -> Cursor
         Measured::Whole(at, n, v) => opened(c, true, at, n, n, v.left, v.at, v.left),
         Measured::Split(n, v) => open_split(lengths, bytes, c, n, v),
     }
+}
+
+// Opens the next record of an image's file, which most often stands whole in a block and then is told by one number.
+fn whole_of_image(lengths: &[u64], bytes: &[u8], c: Cursor) -> Cursor
+    requires { ⌜ Good (now lengths) (now bytes) c ⌝ }
+    requires { ⌜ c .image ≡ true ⌝ }
+    ensures { λ r. ⌜ Opened (now (lengths .entry)) (now (bytes .entry)) c r ⌝ }
+{
+    let v = at_block(bytes, behind_of(c));
+    let k = whole_at(bytes, v.format, v.size, v.at, v.left);
+    if k == 0 {
+        return next_of_image(lengths, bytes, c);
+    }
+    let word = word_of(v.format);
+    let n = k - word;
+    let rest = v.left - k;
+    opened(c, true, v.at + word, n, n, rest, v.at + k, rest)
+}
+
+// Opens the next record of the file as `next` does, by the shortest way where records stand whole in their blocks.
+pub(crate) fn next_whole(lengths: &[u64], bytes: &[u8], c: Cursor) -> Cursor
+    requires { ⌜ Good (now lengths) (now bytes) c ⌝ }
+    requires { ⌜ c .left ≡ 0 ⌝ }
+    ensures { λ r. ⌜ Opened (now (lengths .entry)) (now (bytes .entry)) c r ⌝ }
+{
+    if c.image {
+        return whole_of_image(lengths, bytes, c);
+    }
+    next_of_sheet(lengths, bytes, c)
 }
 
 // Opens the next record of the file, behind one that has been handed over.
