@@ -1,15 +1,15 @@
 -- The files of an accepted image: how they are met one after the other, and what each step of the code over them does. Assumes nothing.
 use mathlib.Core.Path.{_≡_, refl, sym, ap, ap₂, _∙_, subst}
-use mathlib.Core.Bool.{true, false, not, false≢true}
+use mathlib.Core.Bool.{Bool, true, false, false≢true}
 use mathlib.Core.List.{List, [], _∷_, _++_, append-nil, append-assoc}
 use Prim.Native.Nat.{ℕ, _+_, _-_, _/_, _≤_, _<_}
 use native.Mathlib.Omega.{arith}
 use native.Mathlib.Numerals.{add-one}
 use borrow.Author.Needs.{needs}
-use borrow.Author.Tests.{ltb-false, not-true}
+use borrow.Author.Tests.{ltb-false}
 use lib.ListN.{length, drop, getD, replicate, length-append, length-drop, drop-of-length-le}
 use lib.Seq.{drop-cons}
-use Rattle.base.specs.If.{if-true, if-case}
+use Rattle.base.specs.If.{if-true, if-false, if-case}
 use Rattle.base.specs.Part.{part, putAt}
 use Rattle.base.proofs.Parts.{length-part, put-put}
 use Rattle.label.specs.Field.{setOf}
@@ -18,9 +18,9 @@ use Rattle.volume.specs.Meaning.{File, fieldsFrom, content}
 use Rattle.sheet.specs.Legal.{formatFrom, blockLengthFrom, legalFiles, legalSheet, legalQuota, legalNames}
 use Rattle.sheet.specs.Flat.{inParts, reelsNumber}
 use Rattle.sheet.proofs.Legality.{accepted-sheet}
-use Rattle.content.specs.File.{firstFile, nextFile}
+use Rattle.content.specs.File.{firstFile, nextFile, fileBehind}
 use Rattle.content.specs.Records.{recordsAt}
-use Rattle.content.specs.Walked.{FileIs, Filed as Met}
+use Rattle.content.specs.Walked.{endOf, FileIs, Filed as Met}
 use Rattle.content.specs.declared.Walk.{Walk}
 use Rattle.content.specs.declared.FileAt.{FileAt}
 use Rattle.content.specs.declared.NextFile.{NextFile}
@@ -40,9 +40,9 @@ use Rattle.writer.specs.Rewrite.{sheetFrom}
 use Rattle.writer.specs.Output.{Wrote}
 use Rattle.writer.specs.Source.{laterAt, leftAt, Good, Opened}
 use Rattle.writer.specs.Reels.{Layable, FilePut}
-use Rattle.writer.specs.Sets.{Origin, read, originOf, totalOf, filesAt, Placed, Walked, behindRead, Fileable, OneFiled, sheetAt, Writable}
+use Rattle.writer.specs.Sets.{Origin, read, originOf, totalOf, filesAt, Placed, Walked, Over, followed, behindRead, Fileable, OneFiled, sheetAt, Writable}
 use Rattle.writer.proofs.RoundTrip.{LegalSheet, legal-sheet}
-use Rattle.writer.proofs.Sources.{image-good}
+use Rattle.writer.proofs.Sources.{image-end, image-stops, image-good}
 use Rattle.writer.proofs.Filing.{opened-left, legal-others, file-layable, one-filed, sheet-named}
 
 -- ---- the records of a file opened
@@ -64,12 +64,19 @@ unopened w =
       image = true;
     }
 
-pub walk-good : (lengths bytes : List ℕ) (w : Walk) → Good lengths bytes (unopened w)
-walk-good lengths bytes w = image-good lengths bytes (unopened w) refl (record { inside = omega arith; whole = λ _. refl; further = λ z. absurd (omega arith) })
+pub walk-good : (lengths bytes : List ℕ) (w : Walk) → endOf bytes w ≤ length bytes → Good lengths bytes (unopened w)
+walk-good lengths bytes w e =
+    image-good lengths bytes (unopened w) refl (record { inside = omega arith; whole = λ _. refl; further = λ z. absurd (omega arith) }) e
+    (λ z. absurd (false≢true (sym z)))
 
 pub walk-opened : (lengths bytes : List ℕ) (w : Walk) (d : Cursor) → Opened lengths bytes (unopened w) d → Walked lengths bytes w d
 unfolding laterAt
-walk-opened lengths bytes w d o = record { good = o .good; left = opened-left lengths bytes (unopened w) d (recordsAt bytes w) o (if-true _ _ _ refl) }
+walk-opened lengths bytes w d o =
+    record {
+      good = o .good;
+      end = o .end ∙ image-end lengths bytes (unopened w) refl;
+      left = opened-left lengths bytes (unopened w) d (recordsAt bytes w) o (if-true _ _ _ refl);
+    }
 
 pub ruleset walks = (walk-good, walk-opened, needs)
 
@@ -170,6 +177,9 @@ module _ (quota : ℕ) (set lengths bytes names : List ℕ) (g : Place) (r : Ree
   pub second-within : g .file .second + 80 ≤ length bytes
   second-within = is .secondWithin
 
+  pub walk-within : endOf bytes (g .file .walk) ≤ length bytes
+  walk-within = is .ends
+
   pub read-small : g .nth < 64
   unfolding totalOf
   read-small = omega (arith, more, y .placed .few)
@@ -184,6 +194,17 @@ module _ (quota : ℕ) (set lengths bytes names : List ℕ) (g : Place) (r : Ree
     pub read-layable : Layable (formatFrom entry) (blockLengthFrom entry) lengths bytes quota names c r
     read-layable = file-layable read set lengths bytes g entry (d .records) _ (y .placed) files-first c (n .good) begun quota names r (y .sound) (y .enough)
 
+    -- its records are passed, unless a name was lacking
+    pub read-over : (o p : List ℕ) (x : Laying) → FilePut lengths bytes quota set entry (g .nth + 1) names c r o p x → Over bytes (g .file) (x .cur) (x .reel)
+    read-over o p x m =
+        record {
+          within = λ z. let at = stands z in omega (arith, is .ends);
+          next = λ z. ap (fileBehind bytes (g .file)) (stands z) ∙ is .behind;
+        }
+      where
+        stands : x .reel .short ≡ false → x .cur .next + x .cur .stop ≡ endOf bytes (g .file .walk)
+        stands z = image-stops (x .cur) _ (m .end z ∙ n .end)
+
     -- a place behind this file
     placed-on : (f : FileAt) → (g .nth + 1 < length all → Met bytes (At f) (drop (g .nth + 1) all))
         → Placed read set lengths bytes (record { nth = g .nth + 1; first = 0; byte = 0; file = f })
@@ -196,42 +217,66 @@ module _ (quota : ℕ) (set lengths bytes names : List ℕ) (g : Place) (r : Ree
           legal = legal-others read set lengths bytes g entry (d .records) _ (y .placed) files-first;
         }
 
-    next-filed : (o p : List ℕ) (x : Laying) (h : NextFile) → FilePut lengths bytes quota set entry (g .nth + 1) names c r o p x → nextFile bytes (g .file) ≡ h
+    next-filed : (o p : List ℕ) (x : Laying) (h : NextFile) → FilePut lengths bytes quota set entry (g .nth + 1) names c r o p x → x .reel .short ≡ false → nextFile bytes (g .file) ≡ h
         → OneFiled read quota set lengths bytes names g r o p (behindRead (g .file) (g .nth) (x .reel) h)
     unfolding behindRead totalOf filesAt
-    next-filed o p x (At h) m e =
-        let there : Met bytes (At h) (drop (g .nth + 1) all) = subst (λ (z : NextFile). Met bytes z (drop (g .nth + 1) all)) e (both .1) in
+    next-filed o p x (At h) m z e =
+        let there : Met bytes (At h) (drop (g .nth + 1) all) = subst (λ (f : NextFile). Met bytes f (drop (g .nth + 1) all)) e (both .1) in
         let some : 0 < length (drop (g .nth + 1) all) = met-some bytes h (drop (g .nth + 1) all) there in
         one-filed read set lengths bytes g entry (d .records) _ (y .placed) files-first c (n .good) begun quota names r o p x _ (y .enough) m refl refl (λ _. refl)
-        (λ _. placed-on h (λ _. there)) (λ z. not-true _ z) (λ _. omega (arith, behind-long))
-        (λ z q. absurd (false≢true (sym z ∙ ap not q)))
-    next-filed o p x Nowhere m e =
+        (λ _. placed-on h (λ _. there)) (λ _. z) (λ _. omega (arith, behind-long)) (λ q. absurd (false≢true (sym q)))
+    next-filed o p x Nowhere m z e =
         let none : length (drop (g .nth + 1) all) ≡ 0
-        = met-none bytes (drop (g .nth + 1) all) (subst (λ (z : NextFile). Met bytes z (drop (g .nth + 1) all)) e (both .1)) in
+        = met-none bytes (drop (g .nth + 1) all) (subst (λ (f : NextFile). Met bytes f (drop (g .nth + 1) all)) e (both .1)) in
         one-filed read set lengths bytes g entry (d .records) _ (y .placed) files-first c (n .good) begun quota names r o p x _ (y .enough) m refl refl (λ _. refl)
-        (λ _. placed-on (g .file) (λ z. absurd (omega (arith, behind-long)))) (λ z. absurd (false≢true z)) (λ z. absurd (false≢true z))
+        (λ _. placed-on (g .file) (λ q. absurd (omega (arith, behind-long)))) (λ q. absurd (false≢true q)) (λ q. absurd (false≢true q))
         (λ _ _. omega (arith, behind-long))
 
-    pub read-filed : (o p : List ℕ) (x : Laying) (v : Filing) → FilePut lengths bytes quota set entry (g .nth + 1) names c r o p x
-        → v ≡ behindRead (g .file) (g .nth) (x .reel) (nextFile bytes (g .file)) → OneFiled read quota set lengths bytes names g r o p v
-    read-filed o p x v m e =
-        subst (OneFiled read quota set lengths bytes names g r o p) (sym e) (next-filed o p x (nextFile bytes (g .file)) m refl)
+    short-filed : (o p : List ℕ) (x : Laying) → FilePut lengths bytes quota set entry (g .nth + 1) names c r o p x → x .reel .short ≡ true
+        → OneFiled read quota set lengths bytes names g r o p (behindRead (g .file) (g .nth) (x .reel) Nowhere)
+    unfolding behindRead
+    short-filed o p x m z =
+        one-filed read set lengths bytes g entry (d .records) _ (y .placed) files-first c (n .good) begun quota names r o p x _ (y .enough) m refl refl
+        (λ q. absurd (false≢true (sym q ∙ z))) (λ q. absurd (false≢true (sym q ∙ z))) (λ q. absurd (false≢true q)) (λ q. absurd (false≢true q))
+        (λ _ q. absurd (false≢true (sym q ∙ z)))
 
-pub ruleset reading = (first-within, second-within, read-small, read-layable, read-filed, needs)
+    pub read-filed : (o p : List ℕ) (x : Laying) (v : Filing) → FilePut lengths bytes quota set entry (g .nth + 1) names c r o p x
+        → v ≡ behindRead (g .file) (g .nth) (x .reel) (followed bytes (g .file) (x .reel)) → OneFiled read quota set lengths bytes names g r o p v
+    unfolding followed
+    read-filed o p x v m e =
+        subst (OneFiled read quota set lengths bytes names g r o p) (sym e)
+        (if-case (λ (h : NextFile). OneFiled read quota set lengths bytes names g r o p (behindRead (g .file) (g .nth) (x .reel) h)) (x .reel .short) Nowhere (nextFile bytes (g .file))
+        (λ z. short-filed o p x m z) (λ z. next-filed o p x (nextFile bytes (g .file)) m z refl))
+
+pub ruleset reading = (first-within, second-within, walk-within, read-small, read-layable, read-over, read-filed, needs)
 
 -- ---- the parts of a turn
 
-pub behind-at : (bytes : List ℕ) (f : FileAt) (i : ℕ) (r : Reel) (n : NextFile) (h : FileAt) → n ≡ nextFile bytes f → n ≡ At h
-    → record { on = not (r .short); place = record { nth = i + 1; first = 0; byte = 0; file = h }; reel = r } ≡ behindRead f i r (nextFile bytes f)
-unfolding behindRead
-behind-at bytes f i r n h e q = ap (behindRead f i r) (sym q ∙ e)
+abbrev filing : ℕ → Bool → FileAt → Reel → Filing
+filing i on f r = record { on = on; place = record { nth = i + 1; first = 0; byte = 0; file = f }; reel = r }
 
-pub behind-nowhere : (bytes : List ℕ) (f : FileAt) (i : ℕ) (r : Reel) (n : NextFile) → n ≡ nextFile bytes f → n ≡ Nowhere
-    → record { on = false; place = record { nth = i + 1; first = 0; byte = 0; file = f }; reel = r } ≡ behindRead f i r (nextFile bytes f)
-unfolding behindRead
-behind-nowhere bytes f i r n e q = ap (behindRead f i r) (sym q ∙ e)
+pub over-within : (bytes : List ℕ) (f : FileAt) (c : Cursor) (r : Reel) → Over bytes f c r → r .short ≡ false → c .next + c .stop ≤ length bytes
+over-within bytes f c r y z = y .within z
 
-pub ruleset behindReads = (behind-at, behind-nowhere, needs)
+module _ (bytes : List ℕ) (f : FileAt) (i : ℕ) (c : Cursor) (r : Reel) where
+  pub behind-short : r .short ≡ true → filing i false f r ≡ behindRead f i r (followed bytes f r)
+  unfolding behindRead followed
+  behind-short z = ap (behindRead f i r) (sym (if-true _ _ _ z))
+
+  module _ (y : Over bytes f c r) (z : r .short ≡ false) (at : ℕ) (n : NextFile) (k : at ≡ c .next + c .stop) (e : n ≡ fileBehind bytes f at) where
+    follows : n ≡ followed bytes f r
+    unfolding followed
+    follows = e ∙ ap (fileBehind bytes f) k ∙ y .next z ∙ sym (if-false _ _ _ z)
+
+    pub behind-at : (h : FileAt) → n ≡ At h → filing i true h r ≡ behindRead f i r (followed bytes f r)
+    unfolding behindRead
+    behind-at h q = ap (behindRead f i r) (sym q ∙ follows)
+
+    pub behind-nowhere : n ≡ Nowhere → filing i false f r ≡ behindRead f i r (followed bytes f r)
+    unfolding behindRead
+    behind-nowhere q = ap (behindRead f i r) (sym q ∙ follows)
+
+pub ruleset behindReads = (over-within, behind-short, behind-at, behind-nowhere, needs)
 
 -- ---- what an accepted image, a legal quota and legal names give
 

@@ -12,12 +12,13 @@ use mir.Syntax.{w64}
 use lib.Dec.{eqb, ltb}
 use lib.ListN.{length, take, drop, getD, length-drop, take-append-drop}
 use lib.Seq.{drop-drop, drop-cons}
-use Rattle.base.specs.If.{ifB, if-true, if-false, if-case}
+use Rattle.base.specs.If.{if-true, if-false, if-case}
 use Rattle.base.specs.Part.{part}
 use Rattle.sheet.specs.Legal.{formatFrom, blockLengthFrom, legalFiles, legalSheet}
 use Rattle.sheet.specs.Flat.{Flat, sum, inParts, cutBy, filesFrom, addsUp, sheetOf, sheetNumber}
 use Rattle.sheet.proofs.Cutting.{parts-some}
 use Rattle.sheet.proofs.Sums.{sum-at, sum-append}
+use Rattle.content.specs.Walked.{endOf}
 use Rattle.content.specs.declared.Walk.{Walk}
 use Rattle.content.specs.declared.FileAt.{FileAt}
 use Rattle.writer.specs.declared.source.Cursor.{Cursor}
@@ -30,12 +31,13 @@ use Rattle.writer.specs.Lay.{short}
 use Rattle.output.specs.declared.Written.{Written as Answer}
 use Rattle.output.specs.Output.{Answers}
 use Rattle.writer.specs.Write.{writeSheet}
-use Rattle.writer.specs.Source.{lengthsAt, laterAt, endAt, stopAt, leftAt, Good, Opened}
+use Rattle.writer.specs.Source.{behindOf, lengthsAt, laterAt, endAt, stopAt, leftAt, Good, Opened}
 use Rattle.writer.specs.Reels.{Sound, Layable, FilePut}
 use Rattle.writer.specs.Sets.{flat, Origin, listed, originOf, totalOf, filesAt, Placed, Begun, behindListed, Fileable, OneFiled, sheetAt, Writable}
 use Rattle.writer.proofs.Packing.{by-test}
 use Rattle.writer.proofs.Units.{both}
 use Rattle.writer.proofs.RoundTrip.{LegalSheet, legal-sheet}
+use Rattle.writer.proofs.Sources.{ended, sheet-end, sheet-stops}
 use Rattle.writer.proofs.Filing.{opened-left, legal-others, file-layable, one-filed, no-counts, sheet-named}
 
 abbrev place : FileAt → ℕ → ℕ → ℕ → Place
@@ -64,35 +66,28 @@ pub begun-good : (lengths bytes : List ℕ) (byte first stop : ℕ) → first �
     → byte + sum (part first (stop - first) lengths) ≤ length bytes → Good lengths bytes (unopened byte first stop)
 unfolding endAt lengthsAt
 begun-good lengths bytes byte first stop h k i =
-    let ends : ifB false 0 (suc (byte + 0 + sum (part first (stop - first) lengths))) ≡ suc (byte + 0 + sum (part first (stop - first) lengths)) = if-false _ _ _ refl in
     record {
       holds = record { inside = omega arith; whole = λ _. refl; further = λ z. absurd (omega arith) };
       order = λ _. h;
       within = λ _. k;
-      inside = omega arith;
+      inside = omega (arith, if-false false (endOf bytes (behindOf (unopened byte first stop))) (byte + 0 + sum (part first (stop - first) lengths)) refl);
       over = λ z. absurd (false≢true (sym z));
     }
 
 pub begun-opened : (lengths bytes : List ℕ) (byte first stop : ℕ) (d : Cursor) → Opened lengths bytes (unopened byte first stop) d
     → Begun lengths bytes byte first stop d
-unfolding laterAt lengthsAt endAt
+unfolding laterAt lengthsAt
 begun-opened lengths bytes byte first stop d o =
     let here : byte + 0 ≡ byte = omega arith in
     record {
       good = o .good;
-      end = o .end ∙ if-false _ _ _ refl ∙ ap (λ (n : ℕ). suc (n + sum (part first (stop - first) lengths))) here;
+      end = o .end ∙ sheet-end lengths bytes (unopened byte first stop) refl ∙ ap (λ (n : ℕ). ended false (n + sum (part first (stop - first) lengths))) here;
       left =
           opened-left lengths bytes _ d (cutBy (part first (stop - first) lengths) (drop byte bytes)) o
           (if-false _ _ _ refl ∙ ap (λ (n : ℕ). cutBy (part first (stop - first) lengths) (drop n bytes)) here);
     }
 
 pub ruleset begins = (begun-good, begun-opened, needs)
-
--- where the cursor over a sheet's file stands behind the last record
-stop-is : (c : Cursor) (n : ℕ) → stopAt c ≡ suc n → c .at ≡ n
-unfolding stopAt
-stop-is c n =
-    if-case (λ (k : ℕ). k ≡ suc n → c .at ≡ n) (c .image) 0 (suc (c .at)) (λ _ e. absurd (omega arith)) (λ _ e. omega arith)
 
 -- ---- the files from a place on
 
@@ -178,22 +173,22 @@ module _ (set files counts lengths bytes : List ℕ) (g : Place) (y : Placed (li
     begun : leftAt lengths bytes d ≡ startOf records
     begun = n .left ∙ ap startOf cut
 
-    ends : endAt lengths d ≡ suc (g .byte + sum (take c (drop (g .first) lengths)))
+    ends : endAt lengths bytes d ≡ ended false (g .byte + sum (take c (drop (g .first) lengths)))
     ends =
         n .end
-        ∙ ap (λ (k : ℕ). suc (g .byte + sum (part (g .first) (k - g .first) lengths))) s
-        ∙ ap (λ (ns : List ℕ). suc (g .byte + sum ns)) (part-count (g .first) c lengths)
+        ∙ ap (λ (k : ℕ). ended false (g .byte + sum (part (g .first) (k - g .first) lengths))) s
+        ∙ ap (λ (ns : List ℕ). ended false (g .byte + sum ns)) (part-count (g .first) c lengths)
 
     pub entry-layable : (quota : ℕ) (names : List ℕ) (r : Reel) → Sound quota names r → r .short ≡ false
         → Layable (formatFrom entry) (blockLengthFrom entry) lengths bytes quota names d r
     entry-layable = file-layable (listed files counts) set lengths bytes g entry records _ y files-some d (n .good) begun
 
     -- the place behind this file, unless a name was lacking
-    place-is : (x : Laying) → (x .reel .short ≡ false → stopAt (x .cur) ≡ endAt lengths d) → x .reel .short ≡ false
+    place-is : (x : Laying) → (x .reel .short ≡ false → stopAt (x .cur) ≡ endAt lengths bytes d) → x .reel .short ≡ false
         → onward ≡ place (g .file) (g .nth + 1) stop (x .cur .at)
     place-is x e z =
         ap (λ (k : ℕ). place (g .file) (g .nth + 1) k (g .byte + sum (take c (drop (g .first) lengths)))) (sym s)
-        ∙ ap (place (g .file) (g .nth + 1) stop) (sym (stop-is (x .cur) _ (e z ∙ ends)))
+        ∙ ap (place (g .file) (g .nth + 1) stop) (sym (sheet-stops (x .cur) _ (e z ∙ ends)))
 
     pub listed-filed : (quota : ℕ) (names : List ℕ) (r : Reel) (o p : List ℕ) (x : Laying) (v : Filing) → r .short ≡ false
         → FilePut lengths bytes quota set entry (g .nth + 1) names d r o p x → v ≡ behindListed (g .file) (g .nth) stop (length counts) x

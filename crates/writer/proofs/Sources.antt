@@ -22,6 +22,7 @@ use Rattle.content.specs.Walk.{moved as movedTo}
 use Rattle.content.specs.Walk.{firstSegment, nextSegment, recordAt}
 use Rattle.block.specs.Unit.{wordOf}
 use Rattle.content.specs.Measure.{bytesBehind, measuredBy, recordBytes}
+use Rattle.content.specs.Walked.{endOf}
 use Rattle.content.specs.Records.{recordsAt}
 use Rattle.content.specs.declared.Walk.{Walk}
 use Rattle.content.specs.declared.unit.Taken.{Taken}
@@ -31,11 +32,11 @@ use Rattle.content.specs.declared.measuring.Measured.the-variants.{Whole, Split
 use Rattle.content.proofs.Joins.{Going, Splitting}
 use Rattle.content.proofs.Unsplit.{split-format}
 use Rattle.content.proofs.Wholes.{measured-whole as whole-measured, word-least, whole-left, whole-start, whole-end}
-use Rattle.content.proofs.Records.{measured-nothing, measured-whole, measured-split, split-long, whole-within, first-split, first-some, next-going, next-some}
+use Rattle.content.proofs.Records.{measured-nothing, measured-whole, measured-split, measured-end-nothing, measured-end-whole, measured-end-split, split-long, whole-within, first-split, first-some, next-going, next-some}
 use Rattle.writer.specs.declared.source.Cursor.{Cursor}
 use Rattle.writer.specs.declared.source.Moved.{Moved}
 use Rattle.writer.specs.Output.{Wrote}
-use Rattle.writer.specs.Source.{isWhole, walkOf, behindOf, bytesAt, lengthsAt, laterAt, endAt, stopAt, Further, Holds, Good, Handed, Copied, Spelled, Onward, Segmented, past, opened, Opened}
+use Rattle.writer.specs.Source.{isWhole, walkOf, behindOf, bytesAt, lengthsAt, laterAt, FileEnd, endAt, stopAt, Further, Holds, Good, Handed, Copied, Spelled, Onward, Segmented, past, opened, Opened}
 use Rattle.writer.proofs.Packing.{by-test}
 use Rattle.writer.proofs.Segments.{Segment, next-segment, first-segment, whole-walk, split-walk}
 use Rattle.output.proofs.Writing.{wrote-wrote}
@@ -71,6 +72,36 @@ image-format c i h e = false≢true (sym (if-true _ _ _ i ∙ ap not (eq-eqb (c 
 same-format : (d c : Cursor) → d .image ≡ true → c .image ≡ true → d .format ≡ c .format → isWhole d ≡ isWhole c
 unfolding isWhole
 same-format d c i s f = if-true _ _ _ i ∙ ap (λ (n : ℕ). not (eqb n S)) f ∙ sym (if-true _ _ _ s)
+
+-- ---- where a file ends
+
+abbrev pub ended : Bool → ℕ → FileEnd
+ended image place = record { image = image; place = place }
+
+pub sheet-end : (lengths bytes : List ℕ) (c : Cursor) → c .image ≡ false → endAt lengths bytes c ≡ ended false (c .at + c .left + sum (lengthsAt lengths c))
+unfolding endAt
+sheet-end lengths bytes c s = λ i. ended (s i) (if-false (c .image) (endOf bytes (behindOf c)) (c .at + c .left + sum (lengthsAt lengths c)) s i)
+
+pub image-end : (lengths bytes : List ℕ) (c : Cursor) → c .image ≡ true → endAt lengths bytes c ≡ ended true (endOf bytes (behindOf c))
+unfolding endAt
+image-end lengths bytes c s = λ i. ended (s i) (if-true (c .image) (endOf bytes (behindOf c)) (c .at + c .left + sum (lengthsAt lengths c)) s i)
+
+sheet-stop : (c : Cursor) → c .image ≡ false → stopAt c ≡ ended false (c .at)
+unfolding stopAt
+sheet-stop c s = λ i. ended (s i) (if-false (c .image) (c .next + c .stop) (c .at) s i)
+
+image-stop : (c : Cursor) → c .image ≡ true → stopAt c ≡ ended true (c .next + c .stop)
+unfolding stopAt
+image-stop c s = λ i. ended (s i) (if-true (c .image) (c .next + c .stop) (c .at) s i)
+
+-- and so the place behind the last record
+pub sheet-stops : (c : Cursor) (n : ℕ) → stopAt c ≡ ended false n → c .at ≡ n
+unfolding stopAt
+sheet-stops c n e = ap (λ (f : FileEnd). f .place) (sym (sheet-stop c (ap (λ (f : FileEnd). f .image) e)) ∙ e)
+
+pub image-stops : (c : Cursor) (n : ℕ) → stopAt c ≡ ended true n → c .next + c .stop ≡ n
+unfolding stopAt
+image-stops c n e = ap (λ (f : FileEnd). f .place) (sym (image-stop c (ap (λ (f : FileEnd). f .image) e)) ∙ e)
 
 -- ---- what is left of the open record
 
@@ -153,9 +184,9 @@ module _ (bytes : List ℕ) (c : Cursor) (k : ℕ) (h : Holds bytes c) (m : k �
             (record { goes = record { inside = f .goes .inside; ended = f .goes .ended; fits = omega arith }; all = omega arith });
       }
 
-  end : (lengths : List ℕ) → endAt lengths d ≡ endAt lengths c
+  end : (lengths : List ℕ) → endAt lengths bytes d ≡ endAt lengths bytes c
   unfolding endAt lengthsAt
-  end lengths = ap (λ (n : ℕ). ifB (c .image) 0 (suc (n + sum (lengthsAt lengths c)))) place
+  end lengths = ap (λ (n : ℕ). ended (c .image) (ifB (c .image) (endOf bytes (behindOf c)) (n + sum (lengthsAt lengths c)))) place
 
   pub past-handed : Handed bytes c k d
   unfolding laterAt lengthsAt
@@ -172,7 +203,7 @@ module _ (bytes : List ℕ) (c : Cursor) (k : ℕ) (h : Holds bytes c) (m : k �
               holds = holds;
               order = g .order;
               within = g .within;
-              inside = subst (λ (n : ℕ). n ≤ suc (length bytes)) (sym (end lengths)) (g .inside);
+              inside = subst (λ (e : FileEnd). e .place ≤ length bytes) (sym (end lengths)) (g .inside);
               over = λ e. absurd (false≢true (sym e));
             };
         end = end;
@@ -291,9 +322,8 @@ module _ (bytes : List ℕ) (c : Cursor) (h : Holds bytes c) (z : c .here ≡ 0)
               }));
         }
 
-    ends-on : (lengths : List ℕ) → endAt lengths o ≡ endAt lengths c
-    unfolding endAt
-    ends-on lengths = if-true _ _ _ is-image ∙ sym (if-true _ _ _ is-image)
+    ends-on : (lengths : List ℕ) → endAt lengths bytes o ≡ endAt lengths bytes c
+    ends-on lengths = image-end lengths bytes o is-image ∙ sym (image-end lengths bytes c is-image)
 
     pub onward-one : Onward bytes c o
     unfolding laterAt
@@ -312,7 +342,7 @@ module _ (bytes : List ℕ) (c : Cursor) (h : Holds bytes c) (z : c .here ≡ 0)
                       holds = holds-on;
                       order = y .order;
                       within = y .within;
-                      inside = subst (λ (n : ℕ). n ≤ suc (length bytes)) (sym (ends-on lengths)) (y .inside);
+                      inside = subst (λ (e : FileEnd). e .place ≤ length bytes) (sym (ends-on lengths)) (y .inside);
                       over = λ s. absurd (false≢true (sym s));
                     };
                 end = ends-on;
@@ -435,12 +465,14 @@ one-part bytes w at n h = take-at (part at n bytes) (bytesBehind bytes w) n (len
 
 module _ (lengths bytes : List ℕ) (c : Cursor) (g : Good lengths bytes c) (l : c .left ≡ 0) (s : c .image ≡ false) where
   -- the end of the file, in numbers
-  end-is : endAt lengths c ≡ suc (c .at + sum (part (c .next) (c .stop - c .next) lengths))
-  unfolding endAt lengthsAt
+  end-is : endAt lengths bytes c ≡ ended false (c .at + sum (part (c .next) (c .stop - c .next) lengths))
+  unfolding lengthsAt
   end-is =
-      if-false _ _ _ s
-      ∙ ap (λ (n : ℕ). suc (c .at + n + sum (part (c .next) (c .stop - c .next) lengths))) l
-      ∙ omega arith
+      let here : c .at + c .left ≡ c .at = omega arith in
+      sheet-end lengths bytes c s ∙ ap (λ (n : ℕ). ended false (n + sum (part (c .next) (c .stop - c .next) lengths))) here
+
+  inside : c .at + sum (part (c .next) (c .stop - c .next) lengths) ≤ length bytes
+  inside = subst (λ (e : FileEnd). e .place ≤ length bytes) end-is (g .inside)
 
   later-is : laterAt lengths bytes c ≡ cutBy (part (c .next) (c .stop - c .next) lengths) (drop (c .at) bytes)
   unfolding laterAt lengthsAt
@@ -457,23 +489,38 @@ module _ (lengths bytes : List ℕ) (c : Cursor) (g : Good lengths bytes c) (l :
   both-sheet : (d : Cursor) → d .image ≡ false → isWhole d ≡ isWhole c
   both-sheet d e = sheet-whole d e ∙ sym (sheet-whole c s)
 
+  -- a cursor with a record of n bytes open, or without one and n 0, and so many behind it
+  module _ (n next : ℕ) (live : Bool) (total : sum (part (c .next) (c .stop - c .next) lengths) ≡ n + sum (part next (c .stop - next) lengths)) where
+    abbrev other : Cursor
+    other = moved c (c .at) n n next (c .rest) 0 live false
+
+    same-end : endAt lengths bytes other ≡ endAt lengths bytes c
+    unfolding lengthsAt
+    same-end =
+        let all : c .at + n + sum (part next (c .stop - next) lengths) ≡ c .at + sum (part (c .next) (c .stop - c .next) lengths) = omega arith in
+        sheet-end lengths bytes other refl ∙ ap (ended false) all ∙ sym end-is
+
+    sheet-good : next ≤ c .stop → (live ≡ false → stopAt other ≡ endAt lengths bytes other) → Good lengths bytes other
+    sheet-good h k =
+        record {
+          holds = record { inside = omega (arith, inside); whole = λ _. refl; further = λ z. absurd (omega arith) };
+          order = λ _. h;
+          within = λ _. g .within s;
+          inside = subst (λ (e : FileEnd). e .place ≤ length bytes) (sym same-end) (g .inside);
+          over = k;
+        }
+
   pub opened-none : c .stop ≤ c .next → Opened lengths bytes c (moved c (c .at) 0 0 (c .next) (c .rest) 0 false false)
-  unfolding endAt stopAt lengthsAt cutBy sum
+  unfolding lengthsAt cutBy sum
   opened-none h =
       let none : part (c .next) (c .stop - c .next) lengths ≡ [] = none-left lengths (c .next) (c .stop) h in
-      let empty : sum (part (c .next) (c .stop - c .next) lengths) ≡ 0 = ap sum none in
-      let ends : ifB false 0 (suc (c .at + 0 + sum (part (c .next) (c .stop - c .next) lengths))) ≡ suc (c .at + 0 + sum (part (c .next) (c .stop - c .next) lengths)) = if-false _ _ _ refl in
-      let stops : ifB false 0 (suc (c .at)) ≡ suc (c .at) = if-false _ _ _ refl in
+      let empty : c .at ≡ c .at + sum (part (c .next) (c .stop - c .next) lengths) = omega (arith, ap sum none) in
+      let end = same-end 0 (c .next) false (omega arith) in
       record {
         good =
-            record {
-              holds = record { inside = omega (arith, g .inside, end-is); whole = λ _. refl; further = λ z. absurd (omega arith) };
-              order = λ _. g .order s;
-              within = λ _. g .within s;
-              inside = omega (arith, g .inside, end-is);
-              over = λ _. omega arith;
-            };
-        end = omega (arith, end-is);
+            sheet-good 0 (c .next) false (omega arith) (g .order s)
+            (λ _. sheet-stop (moved c (c .at) 0 0 (c .next) (c .rest) 0 false false) refl ∙ ap (ended false) empty ∙ sym end-is ∙ sym end);
+        end = end;
         begun = refl;
         whole = both-sheet _ refl;
         none = λ _. later-is ∙ ap (λ (ns : List ℕ). cutBy ns (drop (c .at) bytes)) none;
@@ -482,24 +529,17 @@ module _ (lengths bytes : List ℕ) (c : Cursor) (g : Good lengths bytes c) (l :
 
   pub opened-some : (n : ℕ) → c .next < c .stop → n ≡ getD lengths (c .next) 0
       → Opened lengths bytes c (moved c (c .at) n n (c .next + 1) (c .rest) 0 true false)
-  unfolding bytesAt laterAt endAt lengthsAt cutBy sum
+  unfolding bytesAt laterAt lengthsAt cutBy sum
   opened-some n h e =
       let one : part (c .next) (c .stop - c .next) lengths ≡ n ∷ part (c .next + 1) (c .stop - (c .next + 1)) lengths
       = one-left lengths (c .next) (c .stop) h (g .within s) ∙ ap (λ (k : ℕ). k ∷ part (c .next + 1) (c .stop - (c .next + 1)) lengths) (sym e) in
       let total : sum (part (c .next) (c .stop - c .next) lengths) ≡ n + sum (part (c .next + 1) (c .stop - (c .next + 1)) lengths) = ap sum one in
-      let ends : ifB false 0 (suc (c .at + n + sum (part (c .next + 1) (c .stop - (c .next + 1)) lengths))) ≡ suc (c .at + n + sum (part (c .next + 1) (c .stop - (c .next + 1)) lengths)) = if-false _ _ _ refl in
-      let room : c .at + n ≤ length bytes = omega (arith, g .inside, end-is) in
+      let good : Good lengths bytes (moved c (c .at) n n (c .next + 1) (c .rest) 0 true false)
+      = sheet-good n (c .next + 1) true total (omega arith) (λ q. absurd (false≢true (sym q))) in
       let behind : Walk = walkOf (moved c (c .at) n n (c .next + 1) (c .rest) 0 true false) in
       record {
-        good =
-            record {
-              holds = record { inside = room; whole = λ _. refl; further = λ z. absurd (omega arith) };
-              order = λ _. omega arith;
-              within = λ _. g .within s;
-              inside = omega (arith, g .inside, end-is);
-              over = λ q. absurd (false≢true (sym q));
-            };
-        end = omega (arith, end-is);
+        good = good;
+        end = same-end n (c .next + 1) true total;
         begun = refl;
         whole = both-sheet _ refl;
         none = λ q. absurd (false≢true (sym q));
@@ -507,7 +547,7 @@ module _ (lengths bytes : List ℕ) (c : Cursor) (g : Good lengths bytes c) (l :
             λ _.
             later-is
             ∙ ap (λ (ns : List ℕ). cutBy ns (drop (c .at) bytes)) one
-            ∙ ap (λ (t : List ℕ). t ∷ cutBy (part (c .next + 1) (c .stop - (c .next + 1)) lengths) (drop n (drop (c .at) bytes))) (sym (one-part bytes behind (c .at) n room))
+            ∙ ap (λ (t : List ℕ). t ∷ cutBy (part (c .next + 1) (c .stop - (c .next + 1)) lengths) (drop n (drop (c .at) bytes))) (sym (one-part bytes behind (c .at) n (good .holds .inside)))
             ∙ ap (λ (t : List ℕ). take n (part (c .at) n bytes ++ bytesBehind bytes behind) ∷ cutBy (part (c .next + 1) (c .stop - (c .next + 1)) lengths) t) (drop-drop n (c .at) bytes)
             ∙ ap (λ (t : List (List ℕ)). take n (part (c .at) n bytes ++ bytesBehind bytes behind) ∷ t) (sym (if-false _ _ _ refl));
       }
@@ -516,54 +556,57 @@ pub ruleset listed = (next-within, next-scaled, opened-none, opened-some, needs)
 
 -- ---- the next record of an image
 
-no-end : (lengths : List ℕ) (d : Cursor) → d .image ≡ true → endAt lengths d ≡ 0
-unfolding endAt
-no-end lengths d i = if-true _ _ _ i
-
-no-stop : (d : Cursor) → d .image ≡ true → stopAt d ≡ 0
-unfolding stopAt
-no-stop d i = if-true _ _ _ i
-
-pub image-good : (lengths bytes : List ℕ) (d : Cursor) → d .image ≡ true → Holds bytes d → Good lengths bytes d
-image-good lengths bytes d i h =
+pub image-good : (lengths bytes : List ℕ) (d : Cursor) → d .image ≡ true → Holds bytes d → endOf bytes (behindOf d) ≤ length bytes
+    → (d .live ≡ false → endOf bytes (behindOf d) ≡ d .next + d .stop) → Good lengths bytes d
+image-good lengths bytes d i h m e =
     record {
       holds = h;
       order = λ z. absurd (false≢true (sym z ∙ i));
       within = λ z. absurd (false≢true (sym z ∙ i));
-      inside = omega (arith, no-end lengths d i);
-      over = λ _. no-stop d i ∙ sym (no-end lengths d i);
+      inside = subst (λ (f : FileEnd). f .place ≤ length bytes) (sym (image-end lengths bytes d i)) m;
+      over = λ z. image-stop d i ∙ ap (ended true) (sym (e z)) ∙ sym (image-end lengths bytes d i);
     }
 
-module _ (lengths bytes : List ℕ) (c : Cursor) (s : c .image ≡ true) where
+module _ (lengths bytes : List ℕ) (c : Cursor) (g : Good lengths bytes c) (s : c .image ≡ true) where
   later-image : laterAt lengths bytes c ≡ recordsAt bytes (behindOf c)
   unfolding laterAt
   later-image = if-true _ _ _ s
 
-  -- no record of an image is open
-  image-closed : (d : Cursor) → d .image ≡ true → d .format ≡ c .format → d .begun ≡ 0 → d .live ≡ false → Holds bytes d → recordsAt bytes (behindOf c) ≡ [] → Opened lengths bytes c d
-  image-closed d i f b l h r =
-      record {
-        good = image-good lengths bytes d i h;
-        end = no-end lengths d i ∙ sym (no-end lengths c s);
-        begun = b;
-        whole = same-format d c i s f;
-        none = λ _. later-image ∙ r;
-        some = λ z. absurd (false≢true (sym l ∙ z));
-      }
+  within-image : endOf bytes (behindOf c) ≤ length bytes
+  within-image = subst (λ (x : FileEnd). x .place ≤ length bytes) (image-end lengths bytes c s) (g .inside)
 
-  -- an open record of an image, from its first segment on
-  image-open : (d : Cursor) → d .image ≡ true → d .format ≡ c .format → d .begun ≡ 0 → d .live ≡ true → Holds bytes d
-      → recordsAt bytes (behindOf c) ≡ bytesAt bytes d ∷ recordsAt bytes (behindOf d) → Opened lengths bytes c d
-  unfolding laterAt
-  image-open d i f b l h r =
-      record {
-        good = image-good lengths bytes d i h;
-        end = no-end lengths d i ∙ sym (no-end lengths c s);
-        begun = b;
-        whole = same-format d c i s f;
-        none = λ z. absurd (false≢true (sym z ∙ l));
-        some = λ _. later-image ∙ r ∙ ap (λ (t : List (List ℕ)). bytesAt bytes d ∷ t) (sym (if-true _ _ _ i));
-      }
+  -- another cursor of the same file
+  module _ (d : Cursor) (i : d .image ≡ true) (f : d .format ≡ c .format) (h : Holds bytes d) (e : endOf bytes (behindOf c) ≡ endOf bytes (behindOf d)) where
+    same-file : endAt lengths bytes d ≡ endAt lengths bytes c
+    same-file = image-end lengths bytes d i ∙ ap (ended true) (sym e) ∙ sym (image-end lengths bytes c s)
+
+    good-on : (d .live ≡ false → endOf bytes (behindOf d) ≡ d .next + d .stop) → Good lengths bytes d
+    good-on = image-good lengths bytes d i h (subst (λ (n : ℕ). n ≤ length bytes) e within-image)
+
+    -- no record of it is open
+    image-closed : d .begun ≡ 0 → d .live ≡ false → recordsAt bytes (behindOf c) ≡ [] → endOf bytes (behindOf d) ≡ d .next + d .stop → Opened lengths bytes c d
+    image-closed b l r k =
+        record {
+          good = good-on (λ _. k);
+          end = same-file;
+          begun = b;
+          whole = same-format d c i s f;
+          none = λ _. later-image ∙ r;
+          some = λ z. absurd (false≢true (sym l ∙ z));
+        }
+
+    -- a record of it is open, from its first segment on
+    image-open : d .begun ≡ 0 → d .live ≡ true → recordsAt bytes (behindOf c) ≡ bytesAt bytes d ∷ recordsAt bytes (behindOf d) → Opened lengths bytes c d
+    unfolding laterAt
+    image-open b l r =
+        record {
+          good = good-on (λ z. absurd (false≢true (sym z ∙ l)));
+          end = same-file;
+          begun = b;
+          whole = same-format d c i s f;
+          none = λ z. absurd (false≢true (sym z ∙ l));
+          some = λ _. later-image ∙ r ∙ ap (λ (t : List (List ℕ)). bytesAt bytes d ∷ t) (sym (if-true _ _ _ i));
+        }
 
   module _ (w : Walk) (k : w ≡ behindOf c) (m : Measured) (e : m ≡ measuredBy (recordAt bytes w)) where
     measured-is : m ≡ measuredBy (recordAt bytes (behindOf c))
@@ -572,20 +615,21 @@ module _ (lengths bytes : List ℕ) (c : Cursor) (s : c .image ≡ true) where
     pub image-none : (d : Cursor) → m ≡ None → d ≡ opened c false 0 0 0 0 (c .next) (c .stop) → Opened lengths bytes c d
     image-none d q z =
         subst (Opened lengths bytes c) (sym z)
-        (image-closed (opened c false 0 0 0 0 (c .next) (c .stop)) refl refl refl refl
-        (record { inside = omega arith; whole = λ _. refl; further = λ less. absurd (omega arith) }) (measured-nothing bytes (behindOf c) m measured-is q))
+        (image-closed (opened c false 0 0 0 0 (c .next) (c .stop)) refl refl (record { inside = omega arith; whole = λ _. refl; further = λ less. absurd (omega arith) }) refl refl refl
+        (measured-nothing bytes (behindOf c) m measured-is q) (measured-end-nothing bytes (behindOf c) m measured-is q))
 
     pub image-whole : (d : Cursor) (at n : ℕ) (v : Walk) → m ≡ Whole at n v → d ≡ opened c true at n n (v .left) (v .at) (v .left) → Opened lengths bytes c d
     unfolding bytesAt
     image-whole d at n v q z =
         let room : at + n ≤ length bytes = whole-within bytes (behindOf c) at n v m measured-is q in
-        let o : Cursor = opened c true at n n (v .left) (v .at) (v .left) in
+        let behind : Walk = walkOf (opened c true at n n (v .left) (v .at) (v .left)) in
+        let same = whole-walk bytes (behindOf c) at n v (sym measured-is ∙ q) in
         subst (Opened lengths bytes c) (sym z)
-        (image-open (opened c true at n n (v .left) (v .at) (v .left)) refl refl refl refl
-        (record { inside = room; whole = λ _. refl; further = λ less. absurd (omega arith) })
+        (image-open (opened c true at n n (v .left) (v .at) (v .left)) refl refl (record { inside = room; whole = λ _. refl; further = λ less. absurd (omega arith) })
+        (measured-end-whole bytes (behindOf c) at n v m measured-is q ∙ ap (endOf bytes) (sym same)) refl refl
         (measured-whole bytes (behindOf c) at n v m measured-is q
-        ∙ ap (λ (t : List ℕ). t ∷ recordsAt bytes v) (sym (take-at (part at n bytes) (bytesBehind bytes (walkOf o)) n (length-part at n bytes room)))
-        ∙ ap (λ (u : Walk). take n (part at n bytes ++ bytesBehind bytes (walkOf o)) ∷ recordsAt bytes u) (sym (whole-walk bytes (behindOf c) at n v (sym measured-is ∙ q)))))
+        ∙ ap (λ (t : List ℕ). t ∷ recordsAt bytes v) (sym (take-at (part at n bytes) (bytesBehind bytes behind) n (length-part at n bytes room)))
+        ∙ ap (λ (u : Walk). take n (part at n bytes ++ bytesBehind bytes behind) ∷ recordsAt bytes u) (sym same)))
 
     pub image-split : (n : ℕ) (v : Walk) → m ≡ Split n v → Split n v ≡ measuredBy (recordAt bytes (behindOf c))
     image-split n v q = sym q ∙ measured-is
@@ -593,11 +637,11 @@ module _ (lengths bytes : List ℕ) (c : Cursor) (s : c .image ≡ true) where
 pub ruleset imaged = (image-none, image-whole, image-split, needs)
 
 -- the next record of an image, where it stands whole in a block
-pub whole-opened : (lengths bytes : List ℕ) (c : Cursor) (w v : Walk) (k word : ℕ) (d : Cursor) → c .image ≡ true → w ≡ behindOf c → v ≡ atBlock bytes w
+pub whole-opened : (lengths bytes : List ℕ) (c : Cursor) (w v : Walk) (k word : ℕ) (d : Cursor) → Good lengths bytes c → c .image ≡ true → w ≡ behindOf c → v ≡ atBlock bytes w
     → k ≡ wholeAt bytes v → (k ≡ 0 → ⊥) → word ≡ wordOf (v .format)
     → d ≡ opened c true (v .at + word) (k - word) (k - word) (v .left - k) (v .at + k) (v .left - k) → Opened lengths bytes c d
-whole-opened lengths bytes c w v k word d s e h m z q r =
-    image-whole lengths bytes c s w e (Whole (v .at + word) (k - word) (movedTo v (v .at + k) (v .left - k))) (whole-measured bytes w v _ k word h m z q refl) d
+whole-opened lengths bytes c w v k word d g s e h m z q r =
+    image-whole lengths bytes c g s w e (Whole (v .at + word) (k - word) (movedTo v (v .at + k) (v .left - k))) (whole-measured bytes w v _ k word h m z q refl) d
     (v .at + word) (k - word) (movedTo v (v .at + k) (v .left - k)) refl r
 
 pub ruleset wholly = (whole-opened, word-least, whole-left, whole-start, whole-end, needs)
@@ -613,7 +657,7 @@ whole-sheet c e = sym (sheet-whole c e)
 
 pub ruleset kinds = (whole-image, whole-sheet, needs)
 
-module _ (lengths bytes : List ℕ) (c : Cursor) (s : c .image ≡ true) (n : ℕ) (v : Walk) (e : Split n v ≡ measuredBy (recordAt bytes (behindOf c))) (w : Walk)
+module _ (lengths bytes : List ℕ) (c : Cursor) (g : Good lengths bytes c) (s : c .image ≡ true) (n : ℕ) (v : Walk) (e : Split n v ≡ measuredBy (recordAt bytes (behindOf c))) (w : Walk)
     (k : w ≡ behindOf c) (t : Taken) (f : t ≡ firstSegment bytes w) where
   first-is : t ≡ firstSegment bytes (behindOf c)
   first-is = f ∙ ap (firstSegment bytes) k
@@ -631,8 +675,9 @@ module _ (lengths bytes : List ℕ) (c : Cursor) (s : c .image ≡ true) (n : �
       let sides : length (part at here bytes ++ bytesBehind bytes u) ≡ length (part at here bytes) + length (bytesBehind bytes u)
       = length-append (part at here bytes) (bytesBehind bytes u) in
       let all : here + length (bytesBehind bytes u) ≡ n = omega (arith, p .long) in
+      let same = split-walk bytes (behindOf c) n v (sym e) in
       subst (Opened lengths bytes c) (sym q)
-      (image-open lengths bytes c s (opened c true at here n (u .left) (v .at) (v .left)) refl refl refl refl
+      (image-open lengths bytes c g s (opened c true at here n (u .left) (v .at) (v .left)) refl refl
       (record {
         inside = a .behind .within;
         whole = λ y. absurd (split-format bytes (behindOf c) n v (image-format (opened c true at here n (u .left) (v .at) (v .left)) refl y) e);
@@ -641,9 +686,10 @@ module _ (lengths bytes : List ℕ) (c : Cursor) (s : c .image ≡ true) (n : �
             subst (λ (x : Walk). Further bytes x here n) (sym (a .walk))
             (record { goes = record { inside = p .inside; ended = p .ended; fits = omega arith }; all = all });
       })
+      (measured-end-split bytes (behindOf c) n v (Split n v) e refl ∙ ap (endOf bytes) (sym same)) refl refl
       (measured-split bytes (behindOf c) n v (Split n v) e refl
       ∙ ap (λ (x : List ℕ). x ∷ recordsAt bytes v) (p .bytes ∙ sym (take-all n (part at here bytes ++ bytesBehind bytes u) (omega arith)))
       ∙ ap (λ (x : Walk). take n (part at here bytes ++ bytesBehind bytes x) ∷ recordsAt bytes v) (sym (a .walk))
-      ∙ ap (λ (x : Walk). take n (part at here bytes ++ bytesBehind bytes (walkOf (opened c true at here n (u .left) (v .at) (v .left)))) ∷ recordsAt bytes x) (sym (split-walk bytes (behindOf c) n v (sym e)))))
+      ∙ ap (λ (x : Walk). take n (part at here bytes ++ bytesBehind bytes (walkOf (opened c true at here n (u .left) (v .at) (v .left)))) ∷ recordsAt bytes x) (sym same)))
 
 pub ruleset split = (split-none, split-one, needs)

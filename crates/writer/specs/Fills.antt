@@ -38,7 +38,7 @@ pub record Fillable (b : ℕ) (lengths bytes : List ℕ) (c : Cursor) (at : ℕ)
 -- the turn is not on, the block is full
 pub record Turned (f b : ℕ) (lengths bytes : List ℕ) (u : ℕ) (c : Cursor) (o : List ℕ) (a : ℕ) (p : List ℕ) (t : Turn) : Type 0 where
   pub good : Good lengths bytes (t .cur)
-  pub end : endAt lengths (t .cur) ≡ endAt lengths c
+  pub end : endAt lengths bytes (t .cur) ≡ endAt lengths bytes c
   pub kept : length p ≡ length o
   pub place : t .at ≤ overLong
   pub live : t .on ≡ true → t .cur .live ≡ true
@@ -55,13 +55,13 @@ pub record Turning (f b : ℕ) (lengths bytes : List ℕ) (u : ℕ) (c : Cursor)
 -- the open block was filled
 pub record Filled (f b : ℕ) (lengths bytes : List ℕ) (c : Cursor) (o : List ℕ) (a : ℕ) (p : List ℕ) (m : Moved) : Type 0 where
   pub good : Good lengths bytes (m .cur)
-  pub end : endAt lengths (m .cur) ≡ endAt lengths c
+  pub end : endAt lengths bytes (m .cur) ≡ endAt lengths bytes c
   pub wrote : Wrote o a (fillAt f b lengths bytes 0 c) p (m .at)
   pub left : leftAt lengths bytes (m .cur) ≡ afterAt f b lengths bytes 0 c
 
 -- a block was filled and led by its length
 pub record BlockPut (f b : ℕ) (lengths bytes : List ℕ) (c : Cursor) (o : List ℕ) (a : ℕ) (p : List ℕ) (m : Moved) : Type 0 where
   pub good : Good lengths bytes (m .cur)
-  pub end : endAt lengths (m .cur) ≡ endAt lengths c
+  pub end : endAt lengths bytes (m .cur) ≡ endAt lengths bytes c
   pub wrote : Wrote o a (encode (block (fillAt f b lengths bytes 0 c) ∷ [])) p (m .at)
   pub left : leftAt lengths bytes (m .cur) ≡ afterAt f b lengths bytes 0 c

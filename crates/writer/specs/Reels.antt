@@ -78,7 +78,7 @@ pub record LaidHere (f b : ℕ) (lengths bytes : List ℕ) (c : Cursor) (v : Ree
 -- blocks were laid from cursor c and reel r on, up to where x stands
 pub record Passed (f b : ℕ) (lengths bytes : List ℕ) (quota : ℕ) (set e : List ℕ) (sequence : ℕ) (names : List ℕ) (c : Cursor) (r : Reel) (o p : List ℕ) (x : Laying) : Type 0 where
   pub good : Good lengths bytes (x .cur)
-  pub end : endAt lengths (x .cur) ≡ endAt lengths c
+  pub end : endAt lengths bytes (x .cur) ≡ endAt lengths bytes c
   pub kept : length p ≡ length o
   pub sound : Sound quota names (x .reel)
   pub room : RoomLeft f b (leftAt lengths bytes (x .cur))
@@ -119,7 +119,7 @@ pub record Ended (set e : List ℕ) (sequence : ℕ) (x : Laying) (o p : List �
 
 -- a whole file was laid, with its labels
 pub record FilePut (lengths bytes : List ℕ) (quota : ℕ) (set e : List ℕ) (sequence : ℕ) (names : List ℕ) (c : Cursor) (r : Reel) (o p : List ℕ) (x : Laying) : Type 0 where
-  pub end : x .reel .short ≡ false → stopAt (x .cur) ≡ endAt lengths c
+  pub end : x .reel .short ≡ false → stopAt (x .cur) ≡ endAt lengths bytes c
   pub kept : length p ≡ length o
   pub sound : Sound quota names (x .reel)
   pub same : (next : Next) (q : List ℕ) (s : ℕ) (z : Bool)

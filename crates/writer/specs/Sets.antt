@@ -1,7 +1,7 @@
 -- The steps by which the writer's code lays all files of a set down, over the definitions of Lay.antt. The files come from the slices of a sheet or from
 -- an accepted image: `filesAt` is what is left of them at a place, and the loop over them knows nothing else.
 use mathlib.Core.Path.{_≡_}
-use mathlib.Core.Bool.{Bool, true, false, not}
+use mathlib.Core.Bool.{Bool, true, false}
 use mathlib.Core.List.{List, [], _∷_, _++_}
 use Prim.Native.Nat.{ℕ, suc, _+_, _-_, _*_, _≤_, _<_}
 use lib.Dec.{ltb}
@@ -13,7 +13,8 @@ use Rattle.image.specs.Framing.{head}
 use Rattle.volume.specs.Meaning.{File, content}
 use Rattle.sheet.specs.Legal.{Sheet, legalFiles}
 use Rattle.sheet.specs.Flat.{Flat, sum, inParts, cutBy, filesFrom}
-use Rattle.content.specs.Walked.{Filed as Met}
+use Rattle.content.specs.File.{nextFile, fileBehind}
+use Rattle.content.specs.Walked.{endOf, Filed as Met}
 use Rattle.content.specs.Records.{recordsAt}
 use Rattle.content.specs.declared.Walk.{Walk}
 use Rattle.content.specs.declared.FileAt.{FileAt}
@@ -75,12 +76,13 @@ pub record Placed (from : Origin) (set lengths bytes : List ℕ) (g : Place) : T
 -- the records of a file are opened: those of the lengths from `first` to `stop`, from `byte` on
 pub record Begun (lengths bytes : List ℕ) (byte first stop : ℕ) (c : Cursor) : Type 0 where
   pub good : Good lengths bytes c
-  pub end : endAt lengths c ≡ suc (byte + sum (part first (stop - first) lengths))
+  pub end : endAt lengths bytes c ≡ record { image = false; place = byte + sum (part first (stop - first) lengths) }
   pub left : leftAt lengths bytes c ≡ startOf (cutBy (part first (stop - first) lengths) (drop byte bytes))
 
 -- the records of a file of an image are opened: those from a walk on
 pub record Walked (lengths bytes : List ℕ) (w : Walk) (c : Cursor) : Type 0 where
   pub good : Good lengths bytes c
+  pub end : endAt lengths bytes c ≡ record { image = true; place = endOf bytes w }
   pub left : leftAt lengths bytes c ≡ startOf (recordsAt bytes w)
 
 -- where the laying of files is behind the file of that number of a sheet, of n files
@@ -92,9 +94,18 @@ behindListed f i stop n x =
       reel = x .reel;
     }
 
--- the same behind a file of an image, by the one that follows
+-- unless a name was lacking, the cursor has passed all records of a file of an image, and the next file is found from there
+pub record Over (bytes : List ℕ) (f : FileAt) (c : Cursor) (r : Reel) : Type 0 where
+  pub within : r .short ≡ false → c .next + c .stop ≤ length bytes
+  pub next : r .short ≡ false → fileBehind bytes f (c .next + c .stop) ≡ nextFile bytes f
+
+-- the file that follows one of an image on the reels: none where a name was lacking
+unfoldable pub followed : List ℕ → FileAt → Reel → NextFile
+followed bytes f r = ifB (r .short) Nowhere (nextFile bytes f)
+
+-- where the laying of files is behind the file of that number of an image, by the one that follows
 unfoldable pub behindRead : FileAt → ℕ → Reel → NextFile → Filing
-behindRead f i r (At h) = record { on = not (r .short); place = record { nth = i + 1; first = 0; byte = 0; file = h }; reel = r }
+behindRead f i r (At h) = record { on = true; place = record { nth = i + 1; first = 0; byte = 0; file = h }; reel = r }
 behindRead f i r Nowhere = record { on = false; place = record { nth = i + 1; first = 0; byte = 0; file = f }; reel = r }
 
 -- the files from a place and a reel on

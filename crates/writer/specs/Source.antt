@@ -5,7 +5,7 @@
 use mathlib.Core.Path.{_≡_}
 use mathlib.Core.Bool.{Bool, true, false, not}
 use mathlib.Core.List.{List, [], _∷_, _++_}
-use Prim.Native.Nat.{ℕ, suc, _+_, _-_, _≤_, _<_}
+use Prim.Native.Nat.{ℕ, _+_, _-_, _≤_, _<_}
 use lib.Dec.{eqb}
 use lib.ListN.{length, take, drop}
 use Rattle.base.specs.If.{ifB}
@@ -13,6 +13,7 @@ use Rattle.base.specs.Format.{S}
 use Rattle.base.specs.Part.{part}
 use Rattle.sheet.specs.Flat.{sum, cutBy}
 use Rattle.content.specs.Measure.{GoesOn, bytesBehind}
+use Rattle.content.specs.Walked.{endOf}
 use Rattle.content.specs.Records.{recordsAt}
 use Rattle.content.specs.declared.Walk.{Walk}
 use Rattle.writer.specs.declared.source.Cursor.{Cursor}
@@ -43,13 +44,17 @@ lengthsAt lengths c = part (c .next) (c .stop - c .next) lengths
 unfoldable pub laterAt : List ℕ → List ℕ → Cursor → List (List ℕ)
 laterAt lengths bytes c = ifB (c .image) (recordsAt bytes (behindOf c)) (cutBy (lengthsAt lengths c) (drop (c .at + c .left) bytes))
 
--- on a sheet, one more than the place where the bytes of the file end; a file of an image does not end at a place, and has 0
-unfoldable pub endAt : List ℕ → Cursor → ℕ
-endAt lengths c = ifB (c .image) 0 (suc (c .at + c .left + sum (lengthsAt lengths c)))
+-- where a file ends: at a place of an image, or of the bytes of a sheet
+pub record FileEnd : Type 0 where
+  pub image : Bool
+  pub place : ℕ
 
--- the same for the place of the cursor
-unfoldable pub stopAt : Cursor → ℕ
-stopAt c = ifB (c .image) 0 (suc (c .at))
+unfoldable pub endAt : List ℕ → List ℕ → Cursor → FileEnd
+endAt lengths bytes c = record { image = c .image; place = ifB (c .image) (endOf bytes (behindOf c)) (c .at + c .left + sum (lengthsAt lengths c)) }
+
+-- where it ends if the cursor has passed its last record
+unfoldable pub stopAt : Cursor → FileEnd
+stopAt c = record { image = c .image; place = ifB (c .image) (c .next + c .stop) (c .at) }
 
 -- what is left of the file
 unfoldable pub leftAt : List ℕ → List ℕ → Cursor → Left
@@ -66,13 +71,13 @@ pub record Holds (bytes : List ℕ) (c : Cursor) : Type 0 where
   pub whole : isWhole c ≡ true → c .here ≡ c .left
   pub further : c .here < c .left → Further bytes (walkOf c) (c .here) (c .left)
 
--- a cursor within its source, the lengths too where that is a sheet; behind the last record of a sheet's file it stands at the end of the file
+-- a cursor within its source, the lengths too where that is a sheet; behind the last record it tells where the file ends
 pub record Good (lengths bytes : List ℕ) (c : Cursor) : Type 0 where
   pub holds : Holds bytes c
   pub order : c .image ≡ false → c .next ≤ c .stop
   pub within : c .image ≡ false → c .stop ≤ length lengths
-  pub inside : endAt lengths c ≤ suc (length bytes)
-  pub over : c .live ≡ false → stopAt c ≡ endAt lengths c
+  pub inside : endAt lengths bytes c .place ≤ length bytes
+  pub over : c .live ≡ false → stopAt c ≡ endAt lengths bytes c
 
 -- cursor d is c with k bytes of the open record handed over
 pub record Handed (bytes : List ℕ) (c : Cursor) (k : ℕ) (d : Cursor) : Type 0 where
@@ -82,7 +87,7 @@ pub record Handed (bytes : List ℕ) (c : Cursor) (k : ℕ) (d : Cursor) : Type 
   pub live : d .live ≡ true
   pub holds : Holds bytes d
   pub good : (lengths : List ℕ) → Good lengths bytes c → Good lengths bytes d
-  pub end : (lengths : List ℕ) → endAt lengths d ≡ endAt lengths c
+  pub end : (lengths : List ℕ) → endAt lengths bytes d ≡ endAt lengths bytes c
   pub later : (lengths : List ℕ) → laterAt lengths bytes d ≡ laterAt lengths bytes c
 
 -- cursor c behind k bytes of the open segment
@@ -145,7 +150,7 @@ opened c live at here left rest next stop =
 -- cursor d is c with the next record opened, or without a record where there is no next
 pub record Opened (lengths bytes : List ℕ) (c d : Cursor) : Type 0 where
   pub good : Good lengths bytes d
-  pub end : endAt lengths d ≡ endAt lengths c
+  pub end : endAt lengths bytes d ≡ endAt lengths bytes c
   pub begun : d .begun ≡ 0
   pub whole : isWhole d ≡ isWhole c
   pub none : d .live ≡ false → laterAt lengths bytes c ≡ []

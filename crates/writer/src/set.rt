@@ -12,11 +12,11 @@ ghost use Rattle.label.specs.Made.{madeVolume};
 ghost use Rattle.volume.specs.Meaning.{fieldsFrom};
 ghost use Rattle.sheet.specs.Legal.{formatFrom, blockLengthFrom};
 ghost use Rattle.sheet.specs.Flat.{sum};
-ghost use Rattle.content.specs.File.{nextFile};
+ghost use Rattle.content.specs.Walked.{endOf};
 ghost use Rattle.writer.specs.Lay.{lay};
 ghost use Rattle.writer.specs.Output.{Wrote};
 ghost use Rattle.writer.specs.Reels.{Sound, Layable, FilePut};
-ghost use Rattle.writer.specs.Sets.{listed, read, originOf, Placed, Begun, Walked, behindListed, behindRead, Fileable, OneFiled, AllFiled, SetEnded, Sheeted, sheetAt, Writable};
+ghost use Rattle.writer.specs.Sets.{listed, read, originOf, Placed, Begun, Walked, behindListed, Over, followed, behindRead, Fileable, OneFiled, AllFiled, SetEnded, Sheeted, sheetAt, Writable};
 use crate::item::put_reel_end;
 use crate::item::put_volume;
 use crate::out::put_bytes;
@@ -24,13 +24,14 @@ use crate::reel::Laying;
 use crate::reel::Reel;
 use crate::reel::put_file;
 use crate::source::Cursor;
+use crate::source::block_end;
 use crate::source::next;
 use crate::source::wide;
 use base::part_of;
 use content::FileAt;
 use content::NextFile;
 use content::Walk;
-use content::next_file;
+use content::file_behind;
 
 // The bytes of a file's entry, of a reel name, and of a label.
 const ENTRY: usize = 46;
@@ -176,6 +177,7 @@ fn lay_listed(
 
 // Opens the first record of an image's file, from a walk on.
 fn begin_walk(lengths: &[u64], bytes: &[u8], w: Walk) -> Cursor
+    requires { ⌜ endOf (now bytes) w ≤ length (now bytes) ⌝ }
     ensures { λ r. ⌜ Walked (now (lengths .entry)) (now (bytes .entry)) w r ⌝ }
 {
     next(
@@ -267,25 +269,30 @@ fn lay_labelled(
     )
 }
 
-// Where the laying of files is behind the file of that number of an image.
-fn behind_read(bytes: &[u8], f: FileAt, i: usize, r: Reel) -> Filing
+// Where the laying of files is behind the file of that number of an image. The next one is looked for from where the cursor ended.
+fn behind_read(bytes: &[u8], f: FileAt, i: usize, c: Cursor, r: Reel) -> Filing
     requires { ⌜ i < 64 ⌝ }
-    ensures { λ x. ⌜ x ≡ behindRead f i r (nextFile (now (bytes .entry)) f) ⌝ }
+    requires { ⌜ Over (now bytes) f c r ⌝ }
+    ensures { λ x. ⌜ x ≡ behindRead f i r (followed (now (bytes .entry)) f r) ⌝ }
 {
     let nth = i + 1;
-    match next_file(bytes, f) {
-        NextFile::Nowhere => Filing {
-            on: false,
-            place: Place {
-                nth,
-                first: 0,
-                byte: 0,
-                file: f,
-            },
-            reel: r,
+    let over = Filing {
+        on: false,
+        place: Place {
+            nth,
+            first: 0,
+            byte: 0,
+            file: f,
         },
+        reel: r,
+    };
+    if r.short {
+        return over;
+    }
+    match file_behind(bytes, f, block_end(bytes, c)) {
+        NextFile::Nowhere => over,
         NextFile::At(file) => Filing {
-            on: !r.short,
+            on: true,
             place: Place {
                 nth,
                 first: 0,
@@ -315,7 +322,7 @@ fn lay_read(
     let f = g.file;
     let c = begin_walk(lengths, bytes, f.walk);
     let x = lay_labelled(set, f, i, lengths, bytes, c, quota, names, r, out);
-    behind_read(bytes, f, i, x.reel)
+    behind_read(bytes, f, i, x.cur, x.reel)
 }
 
 // Lays the file at a place, of an image or a sheet.

@@ -81,6 +81,14 @@ fn behind_of(c: Cursor) -> Walk
     }
 }
 
+// The place behind the block in which the open record of an image ends; without one, where the file's records end.
+pub(crate) fn block_end(bytes: &[u8], c: Cursor) -> usize
+    requires { ⌜ c .next + c .stop ≤ length (now bytes) ⌝ }
+    ensures { λ r. ⌜ r ≡ c .next + c .stop ⌝ }
+{
+    c.next + c.stop
+}
+
 // The cursor behind k bytes of the open segment.
 pub(crate) fn past(bytes: &[u8], c: Cursor, k: usize) -> Cursor
     requires { ⌜ Holds (now bytes) c ⌝ }
