@@ -43,7 +43,7 @@ pub fn done(len: usize) -> Written
 }
 
 // The place behind n bytes; places are counted up to `most`.
-fn behind(at: usize, n: usize, most: usize) -> usize
+pub fn behind(at: usize, n: usize, most: usize) -> usize
     ensures { λ r. ⌜ r ≡ min (at + n) most ⌝ }
 {
     if most <= at {

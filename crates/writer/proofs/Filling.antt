@@ -332,7 +332,7 @@ over-three o a z w bs e h =
 counted-between : (start end n : ℕ) → end ≡ min (start + n) overLong → end < overLong → end - start ≡ n
 counted-between start end n e h = omega arith
 
-length-three : (n : ℕ) → length (three n) ≡ 3
+pub length-three : (n : ℕ) → length (three n) ≡ 3
 unfolding three
 length-three n = refl
 
@@ -351,17 +351,21 @@ module _ (f b : ℕ) (lengths bytes : List ℕ) (c : Cursor) (o : List ℕ) (at 
   long : length (three (length bs) ++ bs) ≡ length (three 0 ++ bs)
   long = length-append (three (length bs)) bs ∙ ap (λ (k : ℕ). k + length bs) (length-three (length bs) ∙ sym (length-three 0)) ∙ sym (length-append (three 0) bs)
 
-  -- the image is over its limit: the length is not written
-  pub block-over : overLong ≤ m .at → BlockPut f b lengths bytes c o at q m
-  block-over h =
+  -- the block has no room: the length is not written
+  pub block-void : (m .at < overLong → m .at ≤ length o → ⊥) → BlockPut f b lengths bytes c o at q m
+  block-void h =
       record {
         good = x .good;
         end = x .end;
         wrote =
             subst (λ (s : List ℕ). Wrote o at s q (m .at)) (sym (one-block bs))
-            (record { kept = both .kept; place = both .place ∙ ap (λ (k : ℕ). min (at + k) overLong) (sym long); done = λ l k. absurd (omega arith) });
+            (record { kept = both .kept; place = both .place ∙ ap (λ (k : ℕ). min (at + k) overLong) (sym long); done = λ l k. absurd (h l k) });
         left = x .left;
       }
+
+  -- the image is over its limit
+  pub block-over : overLong ≤ m .at → BlockPut f b lengths bytes c o at q m
+  block-over h = block-void (λ l _. omega arith)
 
   pub block-done : (r : List ℕ) (s : ℕ) → m .at < overLong → Wrote q at (three (m .at - start)) r s → BlockPut f b lengths bytes c o at r m
   block-done r s h v =

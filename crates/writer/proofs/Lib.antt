@@ -10,6 +10,7 @@ pub mod Entering
 pub mod Segments
 pub mod Sources
 pub mod Filling
+pub mod Wholes
 pub mod Items
 pub mod Reeling
 pub mod Filing

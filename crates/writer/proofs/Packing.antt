@@ -27,7 +27,7 @@ enters-S : (f b u n : ℕ) → f ≡ 83 → enters f b u n ≡ leb (u + 5 + min 
 unfolding enters
 enters-S f b u n e = if-true _ _ _ (eq-eqb f 83 e)
 
-enters-whole : (f b u n : ℕ) → eqb f 83 ≡ false → enters f b u n ≡ leb (u + wordOf f + n) b
+pub enters-whole : (f b u n : ℕ) → eqb f 83 ≡ false → enters f b u n ≡ leb (u + wordOf f + n) b
 unfolding enters
 enters-whole f b u n e = if-false _ _ _ e
 

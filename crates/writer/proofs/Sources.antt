@@ -61,7 +61,7 @@ moved c at here left next rest begun live image =
 
 -- ---- records of one segment
 
-sheet-whole : (c : Cursor) → c .image ≡ false → isWhole c ≡ true
+pub sheet-whole : (c : Cursor) → c .image ≡ false → isWhole c ≡ true
 unfolding isWhole
 sheet-whole c e = if-false _ _ _ e
 
@@ -129,6 +129,15 @@ good-holds lengths bytes c g = g .holds
 pub good-length : (lengths bytes : List ℕ) (c : Cursor) → Good lengths bytes c → length (bytesAt bytes c) ≡ c .left
 good-length lengths bytes c g = length-bytes bytes c (g .holds)
 
+-- ---- records of one segment each
+
+pub whole-here : (bytes : List ℕ) (c : Cursor) → Holds bytes c → isWhole c ≡ true → c .here ≡ c .left
+whole-here bytes c h w = h .whole w
+
+pub past-whole : (c : Cursor) (k : ℕ) → isWhole (past c k) ≡ isWhole c
+unfolding isWhole
+past-whole c k = refl
+
 -- ---- bytes of the open segment handed over
 
 part-taken : (a n k : ℕ) (s : List ℕ) → k ≤ n → take k (part a n s) ≡ part a k s
@@ -146,9 +155,9 @@ module _ (bytes : List ℕ) (c : Cursor) (k : ℕ) (h : Holds bytes c) (m : k �
   within : k ≤ length (part (c .at) (c .here) bytes)
   within = omega (arith, length-here bytes c h)
 
-  front : take k (bytesAt bytes c) ≡ part (c .at) k bytes
+  pub past-front : take k (bytesAt bytes c) ≡ part (c .at) k bytes
   unfolding bytesAt
-  front =
+  past-front =
       take-take k (c .left) (onwards bytes c) l
       ∙ take-append-le k (part (c .at) (c .here) bytes) (bytesBehind bytes (walkOf c)) within
       ∙ part-taken (c .at) (c .here) k bytes m
@@ -215,7 +224,7 @@ module _ (bytes : List ℕ) (c : Cursor) (k : ℕ) (h : Holds bytes c) (m : k �
   spelled s o at p r x e w q =
       subst (λ (y : Cursor). Spelled bytes c k o at p (record { at = r; cur = y })) (sym q)
       (record {
-        copied = record { wrote = subst (λ (bs : List ℕ). Wrote o at bs p r) (e ∙ sym front) w; handed = past-handed };
+        copied = record { wrote = subst (λ (bs : List ℕ). Wrote o at bs p r) (e ∙ sym past-front) w; handed = past-handed };
         here = omega arith;
         walk = same-walk;
       })
@@ -522,6 +531,7 @@ module _ (lengths bytes : List ℕ) (c : Cursor) (g : Good lengths bytes c) (l :
             (λ _. sheet-stop (moved c (c .at) 0 0 (c .next) (c .rest) 0 false false) refl ∙ ap (ended false) empty ∙ sym end-is ∙ sym end);
         end = end;
         begun = refl;
+        image = sym s;
         whole = both-sheet _ refl;
         none = λ _. later-is ∙ ap (λ (ns : List ℕ). cutBy ns (drop (c .at) bytes)) none;
         some = λ e. absurd (false≢true e);
@@ -541,6 +551,7 @@ module _ (lengths bytes : List ℕ) (c : Cursor) (g : Good lengths bytes c) (l :
         good = good;
         end = same-end n (c .next + 1) true total;
         begun = refl;
+        image = sym s;
         whole = both-sheet _ refl;
         none = λ q. absurd (false≢true (sym q));
         some =
@@ -590,6 +601,7 @@ module _ (lengths bytes : List ℕ) (c : Cursor) (g : Good lengths bytes c) (s :
           good = good-on (λ _. k);
           end = same-file;
           begun = b;
+          image = i ∙ sym s;
           whole = same-format d c i s f;
           none = λ _. later-image ∙ r;
           some = λ z. absurd (false≢true (sym l ∙ z));
@@ -603,6 +615,7 @@ module _ (lengths bytes : List ℕ) (c : Cursor) (g : Good lengths bytes c) (s :
           good = good-on (λ z. absurd (false≢true (sym z ∙ l)));
           end = same-file;
           begun = b;
+          image = i ∙ sym s;
           whole = same-format d c i s f;
           none = λ z. absurd (false≢true (sym z ∙ l));
           some = λ _. later-image ∙ r ∙ ap (λ (t : List (List ℕ)). bytesAt bytes d ∷ t) (sym (if-true _ _ _ i));

@@ -113,11 +113,11 @@ legal-S f r x e h =
 
 -- ---- the unit of any format
 
-control-F : (f i k : ℕ) → f ≡ 70 → controlWord f i k ≡ []
+pub control-F : (f i k : ℕ) → f ≡ 70 → controlWord f i k ≡ []
 unfolding controlWord
 control-F f i k e = if-true _ _ _ (eq-eqb f 70 e)
 
-control-D : (f i k : ℕ) → f ≡ 68 → controlWord f i k ≡ digits 4 (k + 4)
+pub control-D : (f i k : ℕ) → f ≡ 68 → controlWord f i k ≡ digits 4 (k + 4)
 unfolding controlWord
 control-D f i k e =
     let other : f ≡ 70 → ⊥ = λ q. omega arith in
@@ -130,7 +130,7 @@ control-S f i k e =
     let another : f ≡ 68 → ⊥ = λ q. omega arith in
     if-false _ _ _ (ne-eqb f 70 other) ∙ if-false _ _ _ (ne-eqb f 68 another)
 
-length-control : (f i k : ℕ) → length (controlWord f i k) ≡ wordOf f
+pub length-control : (f i k : ℕ) → length (controlWord f i k) ≡ wordOf f
 unfolding controlWord wordOf
 length-control f i k =
     by-test (eqb f 70) (λ p. ap length (if-true _ _ _ p) ∙ sym (if-true _ _ _ p))

@@ -1,16 +1,20 @@
 -- The steps by which the writer's code fills a block, over the definitions of Pack.antt and the cursor of Source.antt.
 use mathlib.Core.Path.{_≡_}
-use mathlib.Core.Bool.{true, false}
+use mathlib.Core.Bool.{Bool, true, false}
 use mathlib.Core.List.{List, [], _∷_, _++_}
-use Prim.Native.Nat.{ℕ, _+_, _≤_, _<_}
+use Prim.Native.Nat.{ℕ, _+_, _≤_, _<_, min}
+use lib.Dec.{eqb, ltb}
 use lib.ListN.{length, take}
+use Rattle.base.specs.If.{ifB}
+use Rattle.base.specs.Format.{F, D}
 use Rattle.image.specs.Item.{block, encode}
 use Rattle.writer.specs.declared.source.Cursor.{Cursor}
 use Rattle.writer.specs.declared.source.Moved.{Moved}
 use Rattle.writer.specs.declared.fill.Turn.{Turn}
-use Rattle.writer.specs.Pack.{Left, indicatorOf, controlWord, fill, after}
+use Rattle.writer.specs.declared.whole.Run.{Run}
+use Rattle.writer.specs.Pack.{Left, wordOf, indicatorOf, controlWord, fill, after}
 use Rattle.writer.specs.Output.{Wrote, overLong}
-use Rattle.writer.specs.Source.{bytesAt, laterAt, endAt, leftAt, Good, Handed}
+use Rattle.writer.specs.Source.{isWhole, bytesAt, laterAt, endAt, leftAt, Good, Handed}
 
 -- a unit of k bytes of x
 abbrev pub unitOf : ℕ → ℕ → ℕ → List ℕ → List ℕ
@@ -65,3 +69,48 @@ pub record BlockPut (f b : ℕ) (lengths bytes : List ℕ) (c : Cursor) (o : Lis
   pub end : endAt lengths bytes (m .cur) ≡ endAt lengths bytes c
   pub wrote : Wrote o a (encode (block (fillAt f b lengths bytes 0 c) ∷ [])) p (m .at)
   pub left : leftAt lengths bytes (m .cur) ≡ afterAt f b lengths bytes 0 c
+
+-- ---- whole records
+
+-- a record of the format is one unit
+unfoldable pub isUnbroken : ℕ → Bool
+isUnbroken f = ifB (eqb f F) true (eqb f D)
+
+-- a block from place a on is a run of whole records, and in a buffer of that size all of it has room (lay) or nothing has
+unfoldable pub isTold : ℕ → Cursor → Bool → ℕ → ℕ → Bool
+isTold f c lay size a = ifB (isUnbroken f) (ifB (isWhole c) (ifB lay true (ltb size a)) false) false
+
+-- where such a block may get its next record
+pub record Takable (f b : ℕ) (lengths bytes : List ℕ) (c : Cursor) (size start : ℕ) (lay : Bool) : Type 0 where
+  pub fillable : Fillable b lengths bytes c start
+  pub unbroken : isUnbroken f ≡ true
+  pub whole : isWhole c ≡ true
+  pub short : lay ≡ true → start + b < overLong
+  pub room : lay ≡ true → start + b ≤ size
+  pub none : lay ≡ false → size < start
+
+-- where a whole record of n bytes may be written, if its block has room
+pub record Layable (f : ℕ) (bytes : List ℕ) (from n size at : ℕ) (lay : Bool) : Type 0 where
+  pub unbroken : isUnbroken f ≡ true
+  pub inside : from + n ≤ length bytes
+  pub small : n ≤ 99999
+  pub short : lay ≡ true → at + wordOf f + n < overLong
+  pub room : lay ≡ true → at + wordOf f + n ≤ size
+
+-- a run of whole records, in a block that starts at that place, as a turn
+abbrev pub turnOf : ℕ → Run → Turn
+turnOf start r = record { cur = r .cur; at = min (start + r .used) overLong; used = r .used; on = r .on }
+
+-- a turn of a run
+pub record Ran (f b : ℕ) (lengths bytes : List ℕ) (u : ℕ) (c : Cursor) (o : List ℕ) (start : ℕ) (p : List ℕ) (r : Run) : Type 0 where
+  pub turning : Turning f b lengths bytes u c o (min (start + u) overLong) p (turnOf start r)
+  pub whole : isWhole (r .cur) ≡ true
+
+-- a turn of a run of a sheet's records, in whatever buffer nothing has room
+pub record Passed (f b : ℕ) (lengths bytes : List ℕ) (u : ℕ) (c : Cursor) (r : Run) : Type 0 where
+  pub ran : (o : List ℕ) (start : ℕ) → length o < start → Ran f b lengths bytes u c o start o r
+  pub sheet : r .cur .image ≡ false
+
+-- a block was filled and led by its length, in whatever buffer nothing has room
+pub record BlockPassed (f b : ℕ) (lengths bytes : List ℕ) (c : Cursor) (a : ℕ) (m : Moved) : Type 0 where
+  pub put : (o : List ℕ) → length o < a → BlockPut f b lengths bytes c o a o m

@@ -152,6 +152,7 @@ pub record Opened (lengths bytes : List ℕ) (c d : Cursor) : Type 0 where
   pub good : Good lengths bytes d
   pub end : endAt lengths bytes d ≡ endAt lengths bytes c
   pub begun : d .begun ≡ 0
+  pub image : d .image ≡ c .image
   pub whole : isWhole d ≡ isWhole c
   pub none : d .live ≡ false → laterAt lengths bytes c ≡ []
   pub some : d .live ≡ true → laterAt lengths bytes c ≡ bytesAt bytes d ∷ laterAt lengths bytes d

@@ -6,6 +6,7 @@ ghost use Rattle.writer.specs.Pack.{enters as entersIn};
 ghost use Rattle.writer.specs.Fills.{Fillable, Turned, Turning, Filled, BlockPut};
 use crate::out::OVER_LONG;
 use crate::out::put_word;
+use crate::out::room_for;
 use crate::source::Cursor;
 use crate::source::Moved;
 use crate::source::next;
@@ -13,6 +14,10 @@ use crate::unit::enters;
 use crate::unit::put_unit;
 use crate::unit::taken;
 use crate::unit::word_of;
+use crate::whole::is_listed;
+use crate::whole::is_told;
+use crate::whole::pass_block;
+use crate::whole::take_records;
 
 // Where the filling of a block is: whether it goes on, the cursor, the place behind what was written, and the bytes that are used.
 pub struct Turn {
@@ -84,8 +89,8 @@ fn take_turn(
     }
 }
 
-// Fills the open block, which is empty.
-fn fill(
+// Fills the open block, which is empty, unit by unit.
+fn fill_units(
     f: u8,
     b: usize,
     lengths: &[u64],
@@ -111,6 +116,27 @@ fn fill(
     Moved { at: t.at, cur }
 }
 
+// Fills the open block, which is empty.
+fn fill(
+    f: u8,
+    b: usize,
+    lengths: &[u64],
+    bytes: &[u8],
+    c: Cursor,
+    out: &mut [u8],
+    at: usize,
+) -> Moved
+    requires { ⌜ Fillable b (now lengths) (now bytes) c at ⌝ }
+    ensures { λ r. ⌜ Filled f b (now (lengths .entry)) (now (bytes .entry)) c (now (out .entry)) at (now (out .exit)) r ⌝ }
+{
+    let size = out.len();
+    let lay = room_for(b, size, at);
+    if is_told(f, c, lay, size, at) {
+        return take_records(f, b, lengths, bytes, c, out, at, lay);
+    }
+    fill_units(f, b, lengths, bytes, c, out, at)
+}
+
 // Writes a data block: its length is known behind it, and written last.
 pub(crate) fn put_block(
     f: u8,
@@ -124,6 +150,9 @@ pub(crate) fn put_block(
     requires { ⌜ Fillable b (now lengths) (now bytes) c at ⌝ }
     ensures { λ r. ⌜ BlockPut f b (now (lengths .entry)) (now (bytes .entry)) c (now (out .entry)) at (now (out .exit)) r ⌝ }
 {
+    if is_listed(f, c, out.len(), at) {
+        return pass_block(f, b, lengths, bytes, c, at);
+    }
     let start = put_word(out, at, 0);
     let m = fill(f, b, lengths, bytes, c, out, start);
     let end = m.at;

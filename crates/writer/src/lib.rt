@@ -7,6 +7,7 @@ mod reel; // reel.rt: files on reels
 mod set; // set.rt: all files
 mod source; // source.rt: the records of a file
 mod unit; // unit.rt: units and control words
+mod whole; // whole.rt: blocks of whole records
 
 ghost use mathlib.Core.Path.{_≡_};
 ghost use Rattle.volume.specs.Run.{imageVerdict};

@@ -1,14 +1,46 @@
 // The lent buffer of an image: bytes, numbers and lengths written at a place, where they have room.
 ghost use mathlib.Core.Path.{_≡_};
 ghost use mathlib.Core.List.{[], _∷_};
-ghost use Prim.Native.Nat.{_<_};
+ghost use Prim.Native.Nat.{_+_, _≤_, _<_, min};
+ghost use lib.ListN.{length};
+ghost use Rattle.base.specs.Part.{putAt};
 ghost use Rattle.base.specs.Digits.{digits};
 ghost use Rattle.image.specs.Item.{three};
-ghost use Rattle.writer.specs.Output.{Wrote, overLong};
+ghost use Rattle.writer.specs.Output.{Wrote, overLong, hasRoom};
 use output::four_digits;
 
 // One more than the longest image: places are counted up to here.
 pub(crate) const OVER_LONG: usize = 16777216;
+
+// The place behind n bytes.
+pub(crate) fn place_behind(at: usize, n: usize) -> usize
+    ensures { λ r. ⌜ r ≡ min (at + n) overLong ⌝ }
+{
+    output::behind(at, n, OVER_LONG)
+}
+
+// Whether n bytes have room from a place on, in a buffer of that size.
+pub(crate) fn room_for(n: usize, size: usize, at: usize) -> bool
+    ensures { λ r. ⌜ r ≡ hasRoom n size at ⌝ }
+{
+    let end = place_behind(at, n);
+    if OVER_LONG <= end {
+        return false;
+    }
+    end <= size
+}
+
+// Writes s at a place where it has room.
+pub(crate) fn copy_to(out: &mut [u8], at: usize, s: &[u8])
+    requires { ⌜ at + length (now s) ≤ length (now out) ⌝ }
+    ensures { λ _. ⌜ now (out .exit) ≡ putAt (now (out .entry)) at (now (s .entry)) ⌝ }
+{
+    let mut i = 0;
+    while i < s.len() {
+        out[at + i] = s[i];
+        i += 1;
+    }
+}
 
 // Writes s at a place if it has room, and gives the place behind.
 pub(crate) fn put_bytes(out: &mut [u8], at: usize, s: &[u8]) -> usize

@@ -59,7 +59,7 @@ fn room(b: usize, u: usize, w: usize) -> usize
 }
 
 // Whether a control word of w bytes and m more have room in a block of b bytes behind u used ones.
-fn has_room(b: usize, u: usize, w: usize, m: usize) -> bool
+pub(crate) fn has_room(b: usize, u: usize, w: usize, m: usize) -> bool
     ensures { λ r. ⌜ r ≡ leb (u + w + m) b ⌝ }
 {
     if b < u {

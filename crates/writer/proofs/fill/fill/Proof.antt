@@ -1,43 +1,40 @@
-use Rattle.writer.proofs.Filling.{filling}
-use Rattle.writer.proofs.Filling.{turnsLeft}
-use Prim.Native.Nat.{_≤_}
-use Rattle.writer.specs.Fills.{Turned, Fillable}
+use Rattle.writer.proofs.Wholes.{told}
 use Rattle.writer.proofs.fill.fill.Statement.{statement}
 use Rattle.writer.proofs.fill.fill.Tie as tie
 
-abbrev Inv-loop : tie.InvT-loop
-Inv-loop f b lengths bytes out₀ at t₀ out t = Turned f b lengths bytes 0 (t₀ .cur) out₀ at out t
+room-for-requires : tie.Need-room-for-requires
+room-for-requires c κs = search told
 
-abbrev μ-loop : tie.MeasureT-loop
-μ-loop f b lengths bytes out₀ at t₀ out t = turnsLeft lengths bytes t
+is-told-requires : tie.Need-is-told-requires
+is-told-requires c κs = search told
 
-loop-holds : tie.Need-loop-holds Inv-loop μ-loop
-loop-holds c = search filling
+take-records-requires : tie.Need-take-records-requires
+take-records-requires c κs = search told
 
-take-turn-requires : tie.Need-take-turn-requires Inv-loop μ-loop
-take-turn-requires c κs = search filling
+same-length : tie.Need-same-length
+same-length c = search told
 
-loop-less : tie.Need-loop-less Inv-loop μ-loop
-loop-less c = search filling
+returns : tie.Need-returns
+returns c = search told
 
-loop-again : tie.Need-loop-again Inv-loop μ-loop
-loop-again c = search filling
+fill-units-requires : tie.Need-fill-units-requires
+fill-units-requires c κs = search told
 
-same-length : tie.Need-same-length Inv-loop μ-loop
-same-length c = search filling
+same-length-2 : tie.Need-same-length-2
+same-length-2 c = search told
 
-returns : tie.Need-returns Inv-loop μ-loop
-returns c = search filling
+returns-2 : tie.Need-returns-2
+returns-2 c = search told
 
 pub fill-spec : {M : Type 1} → statement M
 fill-spec =
     tie.close
     (tie.spec
-    Inv-loop
-    μ-loop
-    loop-holds
-    take-turn-requires
-    loop-less
-    loop-again
+    room-for-requires
+    is-told-requires
+    take-records-requires
     same-length
-    returns)
+    returns
+    fill-units-requires
+    same-length-2
+    returns-2)

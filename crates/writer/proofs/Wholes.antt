@@ -1,0 +1,451 @@
+-- Blocks of whole records: what a turn of a run does, where its block has room and where nothing has. Assumes nothing.
+use mathlib.Core.Path.{_≡_, refl, sym, ap, _∙_, subst}
+use mathlib.Core.Bool.{Bool, true, false, false≢true, _&&_}
+use mathlib.Core.List.{List, [], _∷_, _++_}
+use Prim.Native.Nat.{ℕ, _+_, _≤_, _<_, min}
+use native.Mathlib.Omega.{arith}
+use borrow.Author.Needs.{needs}
+use borrow.Author.Tests.{eqb-true, leb-true, ltb-true, le-ltb, lt-ltb, le-leb, lt-leb, ne-eqb}
+use mir.Val.{Fits}
+use mir.Syntax.{w64}
+use lib.Dec.{eqb, leb, ltb}
+use lib.ListN.{length, take, length-append}
+use Rattle.base.specs.If.{ifB, if-true, if-false, if-case, and-left, and-first, and-second}
+use Rattle.base.specs.Part.{part, putAt}
+use Rattle.base.specs.Digits.{digits}
+use Rattle.base.proofs.Parts.{length-part, length-put, put-put}
+use Rattle.base.proofs.Numbers.{length-digits}
+use Rattle.image.specs.Item.{three}
+use Rattle.writer.specs.declared.source.Cursor.{Cursor}
+use Rattle.writer.specs.declared.source.Moved.{Moved}
+use Rattle.writer.specs.declared.whole.Run.{Run}
+use Rattle.writer.specs.Pack.{wordOf, enters, taken, indicatorOf, controlWord}
+use Rattle.writer.specs.Output.{Wrote, overLong, hasRoom}
+use Rattle.writer.specs.Source.{isWhole, bytesAt, laterAt, Good, Handed, Opened, past}
+use Rattle.writer.specs.Fills.{unitOf, UnitPut, Fillable, Turned, Turning, Filled, BlockPut, isUnbroken, isTold, Takable, Layable, turnOf, Ran, Passed, BlockPassed}
+use Rattle.writer.proofs.Packing.{by-test, enters-whole, taken-whole}
+use Rattle.writer.proofs.Units.{both, control-F, control-D, length-control, word-F, word-D}
+use Rattle.writer.proofs.Sources.{good-holds, whole-here, sheet-whole, past-whole, past-front, past-handed}
+use Rattle.writer.proofs.Filling.{blocks, fillable-holds, turned-full, turned-on, turned-none, turned-turned, turned-filled, turnsLeft, turns-fall, length-three, block-void}
+use Rattle.output.proofs.Writing.{wrote-put}
+
+-- ---- room
+
+pub room-over : (n size at r : ℕ) → r ≡ min (at + n) overLong → overLong ≤ r → false ≡ hasRoom n size at
+unfolding hasRoom
+room-over n size at r e h = sym (and-left (ltb (at + n) overLong) (leb (at + n) size) (le-ltb (at + n) overLong (omega arith)))
+
+pub room-told : (n size at r : ℕ) → r ≡ min (at + n) overLong → r < overLong → leb r size ≡ hasRoom n size at
+unfolding hasRoom
+room-told n size at r e h =
+    let same : r ≡ at + n = omega arith in
+    ap (λ (k : ℕ). leb k size) same ∙ sym (ap (λ (t : Bool). t && leb (at + n) size) (lt-ltb (at + n) overLong (omega arith)))
+
+pub ruleset rooms = (room-over, room-told, needs)
+
+-- ---- what is told of a block
+
+module _ (f : ℕ) (c : Cursor) (lay : Bool) (size at : ℕ) (t : Bool) (q : t ≡ isTold f c lay size at) (h : t ≡ true) where
+  told-unbroken : isUnbroken f ≡ true
+  unfolding isTold
+  told-unbroken = both (isUnbroken f) _ (λ u _. u) (sym q ∙ h)
+
+  told-rest : ifB (isWhole c) (ifB lay true (ltb size at)) false ≡ true
+  unfolding isTold
+  told-rest = both (isUnbroken f) _ (λ _ s. s) (sym q ∙ h)
+
+  told-whole : isWhole c ≡ true
+  told-whole = both (isWhole c) _ (λ w _. w) told-rest
+
+  told-none : lay ≡ false → size < at
+  told-none l = ltb-true _ _ (sym (if-false _ _ _ l) ∙ both (isWhole c) _ (λ _ r. r) told-rest)
+
+  pub told-takable : (b : ℕ) (lengths bytes : List ℕ) → Fillable b lengths bytes c at → lay ≡ hasRoom b size at → Takable f b lengths bytes c size at lay
+  unfolding hasRoom
+  told-takable b lengths bytes g e =
+      record {
+        fillable = g;
+        unbroken = told-unbroken;
+        whole = told-whole;
+        short = λ l. ltb-true _ _ (and-first (ltb (at + b) overLong) (leb (at + b) size) (sym e ∙ l));
+        room = λ l. leb-true _ _ (and-second (ltb (at + b) overLong) (leb (at + b) size) (sym e ∙ l));
+        none = told-none;
+      }
+
+-- a block of a sheet's records for which nothing has room
+module _ (f : ℕ) (c : Cursor) (size at : ℕ) (t : Bool) (q : t ≡ ifB (c .image) false (isTold f c false size at)) (h : t ≡ true) where
+  listed : (c .image ≡ false) × (isTold f c false size at ≡ true)
+  listed =
+      if-case (λ (r : Bool). r ≡ true → (c .image ≡ false) × (isTold f c false size at ≡ true)) (c .image) false _ (λ _ z. absurd (false≢true z)) (λ s z. (s, z))
+      (sym q ∙ h)
+
+  pub listed-sheet : c .image ≡ false
+  listed-sheet = listed .0
+
+  pub listed-unbroken : isUnbroken f ≡ true
+  listed-unbroken = told-unbroken f c false size at true (sym (listed .1)) refl
+
+  listed-none : size < at
+  listed-none = told-none f c false size at true (sym (listed .1)) refl refl
+
+-- ---- the formats of whole records
+
+unbroken-case {ℓ} : {A : Type ℓ} (f : ℕ) → isUnbroken f ≡ true → (f ≡ 70 → A) → (f ≡ 68 → A) → A
+unfolding isUnbroken
+unbroken-case {A = A} f h x y =
+    if-case (λ (t : Bool). t ≡ true → A) (eqb f 70) true (eqb f 68) (λ p _. x (eqb-true f 70 p)) (λ _ q. y (eqb-true f 68 q)) h
+
+not-segmented : (f : ℕ) → isUnbroken f ≡ true → eqb f 83 ≡ false
+not-segmented f h = ne-eqb f 83 (λ e. unbroken-case f h (λ p. omega arith) (λ p. omega arith))
+
+pub unbroken-fixed : (f : ℕ) → isUnbroken f ≡ true → (f ≡ 68 → ⊥) → f ≡ 70
+unbroken-fixed f h d = unbroken-case f h (λ e. e) (λ e. absurd (d e))
+
+-- the control word of a whole record does not depend on an indicator
+control-any : (f i j k : ℕ) → isUnbroken f ≡ true → controlWord f i k ≡ controlWord f j k
+control-any f i j k h =
+    unbroken-case f h (λ e. control-F f i k e ∙ sym (control-F f j k e)) (λ e. control-D f i k e ∙ sym (control-D f j k e))
+
+-- ---- a record written where it has room
+
+module _ (f : ℕ) (bytes : List ℕ) (from n : ℕ) (o : List ℕ) (at : ℕ) (k : Layable f bytes from n (length o) at true) where
+  pub word-room : (d : List ℕ) → f ≡ 68 → d ≡ digits 4 (n + 4) → at + length d ≤ length o
+  word-room d e h = let four : length d ≡ 4 = ap length h ∙ length-digits 4 (n + 4) in omega (arith, word-D f e, k .room refl)
+
+  pub word-fits : Fits w64 (n + 4)
+  word-fits = record { fits = omega (arith, k .small) }
+
+  module _ (s : List ℕ) (q : s ≡ part from n bytes) where
+    long : length s ≡ n
+    long = ap length q ∙ length-part from n bytes (k .inside)
+
+    pub fixed-room : (f ≡ 68 → ⊥) → at + length s ≤ length o
+    fixed-room d = omega (arith, long, word-F f (unbroken-fixed f (k .unbroken) d), k .room refl)
+
+    pub fixed-put : (p : List ℕ) → (f ≡ 68 → ⊥) → p ≡ putAt o at s → p ≡ putAt o at (controlWord f 0 n ++ part from n bytes)
+    fixed-put p d e =
+        e ∙ ap (putAt o at) q ∙ sym (ap (λ (w : List ℕ). putAt o at (w ++ part from n bytes)) (control-F f 0 n (unbroken-fixed f (k .unbroken) d)))
+
+    module _ (e : f ≡ 68) (d : List ℕ) (h : d ≡ digits 4 (n + 4)) (p : List ℕ) (x : p ≡ putAt o at d) where
+      pub variable-room : at + 4 + length s ≤ length p
+      variable-room = omega (arith, long, word-D f e, k .room refl, ap length x ∙ length-put o at d (word-room d e h))
+
+      pub variable-put : (r : List ℕ) → r ≡ putAt p (at + 4) s → r ≡ putAt o at (controlWord f 0 n ++ part from n bytes)
+      variable-put r y =
+          let four : 4 ≡ length d = sym (ap length h ∙ length-digits 4 (n + 4)) in
+          y
+          ∙ ap (λ (l : List ℕ). putAt l (at + 4) s) x
+          ∙ ap (λ (i : ℕ). putAt (putAt o at d) (at + i) s) four
+          ∙ put-put o at d s (word-room d e h)
+          ∙ ap (λ (l : List ℕ). putAt o at (l ++ s)) (h ∙ sym (control-D f 0 n e))
+          ∙ ap (λ (l : List ℕ). putAt o at (controlWord f 0 n ++ l)) q
+
+  pub behind-fits : f ≡ 68 → Fits w64 (at + 4)
+  behind-fits e = record { fits = omega (arith, word-D f e, k .short refl) }
+
+pub ruleset records = (word-room, word-fits, fixed-room, fixed-put, variable-room, variable-put, behind-fits, needs)
+
+-- a record of a block that has room, and of one that has none
+pub laid-room : (f : ℕ) (bytes : List ℕ) (from n size at : ℕ) (lay : Bool) → Layable f bytes from n size at lay → lay ≡ true → Layable f bytes from n size at true
+laid-room f bytes from n size at lay k l = subst (Layable f bytes from n size at) l k
+
+pub laid-put : (lay : Bool) (o q p : List ℕ) → lay ≡ true → p ≡ q → p ≡ ifB lay q o
+laid-put lay o q p l e = e ∙ sym (if-true _ _ _ l)
+
+pub laid-none : (lay : Bool) (o q : List ℕ) → lay ≡ false → o ≡ ifB lay q o
+laid-none lay o q l = sym (if-false _ _ _ l)
+
+pub ruleset laid = (laid-room, laid-put, laid-none, needs)
+
+-- ---- the record behind a whole one
+
+module _ (lengths bytes : List ℕ) (c : Cursor) (g : Good lengths bytes c) (v : isWhole c ≡ true) where
+  pub whole-few : c .left ≤ c .here
+  whole-few = omega (arith, whole-here bytes c (g .holds) v)
+
+  whole-inside : c .at + c .left ≤ length bytes
+  whole-inside = omega (arith, whole-few, g .holds .inside)
+
+  whole-handed : Handed bytes c (c .left) (past c (c .left))
+  whole-handed = past-handed bytes c (c .left) (g .holds) whole-few (omega arith)
+
+  whole-front : take (c .left) (bytesAt bytes c) ≡ part (c .at) (c .left) bytes
+  whole-front = past-front bytes c (c .left) (g .holds) whole-few (omega arith)
+
+  pub whole-good : (y : Cursor) → y ≡ past c (c .left) → Good lengths bytes y
+  whole-good y e = subst (Good lengths bytes) (sym e) (whole-handed .good lengths g)
+
+pub past-spent : (c y : Cursor) → y ≡ past c (c .left) → y .left ≡ 0
+past-spent c y e = ap (λ (d : Cursor). d .left) e ∙ omega arith
+
+pub past-opened : (lengths bytes : List ℕ) (c y d : Cursor) → y ≡ past c (c .left) → Opened lengths bytes y d → Opened lengths bytes (past c (c .left)) d
+past-opened lengths bytes c y d e op = subst (λ (z : Cursor). Opened lengths bytes z d) e op
+
+pub ruleset nexts = (whole-few, whole-good, past-spent, past-opened, good-holds, needs)
+
+-- ---- a turn of a run
+
+-- the open record enters
+module _ (b u w : ℕ) (lengths bytes : List ℕ) (c : Cursor) (a : ℕ) (g : Fillable b lengths bytes c a) (t : Bool) (told : t ≡ leb (u + w + c .left) b) (h : t ≡ true) where
+  within : u + w + c .left ≤ b
+  within = leb-true _ _ (sym told ∙ h)
+
+  pub whole-word-fits : Fits w64 (u + w)
+  whole-word-fits = record { fits = omega (arith, within, g .most) }
+
+  pub whole-fits : Fits w64 (u + w + c .left)
+  whole-fits = record { fits = omega (arith, within, g .most) }
+
+module _ (f b u : ℕ) (lengths bytes : List ℕ) (c : Cursor) (a start w : ℕ) (g : Fillable b lengths bytes c a) (x : isUnbroken f ≡ true) (v : isWhole c ≡ true)
+    (word : w ≡ wordOf f) (t : Bool) (told : t ≡ leb (u + w + c .left) b) where
+  abbrev place : ℕ
+  place = min (start + u) overLong
+
+  abbrev behind : ℕ
+  behind = min (start + (u + w + c .left)) overLong
+
+  fillable : Fillable b lengths bytes c place
+  fillable = record { good = g .good; live = g .live; most = g .most; place = omega arith }
+
+  entered-as : t ≡ enters f b u (c .left)
+  entered-as = told ∙ ap (λ (k : ℕ). leb (u + k + c .left) b) word ∙ sym (enters-whole f b u (c .left) (not-segmented f x))
+
+  run-full : (o : List ℕ) → t ≡ false → Ran f b lengths bytes u c o start o (record { on = false; cur = c; used = u })
+  run-full o h = record { turning = turned-full f b u lengths bytes c place fillable o t entered-as h; whole = v }
+
+  unit-bytes : unitOf f (c .begun) (c .left) (bytesAt bytes c) ≡ controlWord f 0 (c .left) ++ part (c .at) (c .left) bytes
+  unit-bytes =
+      ap (λ (s : List ℕ). s ++ take (c .left) (bytesAt bytes c)) (control-any f _ 0 (c .left) x)
+      ∙ ap (λ (s : List ℕ). controlWord f 0 (c .left) ++ s) (whole-front lengths bytes c (g .good) v)
+
+  unit-long : length (unitOf f (c .begun) (c .left) (bytesAt bytes c)) ≡ w + c .left
+  unit-long =
+      ap length unit-bytes
+      ∙ length-append (controlWord f 0 (c .left)) (part (c .at) (c .left) bytes)
+      ∙ ap (λ (k : ℕ). k + length (part (c .at) (c .left) bytes)) (length-control f 0 (c .left) ∙ sym word)
+      ∙ ap (λ (k : ℕ). w + k) (length-part (c .at) (c .left) bytes (whole-inside lengths bytes c (g .good) v))
+
+  behind-is : behind ≡ min (place + length (unitOf f (c .begun) (c .left) (bytesAt bytes c))) overLong
+  behind-is = omega (arith, unit-long)
+
+  module _ (h : t ≡ true) (d : Cursor) (op : Opened lengths bytes (past c (c .left)) d) where
+    -- however the record was written, the next one is opened
+    run-on : (o p : List ℕ) → Wrote o place (unitOf f (c .begun) (c .left) (bytesAt bytes c)) p behind
+        → Ran f b lengths bytes u c o start p (record { on = d .live; cur = d; used = u + w + c .left })
+    run-on o p z =
+        record {
+          turning =
+              turned-on f b u lengths bytes c place fillable (sym entered-as ∙ h) (c .left) (sym (taken-whole f b u (c .left) (not-segmented f x))) o p
+              (record { at = behind; cur = past c (c .left) }) (record { wrote = z; handed = whole-handed lengths bytes c (g .good) v }) d w (omega arith) op word;
+          whole = op .whole ∙ past-whole c (c .left) ∙ v;
+        }
+
+    -- nothing has room
+    run-void : (o : List ℕ) → length o < start → Ran f b lengths bytes u c o start o (record { on = d .live; cur = d; used = u + w + c .left })
+    run-void o none = run-on o o (record { kept = refl; place = behind-is; done = λ l k. absurd (omega arith) })
+
+module _ (f b u : ℕ) (lengths bytes : List ℕ) (c : Cursor) (o : List ℕ) (start : ℕ) (lay : Bool) (k : Takable f b lengths bytes c (length o) start lay) (w : ℕ)
+    (word : w ≡ wordOf f) (t : Bool) (told : t ≡ leb (u + w + c .left) b) where
+  -- the open record does not enter
+  pub ran-full : t ≡ false → Ran f b lengths bytes u c o start o (record { on = false; cur = c; used = u })
+  ran-full h = run-full f b u lengths bytes c start start w (k .fillable) (k .unbroken) (k .whole) word t told o h
+
+  module _ (h : t ≡ true) where
+    enough : u + w + c .left ≤ b
+    enough = within b u w lengths bytes c start (k .fillable) t told h
+
+    pub ran-fits : Fits w64 (start + u)
+    ran-fits = record { fits = omega (arith, enough, k .fillable .most, k .fillable .place) }
+
+    pub ran-layable : Layable f bytes (c .at) (c .left) (length o) (start + u) lay
+    ran-layable =
+        record {
+          unbroken = k .unbroken;
+          inside = whole-inside lengths bytes c (k .fillable .good) (k .whole);
+          small = omega (arith, enough, k .fillable .most);
+          short = λ l. let short = k .short l in omega (arith, enough);
+          room = λ l. let room = k .room l in omega (arith, enough);
+        }
+
+    -- the record was written, or nothing has room
+    pub ran-laid : (p : List ℕ) (d : Cursor) → p ≡ ifB lay (putAt o (start + u) (controlWord f 0 (c .left) ++ part (c .at) (c .left) bytes)) o
+        → Opened lengths bytes (past c (c .left)) d → Ran f b lengths bytes u c o start p (record { on = d .live; cur = d; used = u + w + c .left })
+    ran-laid p d z op = by-test lay written void
+      where
+        written : lay ≡ true → Ran f b lengths bytes u c o start p (record { on = d .live; cur = d; used = u + w + c .left })
+        written l =
+            let short = k .short l in
+            let room = k .room l in
+            let here : start + u ≡ min (start + u) overLong = omega (arith, enough) in
+            let bytes-are : unitOf f (c .begun) (c .left) (bytesAt bytes c) ≡ controlWord f 0 (c .left) ++ part (c .at) (c .left) bytes
+            = unit-bytes f b u lengths bytes c start start w (k .fillable) (k .unbroken) (k .whole) word t told in
+            run-on f b u lengths bytes c start start w (k .fillable) (k .unbroken) (k .whole) word t told h d op o p
+            (wrote-put o (min (start + u) overLong) (unitOf f (c .begun) (c .left) (bytesAt bytes c)) p (min (start + (u + w + c .left)) overLong)
+            (behind-is f b u lengths bytes c start start w (k .fillable) (k .unbroken) (k .whole) word t told) (omega (arith, enough)) (omega (arith, enough))
+            (z
+            ∙ if-true _ _ _ l
+            ∙ ap (λ (i : ℕ). putAt o i (controlWord f 0 (c .left) ++ part (c .at) (c .left) bytes)) here
+            ∙ ap (putAt o (min (start + u) overLong)) (sym bytes-are)))
+
+        void : lay ≡ false → Ran f b lengths bytes u c o start p (record { on = d .live; cur = d; used = u + w + c .left })
+        void l =
+            subst (λ (s : List ℕ). Ran f b lengths bytes u c o start s (record { on = d .live; cur = d; used = u + w + c .left })) (sym (z ∙ if-false _ _ _ l))
+            (run-void f b u lengths bytes c start start w (k .fillable) (k .unbroken) (k .whole) word t told h d op o (k .none l))
+
+pub takable-good : (f b : ℕ) (lengths bytes : List ℕ) (c : Cursor) (size start : ℕ) (lay : Bool) → Takable f b lengths bytes c size start lay → Good lengths bytes c
+takable-good f b lengths bytes c size start lay k = k .fillable .good
+
+pub takable-whole : (f b : ℕ) (lengths bytes : List ℕ) (c : Cursor) (size start : ℕ) (lay : Bool) → Takable f b lengths bytes c size start lay → isWhole c ≡ true
+takable-whole f b lengths bytes c size start lay k = k .whole
+
+pub takable-fillable : (f b : ℕ) (lengths bytes : List ℕ) (c : Cursor) (size start : ℕ) (lay : Bool) → Takable f b lengths bytes c size start lay
+    → Fillable b lengths bytes c start
+takable-fillable f b lengths bytes c size start lay k = k .fillable
+
+pub ruleset runs = (takable-good, takable-whole, takable-fillable, whole-word-fits, whole-fits, ran-fits, ran-layable, ran-full, ran-laid, needs)
+
+-- ---- a turn of a run of a sheet's records
+
+module _ (f b u : ℕ) (lengths bytes : List ℕ) (c : Cursor) (a w : ℕ) (g : Fillable b lengths bytes c a) (x : isUnbroken f ≡ true) (s : c .image ≡ false)
+    (word : w ≡ wordOf f) (t : Bool) (told : t ≡ leb (u + w + c .left) b) where
+  pub passed-full : t ≡ false → Passed f b lengths bytes u c (record { on = false; cur = c; used = u })
+  passed-full h = record { ran = λ o start _. run-full f b u lengths bytes c a start w g x (sheet-whole c s) word t told o h; sheet = s }
+
+  pub passed-on : (y d : Cursor) → t ≡ true → y ≡ past c (c .left) → Opened lengths bytes y d
+      → Passed f b lengths bytes u c (record { on = d .live; cur = d; used = u + w + c .left })
+  passed-on y d h e op =
+      let op′ : Opened lengths bytes (past c (c .left)) d = past-opened lengths bytes c y d e op in
+      record {
+        ran = λ o start k. run-void f b u lengths bytes c a start w g x (sheet-whole c s) word t told h d op′ o k;
+        sheet = op′ .image ∙ s;
+      }
+
+pub past-sheet : (c y : Cursor) (k : ℕ) → y ≡ past c k → c .image ≡ false → y .image ≡ false
+past-sheet c y k e s = ap (λ (z : Cursor). z .image) e ∙ s
+
+pub fillable-good : (b : ℕ) (lengths bytes : List ℕ) (c : Cursor) (a : ℕ) → Fillable b lengths bytes c a → Good lengths bytes c
+fillable-good b lengths bytes c a g = g .good
+
+pub ruleset passes = (whole-few, whole-good, past-spent, whole-word-fits, whole-fits, passed-full, passed-on, past-sheet, sheet-whole, fillable-good, fillable-holds, needs)
+
+-- ---- the loop
+
+-- from cursor c, buffer o and place `start` on, to a run and buffer p
+pub record Running (f b : ℕ) (lengths bytes : List ℕ) (c : Cursor) (o : List ℕ) (start : ℕ) (lay : Bool) (p : List ℕ) (r : Run) : Type 0 where
+  pub turned : Turned f b lengths bytes 0 c o start p (turnOf start r)
+  pub takable : r .on ≡ true → Takable f b lengths bytes (r .cur) (length p) start lay
+
+-- a run that has not begun
+run-none : (f b : ℕ) (lengths bytes : List ℕ) (c : Cursor) (o : List ℕ) (start : ℕ) → Fillable b lengths bytes c start
+    → Turned f b lengths bytes 0 c o start o (turnOf start (record { on = true; cur = c; used = 0 }))
+run-none f b lengths bytes c o start g =
+    let here : start ≡ min (start + 0) overLong = omega (arith, g .place) in
+    subst (λ (k : ℕ). Turned f b lengths bytes 0 c o start o (record { on = true; cur = c; at = k; used = 0 })) here (turned-none f b lengths bytes c o start g)
+
+pub running-none : (f b : ℕ) (lengths bytes : List ℕ) (c : Cursor) (o : List ℕ) (start : ℕ) (lay : Bool) → Takable f b lengths bytes c (length o) start lay
+    → Running f b lengths bytes c o start lay o (record { on = true; cur = c; used = 0 })
+running-none f b lengths bytes c o start lay k = record { turned = run-none f b lengths bytes c o start (k .fillable); takable = λ _. k }
+
+module _ (f b : ℕ) (lengths bytes : List ℕ) (c : Cursor) (o : List ℕ) (start : ℕ) (lay : Bool) (p : List ℕ) (t : Run) (x : Running f b lengths bytes c o start lay p t) where
+  pub running-takable : t .on ≡ true → Takable f b lengths bytes (t .cur) (length p) start lay
+  running-takable on = x .takable on
+
+  pub running-more : (q : List ℕ) (v : Run) → t .on ≡ true → Ran f b lengths bytes (t .used) (t .cur) p start q v → Running f b lengths bytes c o start lay q v
+  running-more q v on y =
+      let k : Takable f b lengths bytes (t .cur) (length p) start lay = x .takable on in
+      let n : Turned f b lengths bytes (t .used) (t .cur) p (min (start + t .used) overLong) q (turnOf start v) = y .turning .turned in
+      record {
+        turned = turned-turned f b 0 lengths bytes c o start p (turnOf start t) q (turnOf start v) (x .turned) on (y .turning);
+        takable =
+            λ z.
+            record {
+              fillable = record { good = n .good; live = n .live z; most = k .fillable .most; place = k .fillable .place };
+              unbroken = k .unbroken;
+              whole = y .whole;
+              short = k .short;
+              room = λ l. let r = k .room l in omega (arith, n .kept);
+              none = λ l. let r = k .none l in omega (arith, n .kept);
+            };
+      }
+
+  pub running-filled : (r : ℕ) → t .on ≡ false → r ≡ min (start + t .used) overLong → Filled f b lengths bytes c o start p (record { at = r; cur = t .cur })
+  running-filled r off e =
+      subst (λ (k : ℕ). Filled f b lengths bytes c o start p (record { at = k; cur = t .cur })) (sym e)
+      (turned-filled f b lengths bytes c o start p (turnOf start t) (x .turned) off)
+
+  pub running-kept : length p ≡ length o
+  running-kept = x .turned .kept
+
+-- the turns of a run that are left
+abbrev pub runsLeft : List ℕ → List ℕ → Run → ℕ
+runsLeft lengths bytes r = turnsLeft lengths bytes (turnOf 0 r)
+
+pub runs-fall : (f b : ℕ) (lengths bytes : List ℕ) (o : List ℕ) (start : ℕ) (t : Run) (p : List ℕ) (v : Run) → t .on ≡ true
+    → Ran f b lengths bytes (t .used) (t .cur) o start p v → runsLeft lengths bytes v < runsLeft lengths bytes t
+unfolding turnsLeft
+runs-fall f b lengths bytes o start t p v on y = turns-fall f b lengths bytes o (turnOf start t) p (turnOf start v) on (y .turning)
+
+pub ruleset running = (running-none, running-takable, running-more, running-filled, running-kept, runs-fall, needs)
+
+-- ---- the loop over a sheet's records where nothing has room
+
+pub record Passing (f b : ℕ) (lengths bytes : List ℕ) (c : Cursor) (r : Run) : Type 0 where
+  pub turned : (o : List ℕ) (start : ℕ) → start ≤ overLong → length o < start → Turned f b lengths bytes 0 c o start o (turnOf start r)
+  pub most : b ≤ 99999
+  pub sheet : r .cur .image ≡ false
+
+pub passing-none : (f b : ℕ) (lengths bytes : List ℕ) (c : Cursor) (at : ℕ) → Fillable b lengths bytes c at → c .image ≡ false
+    → Passing f b lengths bytes c (record { on = true; cur = c; used = 0 })
+passing-none f b lengths bytes c at g s =
+    record {
+      turned = λ o start k _. run-none f b lengths bytes c o start (record { good = g .good; live = g .live; most = g .most; place = k });
+      most = g .most;
+      sheet = s;
+    }
+
+module _ (f b : ℕ) (lengths bytes : List ℕ) (c : Cursor) (t : Run) (x : Passing f b lengths bytes c t) where
+  pub passing-more : (v : Run) → t .on ≡ true → Passed f b lengths bytes (t .used) (t .cur) v → Passing f b lengths bytes c v
+  passing-more v on y =
+      record {
+        turned =
+            λ o start k h.
+            turned-turned f b 0 lengths bytes c o start o (turnOf start t) o (turnOf start v) (x .turned o start k h) on (y .ran o start h .turning);
+        most = x .most;
+        sheet = y .sheet;
+      }
+
+  any : Turned f b lengths bytes 0 c [] 1 [] (turnOf 1 t)
+  any = x .turned [] 1 (omega arith) (omega arith)
+
+  pub passing-fillable : t .on ≡ true → Fillable b lengths bytes (t .cur) 0
+  passing-fillable on = record { good = any .good; live = any .live on; most = x .most; place = omega arith }
+
+  pub passing-sheet : t .cur .image ≡ false
+  passing-sheet = x .sheet
+
+  pub passing-put : (at s r : ℕ) → Fillable b lengths bytes c at → t .on ≡ false → s ≡ min (at + 3) overLong → r ≡ min (s + t .used) overLong
+      → BlockPassed f b lengths bytes c at (record { at = r; cur = t .cur })
+  passing-put at s r g off e q =
+      record {
+        put =
+            λ o h.
+            let filled : Filled f b lengths bytes c o s o (record { at = r; cur = t .cur })
+            = subst (λ (k : ℕ). Filled f b lengths bytes c o s o (record { at = k; cur = t .cur })) (sym q)
+            (turned-filled f b lengths bytes c o s o (turnOf s t) (x .turned o s (omega arith) (omega (arith, g .place))) off) in
+            let word : Wrote o at (three 0) o s
+            = record { kept = refl; place = omega (arith, length-three 0); done = λ l k. absurd (omega (arith, g .place)) } in
+            block-void f b lengths bytes c o at o s o (record { at = r; cur = t .cur }) word filled (λ l k. omega (arith, g .place));
+      }
+
+pub passes-fall : (f b : ℕ) (lengths bytes : List ℕ) (t v : Run) → t .on ≡ true → Passed f b lengths bytes (t .used) (t .cur) v
+    → runsLeft lengths bytes v < runsLeft lengths bytes t
+passes-fall f b lengths bytes t v on y = runs-fall f b lengths bytes [] 1 t [] v on (y .ran [] 1 (omega arith))
+
+pub ruleset passing = (passing-none, passing-more, passing-fillable, passing-sheet, passing-put, passes-fall, needs)
+
+-- a listed block
+pub block-listed : (f b : ℕ) (lengths bytes : List ℕ) (c : Cursor) (o : List ℕ) (at : ℕ) (t : Bool) (m : Moved)
+    → t ≡ ifB (c .image) false (isTold f c false (length o) at) → t ≡ true → BlockPassed f b lengths bytes c at m → BlockPut f b lengths bytes c o at o m
+block-listed f b lengths bytes c o at t m q h x = x .put o (listed-none f c (length o) at t q h)
+
+pub ruleset told = (told-takable, listed-sheet, listed-unbroken, block-listed, blocks)

@@ -1,0 +1,15 @@
+use Rattle.writer.proofs.Wholes.{nexts}
+use Rattle.writer.proofs.whole.open_behind.Statement.{statement}
+use Rattle.writer.proofs.whole.open_behind.Tie as tie
+
+past-requires : tie.Need-past-requires
+past-requires c κs = search nexts
+
+next-whole-requires : tie.Need-next-whole-requires
+next-whole-requires c κs = search nexts
+
+returns : tie.Need-returns
+returns c = search nexts
+
+pub open-behind-spec : {M : Type 1} → statement M
+open-behind-spec = tie.close (tie.spec past-requires next-whole-requires returns)

@@ -1,0 +1,218 @@
+// Blocks of whole records, which are those of F and D files. Either such a block has room, or nothing has: no write asks for room again, and where nothing
+// has room the records are only counted.
+ghost use mathlib.Core.Path.{_≡_};
+ghost use mathlib.Core.Bool.{true, false};
+ghost use mathlib.Core.List.{_++_};
+ghost use lib.ListN.{length};
+ghost use Rattle.base.specs.If.{ifB};
+ghost use Rattle.base.specs.Part.{part, putAt};
+ghost use Rattle.writer.specs.Pack.{controlWord};
+ghost use Rattle.writer.specs.Source.{isWhole, Good, past, Opened};
+ghost use Rattle.writer.specs.Fills.{Fillable, Filled, isUnbroken, isTold, Takable, Layable, Ran, Passed, BlockPassed};
+use crate::out::copy_to;
+use crate::out::place_behind;
+use crate::source::Cursor;
+use crate::source::Moved;
+use crate::source::is_whole;
+use crate::source::next_of_sheet;
+use crate::source::next_whole;
+use crate::source::past;
+use crate::unit::has_room;
+use crate::unit::word_of;
+use base::FIXED;
+use base::VARIABLE;
+use base::part_of;
+use output::four_digits;
+
+// The bytes of a length word.
+const WORD: usize = 3;
+
+// Where a run of whole records is: the cursor, the bytes of the block that are used, and whether it goes on.
+pub struct Run {
+    pub cur: Cursor,
+    pub used: usize,
+    pub on: bool,
+}
+
+// Whether a record of the format is one unit.
+fn is_unbroken(f: u8) -> bool
+    ensures { λ r. ⌜ r ≡ isUnbroken f ⌝ }
+{
+    f == FIXED || f == VARIABLE
+}
+
+// Whether a block is a run of whole records that have room, or for which nothing has, in a buffer of that size from its place on.
+pub(crate) fn is_told(f: u8, c: Cursor, lay: bool, size: usize, at: usize) -> bool
+    ensures { λ r. ⌜ r ≡ isTold f c lay size at ⌝ }
+{
+    if is_unbroken(f) {
+        if is_whole(c) {
+            if lay {
+                return true;
+            }
+            return size < at;
+        }
+    }
+    false
+}
+
+// Whether a block is a run of a sheet's records for which nothing has room.
+pub(crate) fn is_listed(f: u8, c: Cursor, size: usize, at: usize) -> bool
+    ensures { λ r. ⌜ r ≡ ifB (c .image) false (isTold f c false size at) ⌝ }
+{
+    if c.image {
+        return false;
+    }
+    is_told(f, c, false, size, at)
+}
+
+// Writes a whole record, its control word before it, where it has room.
+fn put_record(f: u8, bytes: &[u8], from: usize, n: usize, out: &mut [u8], at: usize)
+    requires { ⌜ Layable f (now bytes) from n (length (now out)) at true ⌝ }
+    ensures { λ _. ⌜ now (out .exit) ≡ putAt (now (out .entry)) at (controlWord f 0 n ++ part from n (now (bytes .entry))) ⌝ }
+{
+    if f == VARIABLE {
+        let d = four_digits(n + 4);
+        copy_to(out, at, &d);
+        copy_to(out, at + 4, part_of(bytes, from, n));
+    } else {
+        copy_to(out, at, part_of(bytes, from, n));
+    }
+}
+
+// Writes a whole record if its block has room.
+fn lay_record(f: u8, bytes: &[u8], from: usize, n: usize, out: &mut [u8], at: usize, lay: bool)
+    requires { ⌜ Layable f (now bytes) from n (length (now out)) at lay ⌝ }
+    ensures { λ _. ⌜ now (out .exit) ≡ ifB lay (putAt (now (out .entry)) at (controlWord f 0 n ++ part from n (now (bytes .entry)))) (now (out .entry)) ⌝ }
+{
+    if lay {
+        put_record(f, bytes, from, n, out, at);
+    }
+}
+
+// Opens the record behind the open one, which is whole.
+fn open_behind(lengths: &[u64], bytes: &[u8], c: Cursor) -> Cursor
+    requires { ⌜ Good (now lengths) (now bytes) c ⌝ }
+    requires { ⌜ isWhole c ≡ true ⌝ }
+    ensures { λ r. ⌜ Opened (now (lengths .entry)) (now (bytes .entry)) (past c (c .left)) r ⌝ }
+{
+    next_whole(lengths, bytes, past(bytes, c, c.left))
+}
+
+// One turn of a run: the open record, if it enters, is written where the block has room, and the next one is opened.
+fn take_record(
+    f: u8,
+    b: usize,
+    lengths: &[u64],
+    bytes: &[u8],
+    c: Cursor,
+    u: usize,
+    out: &mut [u8],
+    start: usize,
+    lay: bool,
+) -> Run
+    requires { ⌜ Takable f b (now lengths) (now bytes) c (length (now out)) start lay ⌝ }
+    ensures { λ r. ⌜ Ran f b (now (lengths .entry)) (now (bytes .entry)) u c (now (out .entry)) start (now (out .exit)) r ⌝ }
+{
+    let n = c.left;
+    let word = word_of(f);
+    if has_room(b, u, word, n) {
+        lay_record(f, bytes, c.at, n, out, start + u, lay);
+        let d = open_behind(lengths, bytes, c);
+        return Run {
+            on: d.live,
+            cur: d,
+            used: u + word + n,
+        };
+    }
+    Run {
+        on: false,
+        cur: c,
+        used: u,
+    }
+}
+
+// Fills the open block, which is empty, with whole records.
+pub(crate) fn take_records(
+    f: u8,
+    b: usize,
+    lengths: &[u64],
+    bytes: &[u8],
+    c: Cursor,
+    out: &mut [u8],
+    start: usize,
+    lay: bool,
+) -> Moved
+    requires { ⌜ Takable f b (now lengths) (now bytes) c (length (now out)) start lay ⌝ }
+    ensures { λ r. ⌜ Filled f b (now (lengths .entry)) (now (bytes .entry)) c (now (out .entry)) start (now (out .exit)) r ⌝ }
+{
+    let mut t = Run {
+        on: true,
+        cur: c,
+        used: 0,
+    };
+    while t.on {
+        let cur = t.cur;
+        t = take_record(f, b, lengths, bytes, cur, t.used, out, start, lay);
+    }
+    let cur = t.cur;
+    Moved {
+        at: place_behind(start, t.used),
+        cur,
+    }
+}
+
+// One turn of a run of a sheet's records for which nothing has room.
+fn pass_record(f: u8, b: usize, lengths: &[u64], bytes: &[u8], c: Cursor, u: usize) -> Run
+    requires { ⌜ Fillable b (now lengths) (now bytes) c 0 ⌝ }
+    requires { ⌜ isUnbroken f ≡ true ⌝ }
+    requires { ⌜ c .image ≡ false ⌝ }
+    ensures { λ r. ⌜ Passed f b (now (lengths .entry)) (now (bytes .entry)) u c r ⌝ }
+{
+    let n = c.left;
+    let word = word_of(f);
+    if has_room(b, u, word, n) {
+        let d = next_of_sheet(lengths, bytes, past(bytes, c, n));
+        return Run {
+            on: d.live,
+            cur: d,
+            used: u + word + n,
+        };
+    }
+    Run {
+        on: false,
+        cur: c,
+        used: u,
+    }
+}
+
+// Counts a data block of a sheet's records for which nothing has room.
+pub(crate) fn pass_block(
+    f: u8,
+    b: usize,
+    lengths: &[u64],
+    bytes: &[u8],
+    c: Cursor,
+    at: usize,
+) -> Moved
+    requires { ⌜ Fillable b (now lengths) (now bytes) c at ⌝ }
+    requires { ⌜ isUnbroken f ≡ true ⌝ }
+    requires { ⌜ c .image ≡ false ⌝ }
+    ensures { λ r. ⌜ BlockPassed f b (now (lengths .entry)) (now (bytes .entry)) c at r ⌝ }
+{
+    let mut t = Run {
+        on: true,
+        cur: c,
+        used: 0,
+    };
+    while t.on {
+        let cur = t.cur;
+        t = pass_record(f, b, lengths, bytes, cur, t.used);
+    }
+    let start = place_behind(at, WORD);
+    let cur = t.cur;
+    Moved {
+        at: place_behind(start, t.used),
+        cur,
+    }
+}
