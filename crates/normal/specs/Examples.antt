@@ -14,11 +14,11 @@ use Rattle.base.specs.Digits.{isDigit, allDigits, value, digits}
 use Rattle.charset.specs.Number.{numberIn}
 use Rattle.charset.specs.Date.{isCentury, isYearDay, isDate}
 use Rattle.output.specs.Text.{bytes}
-use Rattle.block.specs.Unit.{fixed, measured, variable, segment, unitOf}
+use Rattle.block.specs.Unit.{fixed, measured, variable, segment, unitOf, wordOf}
 use Rattle.block.specs.Cut.{Segment, onto, cutOne, cutF, cut, someUnits, units}
 use Rattle.block.specs.Turn.{outcome, isTurn, openAfter, turnsFrom, turned, blockOutcome}
 use Rattle.volume.specs.Meaning.{onFirst, joined}
-use Rattle.writer.specs.Pack.{wordOf, enters, taken, indicatorOf, controlWord, startOf, unitIn, fill, after, weights, weight, blocksF, blocksLeft, blocksOf}
+use Rattle.writer.specs.Pack.{enters, taken, indicatorOf, controlWord, startOf, unitIn, fill, after, weights, weight, blocksF, blocksLeft, blocksOf}
 
 pub data Example : Type 0 where
   -- blocks of a file of format f and record length r hold these records

@@ -10,7 +10,8 @@ use lib.Dec.{eqb, leb}
 use lib.ListN.{length, take}
 use Rattle.base.specs.If.{ifB, if-true, if-false}
 use Rattle.base.specs.Digits.{digits}
-use Rattle.writer.specs.Pack.{wordOf, enters, taken, indicatorOf, controlWord}
+use Rattle.block.specs.Unit.{wordOf}
+use Rattle.writer.specs.Pack.{enters, taken, indicatorOf, controlWord}
 use Rattle.writer.specs.Output.{Wrote, overLong}
 use Rattle.output.proofs.Writing.{wrote-wrote}
 

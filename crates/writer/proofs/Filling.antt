@@ -17,7 +17,8 @@ use Rattle.image.specs.Item.{block, three, bytesOf, encode}
 use Rattle.writer.specs.declared.source.Cursor.{Cursor}
 use Rattle.writer.specs.declared.source.Moved.{Moved}
 use Rattle.writer.specs.declared.fill.Turn.{Turn}
-use Rattle.writer.specs.Pack.{finished, going, wordOf, enters, taken, indicatorOf, controlWord, unitIn, fill, after}
+use Rattle.block.specs.Unit.{wordOf}
+use Rattle.writer.specs.Pack.{finished, going, enters, taken, indicatorOf, controlWord, unitIn, fill, after}
 use Rattle.writer.specs.Output.{Wrote, overLong}
 use Rattle.writer.specs.Source.{bytesAt, laterAt, leftAt, Holds, Good, Copied, Opened}
 use Rattle.writer.specs.Fills.{unitOf, UnitPut, fillAt, afterAt, Fillable, Turned, Turning, Filled, BlockPut}

@@ -13,7 +13,7 @@ use Rattle.base.specs.If.{ifB, if-true, if-false, if-case, and-true}
 use Rattle.base.specs.Part.{allAre}
 use Rattle.image.specs.Item.{isItem, block}
 use Rattle.label.specs.Field.{suits}
-use Rattle.block.specs.Unit.{pad, unitOf}
+use Rattle.block.specs.Unit.{pad, unitOf, wordOf}
 use Rattle.block.specs.Cut.{Segment, segmentOf, onto, cut, someUnits, units}
 use Rattle.block.specs.Turn.{outcome, isTurn, openAfter, turnsFrom}
 use Rattle.block.specs.declared.Unit.{Unit as Piece}
@@ -23,9 +23,10 @@ use Rattle.block.proofs.Units.{unit-stands}
 use Rattle.block.proofs.Cuts.{cut-end}
 use Rattle.volume.specs.Meaning.{onFirst, joined}
 use Rattle.sheet.specs.Legal.{legalRecord, legalRecords}
-use Rattle.writer.specs.Pack.{wordOf, enters, taken, indicatorOf, Left, finished, going, startOf, unitIn, fill, after, weights, weight, blocksF, blocksLeft, blocksOf, Room, RoomLeft}
+use Rattle.writer.specs.Pack.{enters, taken, indicatorOf, Left, finished, going, startOf, unitIn, fill, after, weights, weight, blocksF, blocksLeft, blocksOf, Room, RoomLeft}
 use Rattle.writer.proofs.Packing.{by-test, Entered, entered, segment-enters, whole-enters, segmentIn, segmentsFrom, Said, Ways, by-ways, after-lighter}
-use Rattle.writer.proofs.Units.{Format, isF, isD, isS, Ready, fresh, begun, both, legal-F, legal-D, legal-S, length-taken, length-unit, word-F, word-D, cut-back}
+use Rattle.block.proofs.Wholes.{word-fixed, word-variable}
+use Rattle.writer.proofs.Units.{Format, isF, isD, isS, Ready, fresh, begun, both, legal-F, legal-D, legal-S, length-taken, length-unit, cut-back}
 
 -- ---- turns
 
@@ -299,12 +300,12 @@ legal-enters f b r x (isF e) s h =
     let other : f ≡ 83 → ⊥ = λ q. omega arith in
     let same : length x ≡ r = legal-F f r x e h .0 in
     let room : r ≤ b = suited-whole f b r (ne-eqb f 83 other) s in
-    whole-enters f b (length x) (ne-eqb f 83 other) (omega (arith, word-F f e))
+    whole-enters f b (length x) (ne-eqb f 83 other) (omega (arith, word-fixed f e))
 legal-enters f b r x (isD e) s h =
     let other : f ≡ 83 → ⊥ = λ q. omega arith in
     let most : length x + 4 ≤ r = legal-D f r x e h .0 in
     let room : r ≤ b = suited-whole f b r (ne-eqb f 83 other) s in
-    whole-enters f b (length x) (ne-eqb f 83 other) (omega (arith, word-D f e))
+    whole-enters f b (length x) (ne-eqb f 83 other) (omega (arith, word-variable f e))
 legal-enters f b r x (isS e) s h = segment-enters f b (length x) e (suited-S f b r e s)
 
 ready-enters : (f b r t o : ℕ) (head : Bool) (x : List ℕ) → Suited f b r → Ready f r t o head x → enters f b 0 (length x) ≡ true

@@ -10,7 +10,9 @@ use lib.Dec.{eqb, leb}
 use lib.ListN.{length, take, drop, length-drop}
 use Rattle.base.specs.If.{ifB, if-true, if-false}
 use Rattle.block.specs.Cut.{Segment, segmentOf}
-use Rattle.writer.specs.Pack.{wordOf, enters, taken, indicatorOf, Left, finished, going, startOf, unitIn, fill, after, weights, weight, blocksF, blocksLeft, Room, RoomLeft}
+use Rattle.block.specs.Unit.{wordOf}
+use Rattle.block.proofs.Wholes.{word-segmented}
+use Rattle.writer.specs.Pack.{enters, taken, indicatorOf, Left, finished, going, startOf, unitIn, fill, after, weights, weight, blocksF, blocksLeft, Room, RoomLeft}
 
 -- a proof by the two values of a test
 pub by-test {ℓ} : {A : Type ℓ} (t : Bool) → (t ≡ true → A) → (t ≡ false → A) → A
@@ -18,10 +20,6 @@ by-test true f g = f refl
 by-test false f g = g refl
 
 -- ---- the numbers of a unit
-
-pub word-S : (f : ℕ) → f ≡ 83 → wordOf f ≡ 5
-unfolding wordOf ifB
-word-S f e = ap wordOf e
 
 enters-S : (f b u n : ℕ) → f ≡ 83 → enters f b u n ≡ leb (u + 5 + min 1 n) b
 unfolding enters
@@ -63,7 +61,7 @@ entered f b u n h = by-test (eqb f 83) segmented whole
     segmented : eqb f 83 ≡ true → Entered f b u n
     segmented s =
         let e : f ≡ 83 = eqb-true f 83 s in
-        let w : wordOf f ≡ 5 = word-S f e in
+        let w : wordOf f ≡ 5 = word-segmented f e in
         let k : taken f b u n ≡ min n (min (b - u - 5) 9994) = taken-S f b u n e in
         let i : u + 5 + min 1 n ≤ b = leb-true _ _ (sym (enters-S f b u n e) ∙ h) in
         record {

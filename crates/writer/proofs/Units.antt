@@ -15,13 +15,14 @@ use Rattle.base.proofs.Numbers.{length-digits}
 use Rattle.charset.specs.Number.{numberIn}
 use Rattle.charset.specs.declared.Number.the-variants.{Value}
 use Rattle.charset.proofs.Numbers.{number-digits}
-use Rattle.block.specs.Unit.{pad, fixed, measured, variable, segment, unitOf}
+use Rattle.block.specs.Unit.{pad, fixed, measured, variable, segment, unitOf, wordOf}
+use Rattle.block.proofs.Wholes.{word-fixed, word-variable, word-segmented}
 use Rattle.block.specs.Cut.{segmentOf, onto, cut}
 use Rattle.block.specs.declared.Unit.the-variants.{Of}
 use Rattle.block.proofs.Cuts.{cut-unit}
 use Rattle.sheet.specs.Legal.{legalRecord}
-use Rattle.writer.specs.Pack.{wordOf, enters, taken, indicatorOf, controlWord, unitIn}
-use Rattle.writer.proofs.Packing.{by-test, Entered, entered, taken-whole, word-S, segmentIn}
+use Rattle.writer.specs.Pack.{enters, taken, indicatorOf, controlWord, unitIn}
+use Rattle.writer.proofs.Packing.{by-test, Entered, entered, taken-whole, segmentIn}
 
 -- ---- a unit of each format, followed by any bytes
 
@@ -164,14 +165,6 @@ length-unit f b u t x h =
 of : {i j w v k l : ℕ} → i ≡ j → w ≡ v → k ≡ l → Of i w k ≡ Of j v l
 of {i} {j} {w} {v} {k} {l} p q e = ap (λ (a : ℕ). Of a w k) p ∙ ap (λ (a : ℕ). Of j a k) q ∙ ap (Of j v) e
 
-pub word-F : (f : ℕ) → f ≡ 70 → wordOf f ≡ 0
-unfolding wordOf ifB
-word-F f e = ap wordOf e
-
-pub word-D : (f : ℕ) → f ≡ 68 → wordOf f ≡ 4
-unfolding wordOf ifB
-word-D f e = ap wordOf e
-
 unit-F : (f b r u t : ℕ) (x s : List ℕ) → f ≡ 70 → t ≡ 0 → legalRecord f r x ≡ true
     → unitOf f r (unitIn f b u t x ++ s) ≡ Of (indicatorOf t (taken f b u (length x)) (length x)) (wordOf f) (taken f b u (length x))
 unfolding unitOf unitIn
@@ -185,7 +178,7 @@ unit-F f b r u t x s e z h =
     if-true _ _ _ (eq-eqb f 70 e)
     ∙ ap (λ (y : List ℕ). fixed r (y ++ s)) whole
     ∙ fixed-back r x s (legal .0) (legal .1)
-    ∙ of (sym (indicator-whole t _ _ z all)) (sym (word-F f e)) (sym (all ∙ legal .0))
+    ∙ of (sym (indicator-whole t _ _ z all)) (sym (word-fixed f e)) (sym (all ∙ legal .0))
 
 unit-D : (f b r u t : ℕ) (x s : List ℕ) → f ≡ 68 → t ≡ 0 → legalRecord f r x ≡ true
     → unitOf f r (unitIn f b u t x ++ s) ≡ Of (indicatorOf t (taken f b u (length x)) (length x)) (wordOf f) (taken f b u (length x))
@@ -201,7 +194,7 @@ unit-D f b r u t x s e z h =
     ∙ if-true _ _ _ (eq-eqb f 68 e)
     ∙ ap (λ (w : List ℕ). variable r (w ++ take k x ++ s)) (control-D f _ k e)
     ∙ variable-back r k (take k x) s same (omega arith) (omega arith)
-    ∙ of (sym (indicator-whole t k (length x) z all)) (sym (word-D f e)) refl
+    ∙ of (sym (indicator-whole t k (length x) z all)) (sym (word-variable f e)) refl
 
 unit-S : (f b r u t : ℕ) (x s : List ℕ) → f ≡ 83 → enters f b u (length x) ≡ true
     → unitOf f r (unitIn f b u t x ++ s) ≡ Of (indicatorOf t (taken f b u (length x)) (length x)) (wordOf f) (taken f b u (length x))
@@ -217,7 +210,7 @@ unit-S f b r u t x s e h =
     ∙ if-true _ _ _ (eq-eqb f 83 e)
     ∙ ap (λ (w : List ℕ). segment (w ++ take k x ++ s)) (control-S f i k e)
     ∙ segment-back i k (take k x) s (indicator-small t k (length x)) (length-taken f b u x h) (n .short e)
-    ∙ of {i = i} refl (sym (word-S f e)) refl
+    ∙ of {i = i} refl (sym (word-segmented f e)) refl
 
 unit-back : (f b r u t o : ℕ) (head : Bool) (x s : List ℕ) → Format f → Ready f r t o head x → enters f b u (length x) ≡ true
     → unitOf f r (unitIn f b u t x ++ s) ≡ Of (indicatorOf t (taken f b u (length x)) (length x)) (wordOf f) (taken f b u (length x))

@@ -19,12 +19,14 @@ use Rattle.image.specs.Item.{three}
 use Rattle.writer.specs.declared.source.Cursor.{Cursor}
 use Rattle.writer.specs.declared.source.Moved.{Moved}
 use Rattle.writer.specs.declared.whole.Run.{Run}
-use Rattle.writer.specs.Pack.{wordOf, enters, taken, indicatorOf, controlWord}
+use Rattle.block.specs.Unit.{wordOf}
+use Rattle.block.proofs.Wholes.{word-fixed, word-variable}
+use Rattle.writer.specs.Pack.{enters, taken, indicatorOf, controlWord}
 use Rattle.writer.specs.Output.{Wrote, overLong, hasRoom}
 use Rattle.writer.specs.Source.{isWhole, bytesAt, laterAt, Good, Handed, Opened, past}
 use Rattle.writer.specs.Fills.{unitOf, UnitPut, Fillable, Turned, Turning, Filled, BlockPut, isUnbroken, isTold, Takable, Layable, turnOf, Ran, Passed, BlockPassed}
 use Rattle.writer.proofs.Packing.{by-test, enters-whole, taken-whole}
-use Rattle.writer.proofs.Units.{both, control-F, control-D, length-control, word-F, word-D}
+use Rattle.writer.proofs.Units.{both, control-F, control-D, length-control}
 use Rattle.writer.proofs.Sources.{good-holds, whole-here, sheet-whole, past-whole, past-front, past-handed}
 use Rattle.writer.proofs.Filling.{blocks, fillable-holds, turned-full, turned-on, turned-none, turned-turned, turned-filled, turnsLeft, turns-fall, length-three, block-void}
 use Rattle.output.proofs.Writing.{wrote-put}
@@ -110,7 +112,7 @@ control-any f i j k h =
 
 module _ (f : ℕ) (bytes : List ℕ) (from n : ℕ) (o : List ℕ) (at : ℕ) (k : Layable f bytes from n (length o) at true) where
   pub word-room : (d : List ℕ) → f ≡ 68 → d ≡ digits 4 (n + 4) → at + length d ≤ length o
-  word-room d e h = let four : length d ≡ 4 = ap length h ∙ length-digits 4 (n + 4) in omega (arith, word-D f e, k .room refl)
+  word-room d e h = let four : length d ≡ 4 = ap length h ∙ length-digits 4 (n + 4) in omega (arith, word-variable f e, k .room refl)
 
   pub word-fits : Fits w64 (n + 4)
   word-fits = record { fits = omega (arith, k .small) }
@@ -120,7 +122,7 @@ module _ (f : ℕ) (bytes : List ℕ) (from n : ℕ) (o : List ℕ) (at : ℕ) (
     long = ap length q ∙ length-part from n bytes (k .inside)
 
     pub fixed-room : (f ≡ 68 → ⊥) → at + length s ≤ length o
-    fixed-room d = omega (arith, long, word-F f (unbroken-fixed f (k .unbroken) d), k .room refl)
+    fixed-room d = omega (arith, long, word-fixed f (unbroken-fixed f (k .unbroken) d), k .room refl)
 
     pub fixed-put : (p : List ℕ) → (f ≡ 68 → ⊥) → p ≡ putAt o at s → p ≡ putAt o at (controlWord f 0 n ++ part from n bytes)
     fixed-put p d e =
@@ -128,7 +130,7 @@ module _ (f : ℕ) (bytes : List ℕ) (from n : ℕ) (o : List ℕ) (at : ℕ) (
 
     module _ (e : f ≡ 68) (d : List ℕ) (h : d ≡ digits 4 (n + 4)) (p : List ℕ) (x : p ≡ putAt o at d) where
       pub variable-room : at + 4 + length s ≤ length p
-      variable-room = omega (arith, long, word-D f e, k .room refl, ap length x ∙ length-put o at d (word-room d e h))
+      variable-room = omega (arith, long, word-variable f e, k .room refl, ap length x ∙ length-put o at d (word-room d e h))
 
       pub variable-put : (r : List ℕ) → r ≡ putAt p (at + 4) s → r ≡ putAt o at (controlWord f 0 n ++ part from n bytes)
       variable-put r y =
@@ -141,7 +143,7 @@ module _ (f : ℕ) (bytes : List ℕ) (from n : ℕ) (o : List ℕ) (at : ℕ) (
           ∙ ap (λ (l : List ℕ). putAt o at (controlWord f 0 n ++ l)) q
 
   pub behind-fits : f ≡ 68 → Fits w64 (at + 4)
-  behind-fits e = record { fits = omega (arith, word-D f e, k .short refl) }
+  behind-fits e = record { fits = omega (arith, word-variable f e, k .short refl) }
 
 pub ruleset records = (word-room, word-fits, fixed-room, fixed-put, variable-room, variable-put, behind-fits, needs)
 

@@ -12,7 +12,8 @@ use Rattle.writer.specs.declared.source.Cursor.{Cursor}
 use Rattle.writer.specs.declared.source.Moved.{Moved}
 use Rattle.writer.specs.declared.fill.Turn.{Turn}
 use Rattle.writer.specs.declared.whole.Run.{Run}
-use Rattle.writer.specs.Pack.{Left, wordOf, indicatorOf, controlWord, fill, after}
+use Rattle.block.specs.Unit.{wordOf}
+use Rattle.writer.specs.Pack.{Left, indicatorOf, controlWord, fill, after}
 use Rattle.writer.specs.Output.{Wrote, overLong}
 use Rattle.writer.specs.Source.{isWhole, bytesAt, laterAt, endAt, leftAt, Good, Handed}
 

@@ -13,10 +13,7 @@ use lib.ListN.{length, take, drop}
 use Rattle.base.specs.If.{ifB}
 use Rattle.base.specs.Format.{F, D, S}
 use Rattle.base.specs.Digits.{digits}
-
--- the bytes of a control word
-unfoldable pub wordOf : ℕ → ℕ
-wordOf f = ifB (eqb f F) 0 (ifB (eqb f D) 4 5)
+use Rattle.block.specs.Unit.{wordOf}
 
 -- whether a record of which n bytes remain enters a block of at most b bytes with u of them used
 unfoldable pub enters : ℕ → ℕ → ℕ → ℕ → Bool

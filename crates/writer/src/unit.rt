@@ -5,7 +5,8 @@ ghost use mathlib.Core.List.{_∷_};
 ghost use Prim.Native.Nat.{_+_, _-_, _≤_, min};
 ghost use lib.Dec.{leb};
 ghost use Rattle.base.specs.Digits.{digits};
-ghost use Rattle.writer.specs.Pack.{wordOf, enters, taken, indicatorOf, controlWord};
+ghost use Rattle.block.specs.Unit.{wordOf};
+ghost use Rattle.writer.specs.Pack.{enters, taken, indicatorOf, controlWord};
 ghost use Rattle.writer.specs.Output.{Wrote};
 ghost use Rattle.writer.specs.Source.{Holds};
 ghost use Rattle.writer.specs.Fills.{UnitPut};
@@ -26,13 +27,7 @@ const MOST_SEGMENT: usize = 9994;
 pub(crate) fn word_of(f: u8) -> usize
     ensures { λ r. ⌜ r ≡ wordOf f ⌝ }
 {
-    if f == FIXED {
-        return 0;
-    }
-    if f == VARIABLE {
-        return 4;
-    }
-    5
+    block::word_of(f as u32)
 }
 
 // The smaller of two numbers.
