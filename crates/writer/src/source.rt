@@ -313,7 +313,9 @@ fn whole_of_image(lengths: &[u64], bytes: &[u8], c: Cursor) -> Cursor
     let v = at_block(bytes, behind_of(c));
     let k = whole_at(bytes, v.format, v.size, v.at, v.left);
     if k == 0 {
-        return next_of_image(lengths, bytes, c);
+        // A cursor of its own: the one above stays in registers.
+        let d = c;
+        return next_of_image(lengths, bytes, d);
     }
     let word = word_of(v.format);
     let n = k - word;

@@ -12,7 +12,7 @@ is-whole-requires c κs = search ifs
 
 returns : tie.Need-returns
 unfolding isTold
-returns c = search (if-true, so-true, so-false) depth 20
+returns c = search (if-true, so-true) depth 20
 
 returns-2 : tie.Need-returns-2
 unfolding isTold
@@ -24,7 +24,7 @@ returns-3 c = search (if-true, if-false, so-true, so-false) depth 20
 
 returns-4 : tie.Need-returns-4
 unfolding isTold
-returns-4 c = search (if-false, so-true, so-false) depth 20
+returns-4 c = search (if-false, so-false) depth 20
 
 pub is-told-spec : {M : Type 1} → statement M
 is-told-spec =
