@@ -42,7 +42,8 @@ use Rattle.writer.specs.Source.{laterAt, leftAt, Good, Opened}
 use Rattle.writer.specs.Reels.{Layable, FilePut}
 use Rattle.writer.specs.Sets.{Origin, read, originOf, totalOf, filesAt, Placed, Walked, Over, followed, behindRead, Fileable, OneFiled, sheetAt, Writable}
 use Rattle.writer.proofs.RoundTrip.{LegalSheet, legal-sheet}
-use Rattle.writer.proofs.Sources.{image-end, image-stops, image-good}
+use Rattle.writer.proofs.Sources.{image-end, image-stops}
+use Rattle.writer.proofs.Openings.{image-good}
 use Rattle.writer.proofs.Filing.{opened-left, legal-others, file-layable, one-filed, sheet-named}
 
 -- ---- the records of a file opened

@@ -9,6 +9,7 @@ pub mod RoundTrip
 pub mod Entering
 pub mod Segments
 pub mod Sources
+pub mod Openings
 pub mod Filling
 pub mod Wholes
 pub mod Items

@@ -27,7 +27,7 @@ use Rattle.writer.specs.Source.{isWhole, bytesAt, laterAt, Good, Handed,
 use Rattle.writer.specs.Fills.{unitOf, UnitPut, Fillable, Turned, Turning, Filled, BlockPut, isUnbroken, isTold, Takable, Layable, turnOf, Ran, Passed, BlockPassed}
 use Rattle.writer.proofs.Packing.{by-test, enters-whole, taken-whole}
 use Rattle.writer.proofs.Units.{both, control-F, control-D, length-control}
-use Rattle.writer.proofs.Sources.{good-holds, whole-here, sheet-whole, past-whole, past-front, past-handed}
+use Rattle.writer.proofs.Sources.{good-holds, sheet-whole, past-whole, past-front, past-handed}
 use Rattle.writer.proofs.Filling.{blocks, fillable-holds, turned-full, turned-on, turned-none, turned-turned, turned-filled, turnsLeft, turns-fall, length-three, block-void}
 use Rattle.output.proofs.Writing.{wrote-put}
 
@@ -163,7 +163,7 @@ pub ruleset laid = (laid-room, laid-put, laid-none, needs)
 
 module _ (lengths bytes : List ℕ) (c : Cursor) (g : Good lengths bytes c) (v : isWhole c ≡ true) where
   pub whole-few : c .left ≤ c .here
-  whole-few = omega (arith, whole-here bytes c (g .holds) v)
+  whole-few = omega (arith, g .holds .whole v)
 
   whole-inside : c .at + c .left ≤ length bytes
   whole-inside = omega (arith, whole-few, g .holds .inside)

@@ -1,4 +1,4 @@
-use Rattle.writer.proofs.Sources.{kinds}
+use Rattle.writer.proofs.Openings.{kinds}
 use Rattle.writer.proofs.source.is_whole.Statement.{statement}
 use Rattle.writer.proofs.source.is_whole.Tie as tie
 

@@ -1,4 +1,4 @@
-use Rattle.writer.proofs.Sources.{imaged}
+use Rattle.writer.proofs.Openings.{imaged}
 use Rattle.writer.proofs.source.next_of_image.Statement.{statement}
 use Rattle.writer.proofs.source.next_of_image.Tie as tie
 

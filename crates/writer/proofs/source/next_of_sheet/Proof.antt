@@ -1,4 +1,4 @@
-use Rattle.writer.proofs.Sources.{listed}
+use Rattle.writer.proofs.Openings.{listed}
 use Rattle.writer.proofs.source.next_of_sheet.Statement.{statement}
 use Rattle.writer.proofs.source.next_of_sheet.Tie as tie
 

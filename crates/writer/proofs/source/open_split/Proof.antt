@@ -1,4 +1,4 @@
-use Rattle.writer.proofs.Sources.{split}
+use Rattle.writer.proofs.Openings.{split}
 use Rattle.writer.proofs.source.open_split.Statement.{statement}
 use Rattle.writer.proofs.source.open_split.Tie as tie
 

@@ -1,4 +1,4 @@
-use Rattle.writer.proofs.Sources.{wholly}
+use Rattle.writer.proofs.Openings.{wholly}
 use Rattle.writer.proofs.source.whole_of_image.Statement.{statement}
 use Rattle.writer.proofs.source.whole_of_image.Tie as tie
 
