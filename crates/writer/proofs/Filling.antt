@@ -9,10 +9,10 @@ use borrow.Author.Tests.{eq-eqb, ne-eqb}
 use mir.Val.{Fits}
 use mir.Syntax.{w64}
 use lib.ListN.{length, take, drop, length-append}
-use lib.Seq.{length-take-le, take-at, drop-at}
+use lib.Seq.{length-take-le, take-take, drop-at}
 use Rattle.base.specs.If.{ifB, if-true, if-false, so-true}
 use Rattle.base.specs.Part.{putAt}
-use Rattle.base.proofs.Parts.{put-none}
+use Rattle.base.proofs.Parts.{put-none, take-put}
 use Rattle.image.specs.Item.{block, three, bytesOf, encode}
 use Rattle.writer.specs.declared.source.Cursor.{Cursor}
 use Rattle.writer.specs.declared.source.Moved.{Moved}
@@ -308,26 +308,22 @@ pub ruleset filling = (turned-none, turned-turned, turned-fillable, turned-fille
 
 -- ---- the block's length, known behind it
 
--- a length put over three bytes before the block
-over-three : (o : List ℕ) (a : ℕ) (z w bs : List ℕ) → length z ≡ length w → a + length (z ++ bs) ≤ length o
-    → putAt (putAt o a (z ++ bs)) a w ≡ putAt o a (w ++ bs)
+-- two puts, the second right before the first, are one
+put-before : (old : List ℕ) (at : ℕ) (xs ys : List ℕ) → at + length xs ≤ length old
+    → putAt (putAt old (at + length xs) ys) at xs ≡ putAt old at (xs ++ ys)
 unfolding putAt
-over-three o a z w bs e h =
-    let l : length (z ++ bs) ≡ length z + length bs = length-append z bs in
-    let m : length (w ++ bs) ≡ length w + length bs = length-append w bs in
-    let front : length (take a o) ≡ a = length-take-le a o (omega arith) in
-    let first : take a (take a o ++ (z ++ bs) ++ drop (a + length (z ++ bs)) o) ≡ take a o
-    = ap (take a) (append-assoc (take a o) (z ++ bs) _) ∙ take-at (take a o) _ a front in
-    let split : take a o ++ (z ++ bs) ++ drop (a + length (z ++ bs)) o ≡ (take a o ++ z) ++ (bs ++ drop (a + length (z ++ bs)) o)
-    = ap (λ (s : List ℕ). s ++ drop (a + length (z ++ bs)) o) (sym (append-assoc (take a o) z bs)) ∙ append-assoc (take a o ++ z) bs _ in
-    let rest : drop (a + length w) (take a o ++ (z ++ bs) ++ drop (a + length (z ++ bs)) o) ≡ bs ++ drop (a + length (z ++ bs)) o
-    = ap (drop (a + length w)) split ∙ drop-at (take a o ++ z) _ (a + length w) (length-append (take a o) z ∙ omega arith) in
-    let same : a + length (z ++ bs) ≡ a + length (w ++ bs) = omega arith in
-    ap (λ (s : List ℕ). s ++ w ++ drop (a + length w) (take a o ++ (z ++ bs) ++ drop (a + length (z ++ bs)) o)) first
-    ∙ ap (λ (s : List ℕ). take a o ++ w ++ s) rest
-    ∙ ap (λ (k : ℕ). take a o ++ w ++ (bs ++ drop k o)) same
-    ∙ sym (append-assoc (take a o ++ w) bs _)
-    ∙ ap (λ (s : List ℕ). s ++ drop (a + length (w ++ bs)) o) (append-assoc (take a o) w bs)
+put-before old at xs ys h =
+    let put : List ℕ = take (at + length xs) old ++ ys ++ drop (at + length xs + length ys) old in
+    let behind : at + length xs + length ys ≡ at + length (xs ++ ys) = simp length-append (omega arith) in
+    let front : take at put ≡ take at old
+    = sym (take-take at (at + length xs) put (omega arith)) ∙ ap (take at) (take-put old (at + length xs) ys h) ∙ take-take at (at + length xs) old (omega arith) in
+    let rest : drop (at + length xs) put ≡ ys ++ drop (at + length xs + length ys) old
+    = ap (drop (at + length xs)) (append-assoc (take (at + length xs) old) ys _) ∙ drop-at (take (at + length xs) old) _ (at + length xs) (length-take-le (at + length xs) old h) in
+    ap (λ (l : List ℕ). l ++ xs ++ drop (at + length xs) put) front
+    ∙ ap (λ (l : List ℕ). take at old ++ xs ++ l) rest
+    ∙ sym (append-assoc (take at old ++ xs) ys _)
+    ∙ ap (λ (l : List ℕ). l ++ drop (at + length xs + length ys) old) (append-assoc (take at old) xs ys)
+    ∙ ap (λ (k : ℕ). take at old ++ (xs ++ ys) ++ drop k old) behind
 
 -- the length from the places around it
 counted-between : (start end n : ℕ) → end ≡ min (start + n) overLong → end < overLong → end - start ≡ n
@@ -341,16 +337,16 @@ one-block : (bs : List ℕ) → encode (block bs ∷ []) ≡ three (length bs) +
 unfolding encode bytesOf
 one-block bs = append-nil (three (length bs) ++ bs)
 
-module _ (f b : ℕ) (lengths bytes : List ℕ) (c : Cursor) (o : List ℕ) (at : ℕ) (p : List ℕ) (start : ℕ) (q : List ℕ) (m : Moved)
-    (w : Wrote o at (three 0) p start) (x : Filled f b lengths bytes c p start q m) where
+module _ (f b : ℕ) (lengths bytes : List ℕ) (c : Cursor) (o : List ℕ) (at start : ℕ) (q : List ℕ) (m : Moved) (e : start ≡ min (at + 3) overLong)
+    (x : Filled f b lengths bytes c o start q m) where
   abbrev bs : List ℕ
   bs = fillAt f b lengths bytes 0 c
 
-  both : Wrote o at (three 0 ++ bs) q (m .at)
-  both = wrote-wrote o at (three 0) p start bs q (m .at) w (x .wrote)
+  long : length (three (length bs) ++ bs) ≡ 3 + length bs
+  long = length-append (three (length bs)) bs ∙ ap (λ (k : ℕ). k + length bs) (length-three (length bs))
 
-  long : length (three (length bs) ++ bs) ≡ length (three 0 ++ bs)
-  long = length-append (three (length bs)) bs ∙ ap (λ (k : ℕ). k + length bs) (length-three (length bs) ∙ sym (length-three 0)) ∙ sym (length-append (three 0) bs)
+  placed : m .at ≡ min (at + length (three (length bs) ++ bs)) overLong
+  placed = omega (arith, long, x .wrote .place)
 
   -- the block has no room: the length is not written
   pub block-void : (m .at < overLong → m .at ≤ length o → ⊥) → BlockPut f b lengths bytes c o at q m
@@ -359,8 +355,7 @@ module _ (f b : ℕ) (lengths bytes : List ℕ) (c : Cursor) (o : List ℕ) (at 
         good = x .good;
         end = x .end;
         wrote =
-            subst (λ (s : List ℕ). Wrote o at s q (m .at)) (sym (one-block bs))
-            (record { kept = both .kept; place = both .place ∙ ap (λ (k : ℕ). min (at + k) overLong) (sym long); done = λ l k. absurd (h l k) });
+            subst (λ (s : List ℕ). Wrote o at s q (m .at)) (sym (one-block bs)) (record { kept = x .wrote .kept; place = placed; done = λ l k. absurd (h l k) });
         left = x .left;
       }
 
@@ -371,24 +366,23 @@ module _ (f b : ℕ) (lengths bytes : List ℕ) (c : Cursor) (o : List ℕ) (at 
   pub block-done : (r : List ℕ) (s : ℕ) → m .at < overLong → Wrote q at (three (m .at - start)) r s → BlockPut f b lengths bytes c o at r m
   block-done r s h v =
       let counted : m .at - start ≡ length bs = counted-between start (m .at) (length bs) (x .wrote .place) h in
+      let word : length (three (m .at - start)) ≡ 3 = length-three (m .at - start) in
+      let before : start ≡ at + length (three (length bs)) = omega (arith, length-three (length bs), x .wrote .place) in
       record {
         good = x .good;
         end = x .end;
         wrote =
             subst (λ (t : List ℕ). Wrote o at t r (m .at)) (sym (one-block bs))
             (record {
-              kept = v .kept ∙ both .kept;
-              place = both .place ∙ ap (λ (k : ℕ). min (at + k) overLong) (sym long);
+              kept = v .kept ∙ x .wrote .kept;
+              place = placed;
               done =
                   λ l k.
-                  let three-long : length (three (m .at - start)) ≡ 3 = length-three (m .at - start) in
-                  let room : at + length (three 0 ++ bs) ≤ length o = omega (arith, both .place) in
-                  let behind : length (three 0 ++ bs) ≡ 3 + length bs = length-append (three 0) bs ∙ ap (λ (j : ℕ). j + length bs) (length-three 0) in
-                  let kept : length q ≡ length o = both .kept in
-                  v .done (omega (arith, v .place, both .place)) (omega (arith, v .place, both .place))
+                  let room : at + length (three (length bs)) ≤ length o = omega (arith, x .wrote .place) in
+                  v .done (omega (arith, v .place, placed, long)) (omega (arith, v .place, placed, long, x .wrote .kept))
                   ∙ ap (λ (n : ℕ). putAt q at (three n)) counted
-                  ∙ ap (λ (t : List ℕ). putAt t at (three (length bs))) (both .done h (omega arith))
-                  ∙ over-three o at (three 0) (three (length bs)) bs (length-three 0 ∙ sym (length-three (length bs))) room;
+                  ∙ ap (λ (t : List ℕ). putAt t at (three (length bs))) (x .wrote .done l k ∙ ap (λ (i : ℕ). putAt o i bs) before)
+                  ∙ put-before o at (three (length bs)) bs room;
             });
         left = x .left;
       }
@@ -397,14 +391,14 @@ pub block-less : (f b : ℕ) (lengths bytes : List ℕ) (c : Cursor) (p : List �
     → Filled f b lengths bytes c p start q m → start ≤ overLong → start ≤ m .at
 block-less f b lengths bytes c p start q m x h = omega (arith, x .wrote .place)
 
-pub word-place : (o : List ℕ) (a n : ℕ) (p : List ℕ) (r : ℕ) → Wrote o a (three n) p r → r ≤ overLong
-word-place o a n p r w = wrote-place o a (three n) p r w
+pub start-place : (at start : ℕ) → start ≡ min (at + 3) overLong → start ≤ overLong
+start-place at start e = omega arith
 
-pub start-fillable : (b : ℕ) (lengths bytes : List ℕ) (c : Cursor) (at : ℕ) (o p : List ℕ) (n r : ℕ) → Fillable b lengths bytes c at → Wrote o at (three n) p r
-    → Fillable b lengths bytes c r
-start-fillable b lengths bytes c at o p n r g w = record { good = g .good; live = g .live; most = g .most; place = word-place o at n p r w }
+pub start-fillable : (b : ℕ) (lengths bytes : List ℕ) (c : Cursor) (at start : ℕ) → Fillable b lengths bytes c at → start ≡ min (at + 3) overLong
+    → Fillable b lengths bytes c start
+start-fillable b lengths bytes c at start g e = record { good = g .good; live = g .live; most = g .most; place = start-place at start e }
 
 pub length-fits : (start end : ℕ) → end < overLong → end - start < overLong
 length-fits start end h = omega arith
 
-pub ruleset blocks = (block-over, block-done, block-less, word-place, start-fillable, length-fits, needs)
+pub ruleset blocks = (block-over, block-done, block-less, start-place, start-fillable, length-fits, needs)

@@ -12,8 +12,10 @@ pub mod Sources
 pub mod Openings
 pub mod Filling
 pub mod Wholes
+pub mod Runs
 pub mod Items
 pub mod Reeling
+pub mod Series
 pub mod Filing
 pub mod FromSheet
 pub mod FromImage

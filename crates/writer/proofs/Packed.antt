@@ -155,7 +155,7 @@ cut-one f b r u t o head x form ready e =
     ∙ cut-back f b r u t o head x [] form ready e
     ∙ ap (onto (segmentIn f b u t x)) (cut-nothing f r)
 
-unit-within : (f b u t : ℕ) (x : List ℕ) → enters f b u (length x) ≡ true → u + length (unitIn f b u t x) ≤ b
+pub unit-within : (f b u t : ℕ) (x : List ℕ) → enters f b u (length x) ≡ true → u + length (unitIn f b u t x) ≤ b
 unit-within f b u t x e = let h = entered f b u (length x) e .within in omega (arith, length-unit f b u t x e)
 
 fill-full : (f b r u t : ℕ) (x : List ℕ) (xs : List (List ℕ)) → Fills f b r u t x xs [] (going t x xs) []

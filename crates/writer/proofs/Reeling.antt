@@ -30,7 +30,7 @@ use Rattle.writer.specs.Lay.{Laid, laid, short, put, headers, fileEnd, v
 use Rattle.writer.specs.Output.{Wrote}
 use Rattle.writer.specs.Source.{bytesAt, laterAt, stopAt, leftAt}
 use Rattle.writer.specs.Fills.{fillAt, afterAt, Fillable, BlockPut}
-use Rattle.writer.specs.Reels.{Lays, Next, namesAt, Sound, restAt, nextAt, Roomed, Ready, oneMore, LaidHere, Passed, Passing, Spent, Layable, Ended, FilePut}
+use Rattle.writer.specs.Reels.{Lays, Next, namesAt, Sound, restAt, nextAt, Roomed, Ready, oneMore, LaidHere, Passed, Passing, LaidSome, Spent, Layable, Ended, FilePut}
 use Rattle.writer.proofs.Packing.{by-test, blocks-finished, blocks-going, after-room}
 use Rattle.writer.proofs.Items.{wrote-items}
 
@@ -182,7 +182,7 @@ live-going : (lengths bytes : List ℕ) (c : Cursor) → c .live ≡ true → le
 unfolding leftAt
 live-going lengths bytes c h = if-true _ _ _ h
 
-over-finished : (lengths bytes : List ℕ) (c : Cursor) → c .live ≡ false → leftAt lengths bytes c ≡ finished
+pub over-finished : (lengths bytes : List ℕ) (c : Cursor) → c .live ≡ false → leftAt lengths bytes c ≡ finished
 unfolding leftAt
 over-finished lengths bytes c h = if-false _ _ _ h
 
@@ -208,7 +208,7 @@ pub ready-room : (v : Reel) → Ready v → 1 ≤ v .room
 ready-room v y = y .room
 
 pub ready-count : (v : Reel) → Ready v → Fits w32 (v .count + 1)
-ready-count v y = record { fits = omega (arith, y .count) }
+ready-count v y = record { fits = omega (arith, y .count, y .room) }
 
 pub ruleset here = (laid-here, ready-room, ready-count, needs)
 
@@ -317,7 +317,48 @@ pub roomed-ready : (quota : ℕ) (set e : List ℕ) (sequence : ℕ) (names : Li
 roomed-ready quota set e sequence names r o p v m z =
     record { room = m .room z; count = omega (arith, m .sound .blocks, m .sound .most) }
 
-pub ruleset passing = (layable-sound, layable-enough, layable-fillable, passed-short, passed-block, roomed-ready, needs)
+-- blocks that were laid on the reel with room
+pub roomed-some : (f b : ℕ) (lengths bytes : List ℕ) (quota : ℕ) (set e : List ℕ) (sequence : ℕ) (names : List ℕ) (c : Cursor) (r : Reel) (o p : List ℕ) (v : Reel) (q : List ℕ) (x : Laying)
+    → Layable f b lengths bytes quota names c r → c .live ≡ true → Roomed quota set e sequence names r o p v → v .short ≡ false
+    → LaidSome f b lengths bytes c v p q x → Passing f b lengths bytes quota set e sequence names c r o q x
+roomed-some f b lengths bytes quota set e sequence names c r o p v q x y h m z d =
+    let here : Layable f b lengths bytes quota names c v = record { good = y .good; most = y .most; room = y .room; sound = m .sound; enough = z } in
+    let n : Passing f b lengths bytes quota set e sequence names c v p q x = d .some quota set e sequence names here in
+    let first : blocksLeft f b (leftAt lengths bytes c) ≡ fillAt f b lengths bytes 0 c ∷ blocksLeft f b (afterAt f b lengths bytes 0 c)
+    = blocks-live f b lengths bytes c h (y .room) in
+    record {
+      passed =
+          record {
+            good = n .passed .good;
+            end = n .passed .end;
+            kept = n .passed .kept ∙ m .kept;
+            sound = n .passed .sound;
+            room = n .passed .room;
+            live = n .passed .live;
+            enough = n .passed .enough;
+            over = n .passed .over;
+            same =
+                λ next w s t l.
+                lays-same _ _ o (r .at) w s t (ap (λ (bs : List (List ℕ)). restAt quota set e sequence names r bs next) (sym first))
+                (m .same _ _ next w s t
+                (lays-same _ _ p (v .at) w s t (ap (λ (bs : List (List ℕ)). restAt quota set e sequence names v bs next) first) (n .passed .same next w s t l)));
+          };
+      some = n .some;
+      fewer = n .fewer;
+    }
+
+pub ruleset passing = (layable-sound, layable-enough, layable-fillable, passed-short, roomed-ready, roomed-some, needs)
+
+-- one block laid on a reel that has room
+pub laid-some : (f b : ℕ) (lengths bytes : List ℕ) (c : Cursor) (v : Reel) (o p : List ℕ) (x : Laying) → Fillable b lengths bytes c (v .at) → Ready v
+    → LaidHere f b lengths bytes c v o p x → LaidSome f b lengths bytes c v o p x
+laid-some f b lengths bytes c v o p x g y d =
+    record {
+      some =
+          λ quota set e sequence names l.
+          passed-block f b lengths bytes quota set e sequence names c v o o v l (g .live)
+          (roomed-here quota set e sequence names v o (l .sound) (l .enough) (y .room)) p x (l .enough) d;
+    }
 
 -- ---- the loop over blocks
 

@@ -2,14 +2,14 @@
 use mathlib.Core.Path.{_≡_, refl, sym, ap, _∙_, subst}
 use mathlib.Core.Bool.{Bool, true, false, false≢true, _&&_}
 use mathlib.Core.List.{List, [], _∷_, _++_}
-use Prim.Native.Nat.{ℕ, _+_, _≤_, _<_, min}
+use Prim.Native.Nat.{ℕ, _+_, _-_, _≤_, _<_, min}
 use native.Mathlib.Omega.{arith}
 use borrow.Author.Needs.{needs}
 use borrow.Author.Tests.{eqb-true, leb-true, ltb-true, le-ltb, lt-ltb, le-leb, lt-leb, ne-eqb}
 use mir.Val.{Fits}
 use mir.Syntax.{w64}
 use lib.Dec.{eqb, leb, ltb}
-use lib.ListN.{length, take, length-append}
+use lib.ListN.{length, take, drop, length-append}
 use Rattle.base.specs.If.{ifB, if-true, if-false, if-case, and-left, and-first, and-second}
 use Rattle.base.specs.Part.{part, putAt}
 use Rattle.base.specs.Digits.{digits}
@@ -24,7 +24,7 @@ use Rattle.block.proofs.Wholes.{word-fixed, word-variable}
 use Rattle.writer.specs.Pack.{enters, taken, indicatorOf, controlWord}
 use Rattle.writer.specs.Output.{Wrote, overLong, hasRoom}
 use Rattle.writer.specs.Source.{isWhole, bytesAt, laterAt, Good, Handed, Opened, past}
-use Rattle.writer.specs.Fills.{unitOf, UnitPut, Fillable, Turned, Turning, Filled, BlockPut, isUnbroken, isTold, Takable, Layable, turnOf, Ran, Passed, BlockPassed}
+use Rattle.writer.specs.Fills.{unitOf, UnitPut, Fillable, Turned, Turning, Filled, BlockPut, isUnbroken, isTold, Takable, Layable, turnOf, Ran}
 use Rattle.writer.proofs.Packing.{by-test, enters-whole, taken-whole}
 use Rattle.writer.proofs.Units.{both, control-F, control-D, length-control}
 use Rattle.writer.proofs.Sources.{good-holds, sheet-whole, past-whole, past-front, past-handed}
@@ -48,7 +48,7 @@ pub ruleset rooms = (room-over, room-told, needs)
 -- ---- what is told of a block
 
 module _ (f : ℕ) (c : Cursor) (lay : Bool) (size at : ℕ) (t : Bool) (q : t ≡ isTold f c lay size at) (h : t ≡ true) where
-  told-unbroken : isUnbroken f ≡ true
+  pub told-unbroken : isUnbroken f ≡ true
   unfolding isTold
   told-unbroken = both (isUnbroken f) _ (λ u _. u) (sym q ∙ h)
 
@@ -59,7 +59,7 @@ module _ (f : ℕ) (c : Cursor) (lay : Bool) (size at : ℕ) (t : Bool) (q : t �
   told-whole : isWhole c ≡ true
   told-whole = both (isWhole c) _ (λ w _. w) told-rest
 
-  told-none : lay ≡ false → size < at
+  pub told-none : lay ≡ false → size < at
   told-none l = ltb-true _ _ (sym (if-false _ _ _ l) ∙ both (isWhole c) _ (λ _ r. r) told-rest)
 
   pub told-takable : (b : ℕ) (lengths bytes : List ℕ) → Fillable b lengths bytes c at → lay ≡ hasRoom b size at → Takable f b lengths bytes c size at lay
@@ -73,22 +73,6 @@ module _ (f : ℕ) (c : Cursor) (lay : Bool) (size at : ℕ) (t : Bool) (q : t �
         room = λ l. leb-true _ _ (and-second (ltb (at + b) overLong) (leb (at + b) size) (sym e ∙ l));
         none = told-none;
       }
-
--- a block of a sheet's records for which nothing has room
-module _ (f : ℕ) (c : Cursor) (size at : ℕ) (t : Bool) (q : t ≡ ifB (c .image) false (isTold f c false size at)) (h : t ≡ true) where
-  listed : (c .image ≡ false) × (isTold f c false size at ≡ true)
-  listed =
-      if-case (λ (r : Bool). r ≡ true → (c .image ≡ false) × (isTold f c false size at ≡ true)) (c .image) false _ (λ _ z. absurd (false≢true z)) (λ s z. (s, z))
-      (sym q ∙ h)
-
-  pub listed-sheet : c .image ≡ false
-  listed-sheet = listed .0
-
-  pub listed-unbroken : isUnbroken f ≡ true
-  listed-unbroken = told-unbroken f c false size at true (sym (listed .1)) refl
-
-  listed-none : size < at
-  listed-none = told-none f c false size at true (sym (listed .1)) refl refl
 
 -- ---- the formats of whole records
 
@@ -117,30 +101,37 @@ module _ (f : ℕ) (bytes : List ℕ) (from n : ℕ) (o : List ℕ) (at : ℕ) (
   pub word-fits : Fits w64 (n + 4)
   word-fits = record { fits = omega (arith, k .small) }
 
-  module _ (s : List ℕ) (q : s ≡ part from n bytes) where
-    long : length s ≡ n
-    long = ap length q ∙ length-part from n bytes (k .inside)
+  abbrev s : List ℕ
+  s = take (from + n - from) (drop from bytes)
 
-    pub fixed-room : (f ≡ 68 → ⊥) → at + length s ≤ length o
-    fixed-room d = omega (arith, long, word-fixed f (unbroken-fixed f (k .unbroken) d), k .room refl)
+  -- the code's `&bytes[from..from + n]`
+  cut : s ≡ part from n bytes
+  unfolding part
+  cut = let same : from + n - from ≡ n = omega arith in ap (λ (k : ℕ). take k (drop from bytes)) same
 
-    pub fixed-put : (p : List ℕ) → (f ≡ 68 → ⊥) → p ≡ putAt o at s → p ≡ putAt o at (controlWord f 0 n ++ part from n bytes)
-    fixed-put p d e =
-        e ∙ ap (putAt o at) q ∙ sym (ap (λ (w : List ℕ). putAt o at (w ++ part from n bytes)) (control-F f 0 n (unbroken-fixed f (k .unbroken) d)))
+  long : length s ≡ n
+  long = ap length cut ∙ length-part from n bytes (k .inside)
 
-    module _ (e : f ≡ 68) (d : List ℕ) (h : d ≡ digits 4 (n + 4)) (p : List ℕ) (x : p ≡ putAt o at d) where
-      pub variable-room : at + 4 + length s ≤ length p
-      variable-room = omega (arith, long, word-variable f e, k .room refl, ap length x ∙ length-put o at d (word-room d e h))
+  pub fixed-room : (f ≡ 68 → ⊥) → at + length s ≤ length o
+  fixed-room d = omega (arith, long, word-fixed f (unbroken-fixed f (k .unbroken) d), k .room refl)
 
-      pub variable-put : (r : List ℕ) → r ≡ putAt p (at + 4) s → r ≡ putAt o at (controlWord f 0 n ++ part from n bytes)
-      variable-put r y =
-          let four : 4 ≡ length d = sym (ap length h ∙ length-digits 4 (n + 4)) in
-          y
-          ∙ ap (λ (l : List ℕ). putAt l (at + 4) s) x
-          ∙ ap (λ (i : ℕ). putAt (putAt o at d) (at + i) s) four
-          ∙ put-put o at d s (word-room d e h)
-          ∙ ap (λ (l : List ℕ). putAt o at (l ++ s)) (h ∙ sym (control-D f 0 n e))
-          ∙ ap (λ (l : List ℕ). putAt o at (controlWord f 0 n ++ l)) q
+  pub fixed-put : (p : List ℕ) → (f ≡ 68 → ⊥) → p ≡ putAt o at s → p ≡ putAt o at (controlWord f 0 n ++ part from n bytes)
+  fixed-put p d e =
+      e ∙ ap (putAt o at) cut ∙ sym (ap (λ (w : List ℕ). putAt o at (w ++ part from n bytes)) (control-F f 0 n (unbroken-fixed f (k .unbroken) d)))
+
+  module _ (e : f ≡ 68) (d : List ℕ) (h : d ≡ digits 4 (n + 4)) (p : List ℕ) (x : p ≡ putAt o at d) where
+    pub variable-room : at + 4 + length s ≤ length p
+    variable-room = omega (arith, long, word-variable f e, k .room refl, ap length x ∙ length-put o at d (word-room d e h))
+
+    pub variable-put : (r : List ℕ) → r ≡ putAt p (at + 4) s → r ≡ putAt o at (controlWord f 0 n ++ part from n bytes)
+    variable-put r y =
+        let four : 4 ≡ length d = sym (ap length h ∙ length-digits 4 (n + 4)) in
+        y
+        ∙ ap (λ (l : List ℕ). putAt l (at + 4) s) x
+        ∙ ap (λ (i : ℕ). putAt (putAt o at d) (at + i) s) four
+        ∙ put-put o at d s (word-room d e h)
+        ∙ ap (λ (l : List ℕ). putAt o at (l ++ s)) (h ∙ sym (control-D f 0 n e))
+        ∙ ap (λ (l : List ℕ). putAt o at (controlWord f 0 n ++ l)) cut
 
   pub behind-fits : f ≡ 68 → Fits w64 (at + 4)
   behind-fits e = record { fits = omega (arith, word-variable f e, k .short refl) }
@@ -306,30 +297,6 @@ takable-fillable f b lengths bytes c size start lay k = k .fillable
 
 pub ruleset runs = (takable-good, takable-whole, takable-fillable, whole-word-fits, whole-fits, ran-fits, ran-layable, ran-full, ran-laid, needs)
 
--- ---- a turn of a run of a sheet's records
-
-module _ (f b u : ℕ) (lengths bytes : List ℕ) (c : Cursor) (a w : ℕ) (g : Fillable b lengths bytes c a) (x : isUnbroken f ≡ true) (s : c .image ≡ false)
-    (word : w ≡ wordOf f) (t : Bool) (told : t ≡ leb (u + w + c .left) b) where
-  pub passed-full : t ≡ false → Passed f b lengths bytes u c (record { on = false; cur = c; used = u })
-  passed-full h = record { ran = λ o start _. run-full f b u lengths bytes c a start w g x (sheet-whole c s) word t told o h; sheet = s }
-
-  pub passed-on : (y d : Cursor) → t ≡ true → y ≡ past c (c .left) → Opened lengths bytes y d
-      → Passed f b lengths bytes u c (record { on = d .live; cur = d; used = u + w + c .left })
-  passed-on y d h e op =
-      let op′ : Opened lengths bytes (past c (c .left)) d = past-opened lengths bytes c y d e op in
-      record {
-        ran = λ o start k. run-void f b u lengths bytes c a start w g x (sheet-whole c s) word t told h d op′ o k;
-        sheet = op′ .image ∙ s;
-      }
-
-pub past-sheet : (c y : Cursor) (k : ℕ) → y ≡ past c k → c .image ≡ false → y .image ≡ false
-past-sheet c y k e s = ap (λ (z : Cursor). z .image) e ∙ s
-
-pub fillable-good : (b : ℕ) (lengths bytes : List ℕ) (c : Cursor) (a : ℕ) → Fillable b lengths bytes c a → Good lengths bytes c
-fillable-good b lengths bytes c a g = g .good
-
-pub ruleset passes = (whole-few, whole-good, past-spent, whole-word-fits, whole-fits, passed-full, passed-on, past-sheet, sheet-whole, fillable-good, fillable-holds, needs)
-
 -- ---- the loop
 
 -- from cursor c, buffer o and place `start` on, to a run and buffer p
@@ -389,65 +356,4 @@ runs-fall f b lengths bytes o start t p v on y = turns-fall f b lengths bytes o 
 
 pub ruleset running = (running-none, running-takable, running-more, running-filled, running-kept, runs-fall, needs)
 
--- ---- the loop over a sheet's records where nothing has room
-
-pub record Passing (f b : ℕ) (lengths bytes : List ℕ) (c : Cursor) (r : Run) : Type 0 where
-  pub turned : (o : List ℕ) (start : ℕ) → start ≤ overLong → length o < start → Turned f b lengths bytes 0 c o start o (turnOf start r)
-  pub most : b ≤ 99999
-  pub sheet : r .cur .image ≡ false
-
-pub passing-none : (f b : ℕ) (lengths bytes : List ℕ) (c : Cursor) (at : ℕ) → Fillable b lengths bytes c at → c .image ≡ false
-    → Passing f b lengths bytes c (record { on = true; cur = c; used = 0 })
-passing-none f b lengths bytes c at g s =
-    record {
-      turned = λ o start k _. run-none f b lengths bytes c o start (record { good = g .good; live = g .live; most = g .most; place = k });
-      most = g .most;
-      sheet = s;
-    }
-
-module _ (f b : ℕ) (lengths bytes : List ℕ) (c : Cursor) (t : Run) (x : Passing f b lengths bytes c t) where
-  pub passing-more : (v : Run) → t .on ≡ true → Passed f b lengths bytes (t .used) (t .cur) v → Passing f b lengths bytes c v
-  passing-more v on y =
-      record {
-        turned =
-            λ o start k h.
-            turned-turned f b 0 lengths bytes c o start o (turnOf start t) o (turnOf start v) (x .turned o start k h) on (y .ran o start h .turning);
-        most = x .most;
-        sheet = y .sheet;
-      }
-
-  any : Turned f b lengths bytes 0 c [] 1 [] (turnOf 1 t)
-  any = x .turned [] 1 (omega arith) (omega arith)
-
-  pub passing-fillable : t .on ≡ true → Fillable b lengths bytes (t .cur) 0
-  passing-fillable on = record { good = any .good; live = any .live on; most = x .most; place = omega arith }
-
-  pub passing-sheet : t .cur .image ≡ false
-  passing-sheet = x .sheet
-
-  pub passing-put : (at s r : ℕ) → Fillable b lengths bytes c at → t .on ≡ false → s ≡ min (at + 3) overLong → r ≡ min (s + t .used) overLong
-      → BlockPassed f b lengths bytes c at (record { at = r; cur = t .cur })
-  passing-put at s r g off e q =
-      record {
-        put =
-            λ o h.
-            let filled : Filled f b lengths bytes c o s o (record { at = r; cur = t .cur })
-            = subst (λ (k : ℕ). Filled f b lengths bytes c o s o (record { at = k; cur = t .cur })) (sym q)
-            (turned-filled f b lengths bytes c o s o (turnOf s t) (x .turned o s (omega arith) (omega (arith, g .place))) off) in
-            let word : Wrote o at (three 0) o s
-            = record { kept = refl; place = omega (arith, length-three 0); done = λ l k. absurd (omega (arith, g .place)) } in
-            block-void f b lengths bytes c o at o s o (record { at = r; cur = t .cur }) word filled (λ l k. omega (arith, g .place));
-      }
-
-pub passes-fall : (f b : ℕ) (lengths bytes : List ℕ) (t v : Run) → t .on ≡ true → Passed f b lengths bytes (t .used) (t .cur) v
-    → runsLeft lengths bytes v < runsLeft lengths bytes t
-passes-fall f b lengths bytes t v on y = runs-fall f b lengths bytes [] 1 t [] v on (y .ran [] 1 (omega arith))
-
-pub ruleset passing = (passing-none, passing-more, passing-fillable, passing-sheet, passing-put, passes-fall, needs)
-
--- a listed block
-pub block-listed : (f b : ℕ) (lengths bytes : List ℕ) (c : Cursor) (o : List ℕ) (at : ℕ) (t : Bool) (m : Moved)
-    → t ≡ ifB (c .image) false (isTold f c false (length o) at) → t ≡ true → BlockPassed f b lengths bytes c at m → BlockPut f b lengths bytes c o at o m
-block-listed f b lengths bytes c o at t m q h x = x .put o (listed-none f c (length o) at t q h)
-
-pub ruleset told = (told-takable, listed-sheet, listed-unbroken, block-listed, blocks)
+pub ruleset told = (told-takable, blocks)

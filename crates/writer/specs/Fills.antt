@@ -107,11 +107,15 @@ pub record Ran (f b : ℕ) (lengths bytes : List ℕ) (u : ℕ) (c : Cursor) (o 
   pub turning : Turning f b lengths bytes u c o (min (start + u) overLong) p (turnOf start r)
   pub whole : isWhole (r .cur) ≡ true
 
--- a turn of a run of a sheet's records, in whatever buffer nothing has room
-pub record Passed (f b : ℕ) (lengths bytes : List ℕ) (u : ℕ) (c : Cursor) (r : Run) : Type 0 where
-  pub ran : (o : List ℕ) (start : ℕ) → length o < start → Ran f b lengths bytes u c o start o r
-  pub sheet : r .cur .image ≡ false
+-- where such a run stands, behind what it wrote
+abbrev pub movedOf : ℕ → Run → Moved
+movedOf start r = record { at = min (start + r .used) overLong; cur = r .cur }
 
--- a block was filled and led by its length, in whatever buffer nothing has room
-pub record BlockPassed (f b : ℕ) (lengths bytes : List ℕ) (c : Cursor) (a : ℕ) (m : Moved) : Type 0 where
-  pub put : (o : List ℕ) → length o < a → BlockPut f b lengths bytes c o a o m
+-- where a block of a sheet's whole records may be written, led by its length: all of it has room (lay) or nothing has
+pub record Listable (f b : ℕ) (lengths bytes : List ℕ) (c : Cursor) (size at : ℕ) (lay : Bool) : Type 0 where
+  pub fillable : Fillable b lengths bytes c at
+  pub unbroken : isUnbroken f ≡ true
+  pub sheet : c .image ≡ false
+  pub short : lay ≡ true → at + (3 + b) < overLong
+  pub room : lay ≡ true → at + (3 + b) ≤ size
+  pub none : lay ≡ false → size < at

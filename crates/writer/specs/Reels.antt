@@ -4,6 +4,7 @@ use mathlib.Core.Path.{_≡_}
 use mathlib.Core.Bool.{Bool, true, false}
 use mathlib.Core.List.{List, [], _∷_}
 use Prim.Native.Nat.{ℕ, _+_, _-_, _≤_, _<_}
+use lib.Dec.{ltb}
 use lib.ListN.{length, drop}
 use Rattle.base.specs.If.{ifB}
 use Rattle.image.specs.Item.{Item, encode}
@@ -14,9 +15,9 @@ use Rattle.writer.specs.declared.reel.Reel.{Reel}
 use Rattle.writer.specs.declared.reel.Laying.{Laying}
 use Rattle.writer.specs.Pack.{blocksLeft, RoomLeft}
 use Rattle.writer.specs.Lay.{Laid, laid, short, put, headers, rest}
-use Rattle.writer.specs.Output.{Wrote, overLong}
+use Rattle.writer.specs.Output.{Wrote, overLong, hasRoom}
 use Rattle.writer.specs.Source.{endAt, stopAt, leftAt, Good}
-use Rattle.writer.specs.Fills.{BlockPut}
+use Rattle.writer.specs.Fills.{BlockPut, Listable}
 
 -- buffer o with l written at place a became p, and r is the place behind; or l is short, and so says z
 pub record Lays (l : Laid) (o : List ℕ) (a : ℕ) (p : List ℕ) (r : ℕ) (z : Bool) : Type 0 where
@@ -60,10 +61,10 @@ pub record Roomed (quota : ℕ) (set e : List ℕ) (sequence : ℕ) (names : Lis
   pub same : (b : List ℕ) (bs : List (List ℕ)) (next : Next) (q : List ℕ) (s : ℕ) (z : Bool)
       → Lays (restAt quota set e sequence names v (b ∷ bs) next) p (v .at) q s z → Lays (restAt quota set e sequence names r (b ∷ bs) next) o (r .at) q s z
 
--- there is room for a block, and the count of blocks is small
+-- there is room for a block, and the count of blocks stays small
 pub record Ready (v : Reel) : Type 0 where
   pub room : 1 ≤ v .room
-  pub count : v .count ≤ 999999
+  pub count : v .count + v .room ≤ 999999
 
 -- reel v with one block more, up to a place
 abbrev pub oneMore : Reel → ℕ → Reel
@@ -107,6 +108,25 @@ pub record Layable (f b : ℕ) (lengths bytes : List ℕ) (quota : ℕ) (names :
   pub room : RoomLeft f b (leftAt lengths bytes c)
   pub sound : Sound quota names r
   pub enough : r .short ≡ false
+
+-- one block or more was laid on reel v, whatever it is a reel of
+pub record LaidSome (f b : ℕ) (lengths bytes : List ℕ) (c : Cursor) (v : Reel) (o p : List ℕ) (x : Laying) : Type 0 where
+  pub some : (quota : ℕ) (set e : List ℕ) (sequence : ℕ) (names : List ℕ) → Layable f b lengths bytes quota names c v
+      → Passing f b lengths bytes quota set e sequence names c v o p x
+
+-- another block of a sheet's whole records can be laid, with room for so many on the reel
+unfoldable pub goesOn : ℕ → Bool → ℕ → ℕ → ℕ → Bool → Bool
+goesOn b live room size at lay = ifB live (ifB (ltb 0 room) (ifB lay (hasRoom (3 + b) size at) true) false) false
+
+-- x, where blocks are to be laid as long as records are left
+abbrev pub tillSpent : Laying → Laying
+tillSpent x = record { on = x .cur .live; cur = x .cur; reel = x .reel }
+
+-- a block of a sheet's whole records was laid on reel v; where x is on, another one can be
+pub record LaidListed (f b : ℕ) (lengths bytes : List ℕ) (c : Cursor) (v : Reel) (lay : Bool) (o p : List ℕ) (x : Laying) : Type 0 where
+  pub here : LaidHere f b lengths bytes c v o p (tillSpent x)
+  pub next : x .on ≡ true → Listable f b lengths bytes (x .cur) (length p) (x .reel .at) lay
+  pub room : x .on ≡ true → 1 ≤ x .reel .room
 
 -- behind the last block the trailer labels were laid, unless a name was lacking
 pub record Ended (set e : List ℕ) (sequence : ℕ) (x : Laying) (o p : List ℕ) (y : Laying) : Type 0 where

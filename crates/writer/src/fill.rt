@@ -5,6 +5,8 @@ ghost use Prim.Native.Nat.{_≤_};
 ghost use Rattle.writer.specs.Pack.{enters as entersIn};
 ghost use Rattle.writer.specs.Fills.{Fillable, Turned, Turning, Filled, BlockPut};
 use crate::out::OVER_LONG;
+use crate::out::WORD;
+use crate::out::place_behind;
 use crate::out::put_word;
 use crate::out::room_for;
 use crate::source::Cursor;
@@ -14,9 +16,7 @@ use crate::unit::enters;
 use crate::unit::put_unit;
 use crate::unit::taken;
 use crate::unit::word_of;
-use crate::whole::is_listed;
 use crate::whole::is_told;
-use crate::whole::pass_block;
 use crate::whole::take_records;
 
 // Where the filling of a block is: whether it goes on, the cursor, the place behind what was written, and the bytes that are used.
@@ -150,10 +150,7 @@ pub(crate) fn put_block(
     requires { ⌜ Fillable b (now lengths) (now bytes) c at ⌝ }
     ensures { λ r. ⌜ BlockPut f b (now (lengths .entry)) (now (bytes .entry)) c (now (out .entry)) at (now (out .exit)) r ⌝ }
 {
-    if is_listed(f, c, out.len(), at) {
-        return pass_block(f, b, lengths, bytes, c, at);
-    }
-    let start = put_word(out, at, 0);
+    let start = place_behind(at, WORD);
     let m = fill(f, b, lengths, bytes, c, out, start);
     let end = m.at;
     if OVER_LONG <= end {

@@ -12,6 +12,9 @@ use output::four_digits;
 // One more than the longest image: places are counted up to here.
 pub(crate) const OVER_LONG: usize = 16777216;
 
+// The bytes of a length word.
+pub(crate) const WORD: usize = 3;
+
 // The place behind n bytes.
 pub(crate) fn place_behind(at: usize, n: usize) -> usize
     ensures { λ r. ⌜ r ≡ min (at + n) overLong ⌝ }
@@ -50,7 +53,7 @@ pub(crate) fn put_bytes(out: &mut [u8], at: usize, s: &[u8]) -> usize
 }
 
 // A length as three bytes, the high byte first.
-fn three_bytes(n: usize) -> [u8; 3]
+pub(crate) fn three_bytes(n: usize) -> [u8; 3]
     requires { ⌜ n < overLong ⌝ }
     ensures { λ r. ⌜ r ≡ three n ⌝ }
 {

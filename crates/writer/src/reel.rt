@@ -3,13 +3,18 @@
 ghost use mathlib.Core.Path.{_≡_};
 ghost use mathlib.Core.Bool.{false, true};
 ghost use Prim.Native.Nat.{_≤_};
+ghost use lib.ListN.{length};
 ghost use Rattle.sheet.specs.Legal.{formatFrom, blockLengthFrom};
-ghost use Rattle.writer.specs.Fills.{Fillable};
-ghost use Rattle.writer.specs.Reels.{Sound, Roomed, Ready, LaidHere, Passing, Spent, Layable, Ended, FilePut};
+ghost use Rattle.writer.specs.Fills.{Fillable, Listable};
+ghost use Rattle.writer.specs.Reels.{Sound, Roomed, Ready, LaidHere, goesOn, LaidListed, LaidSome, Passing, Spent, Layable, Ended, FilePut};
 use crate::fill::put_block;
 use crate::item::put_change;
 use crate::item::put_file_end;
 use crate::item::put_headers;
+use crate::listed::is_listed;
+use crate::listed::put_listed;
+use crate::out::WORD;
+use crate::out::room_for;
 use crate::source::Cursor;
 use base::part_of;
 use charset::Number;
@@ -107,8 +112,113 @@ fn lay_here(
     }
 }
 
-// Lays the next block of a file.
-fn lay_block(
+// Whether another block of a sheet's whole records can be laid on a reel with room for so many, in a buffer of that size.
+fn goes_on(b: usize, live: bool, room: u64, size: usize, at: usize, lay: bool) -> bool
+    requires { ⌜ b ≤ 99999 ⌝ }
+    ensures { λ r. ⌜ r ≡ goesOn b live room size at lay ⌝ }
+{
+    if live {
+        if 0 < room {
+            if lay {
+                return room_for(WORD + b, size, at);
+            }
+            return true;
+        }
+        return false;
+    }
+    false
+}
+
+// Lays a block of a sheet's whole records on a reel that has room for it, and tells whether another one can be laid.
+fn lay_listed(
+    f: u8,
+    b: usize,
+    lengths: &[u64],
+    bytes: &[u8],
+    c: Cursor,
+    v: Reel,
+    out: &mut [u8],
+    lay: bool,
+) -> Laying
+    requires { ⌜ Listable f b (now lengths) (now bytes) c (length (now out)) (v .at) lay ⌝ }
+    requires { ⌜ Ready v ⌝ }
+    ensures { λ x. ⌜ LaidListed f b (now (lengths .entry)) (now (bytes .entry)) c v lay (now (out .entry)) (now (out .exit)) x ⌝ }
+{
+    let m = put_listed(f, b, lengths, bytes, c, out, v.at, lay);
+    let cur = m.cur;
+    let room = v.room - 1;
+    Laying {
+        on: goes_on(b, cur.live, room, out.len(), m.at, lay),
+        cur,
+        reel: Reel {
+            at: m.at,
+            section: v.section,
+            count: v.count + 1,
+            room,
+            name: v.name,
+            short: false,
+        },
+    }
+}
+
+// Lays blocks of a sheet's whole records on a reel, one after the other, from one on that has room.
+fn lay_run(
+    f: u8,
+    b: usize,
+    lengths: &[u64],
+    bytes: &[u8],
+    c: Cursor,
+    v: Reel,
+    out: &mut [u8],
+    lay: bool,
+) -> Laying
+    requires { ⌜ Listable f b (now lengths) (now bytes) c (length (now out)) (v .at) lay ⌝ }
+    requires { ⌜ Ready v ⌝ }
+    ensures { λ x. ⌜ LaidSome f b (now (lengths .entry)) (now (bytes .entry)) c v (now (out .entry)) (now (out .exit)) x ⌝ }
+{
+    let mut x = Laying {
+        on: true,
+        cur: c,
+        reel: v,
+    };
+    while x.on {
+        let cur = x.cur;
+        let reel = x.reel;
+        x = lay_listed(f, b, lengths, bytes, cur, reel, out, lay);
+    }
+    let cur = x.cur;
+    let reel = x.reel;
+    Laying {
+        on: cur.live,
+        cur,
+        reel,
+    }
+}
+
+// Lays blocks on a reel that has room for one: a run of them where a sheet's records are told by their lengths, else one.
+fn lay_some(
+    f: u8,
+    b: usize,
+    lengths: &[u64],
+    bytes: &[u8],
+    c: Cursor,
+    v: Reel,
+    out: &mut [u8],
+) -> Laying
+    requires { ⌜ Fillable b (now lengths) (now bytes) c (v .at) ⌝ }
+    requires { ⌜ Ready v ⌝ }
+    ensures { λ x. ⌜ LaidSome f b (now (lengths .entry)) (now (bytes .entry)) c v (now (out .entry)) (now (out .exit)) x ⌝ }
+{
+    let size = out.len();
+    let lay = room_for(WORD + b, size, v.at);
+    if is_listed(f, c, lay, size, v.at) {
+        return lay_run(f, b, lengths, bytes, c, v, out, lay);
+    }
+    lay_here(f, b, lengths, bytes, c, v, out)
+}
+
+// Lays the next blocks of a file, one or more.
+fn lay_next(
     f: u8,
     b: usize,
     lengths: &[u64],
@@ -134,7 +244,7 @@ fn lay_block(
             reel: v,
         };
     }
-    lay_here(f, b, lengths, bytes, c, v, out)
+    lay_some(f, b, lengths, bytes, c, v, out)
 }
 
 // Lays the blocks of a file.
@@ -163,7 +273,7 @@ fn lay_blocks(
     while x.on {
         let cur = x.cur;
         let reel = x.reel;
-        x = lay_block(
+        x = lay_next(
             f,
             b,
             lengths,

@@ -8,24 +8,19 @@ ghost use Rattle.base.specs.If.{ifB};
 ghost use Rattle.base.specs.Part.{part, putAt};
 ghost use Rattle.writer.specs.Pack.{controlWord};
 ghost use Rattle.writer.specs.Source.{isWhole, Good, past, Opened};
-ghost use Rattle.writer.specs.Fills.{Fillable, Filled, isUnbroken, isTold, Takable, Layable, Ran, Passed, BlockPassed};
+ghost use Rattle.writer.specs.Fills.{Fillable, Filled, isUnbroken, isTold, Takable, Layable, Ran};
 use crate::out::copy_to;
 use crate::out::place_behind;
 use crate::source::Cursor;
 use crate::source::Moved;
 use crate::source::is_whole;
-use crate::source::next_of_sheet;
 use crate::source::next_whole;
 use crate::source::past;
 use crate::unit::has_room;
 use crate::unit::word_of;
 use base::FIXED;
 use base::VARIABLE;
-use base::part_of;
 use output::four_digits;
-
-// The bytes of a length word.
-const WORD: usize = 3;
 
 // Where a run of whole records is: the cursor, the bytes of the block that are used, and whether it goes on.
 pub struct Run {
@@ -56,32 +51,31 @@ pub(crate) fn is_told(f: u8, c: Cursor, lay: bool, size: usize, at: usize) -> bo
     false
 }
 
-// Whether a block is a run of a sheet's records for which nothing has room.
-pub(crate) fn is_listed(f: u8, c: Cursor, size: usize, at: usize) -> bool
-    ensures { λ r. ⌜ r ≡ ifB (c .image) false (isTold f c false size at) ⌝ }
-{
-    if c.image {
-        return false;
-    }
-    is_told(f, c, false, size, at)
-}
-
 // Writes a whole record, its control word before it, where it has room.
 fn put_record(f: u8, bytes: &[u8], from: usize, n: usize, out: &mut [u8], at: usize)
     requires { ⌜ Layable f (now bytes) from n (length (now out)) at true ⌝ }
     ensures { λ _. ⌜ now (out .exit) ≡ putAt (now (out .entry)) at (controlWord f 0 n ++ part from n (now (bytes .entry))) ⌝ }
 {
+    let end = from + n;
     if f == VARIABLE {
         let d = four_digits(n + 4);
         copy_to(out, at, &d);
-        copy_to(out, at + 4, part_of(bytes, from, n));
+        copy_to(out, at + 4, &bytes[from..end]);
     } else {
-        copy_to(out, at, part_of(bytes, from, n));
+        copy_to(out, at, &bytes[from..end]);
     }
 }
 
 // Writes a whole record if its block has room.
-fn lay_record(f: u8, bytes: &[u8], from: usize, n: usize, out: &mut [u8], at: usize, lay: bool)
+pub(crate) fn lay_record(
+    f: u8,
+    bytes: &[u8],
+    from: usize,
+    n: usize,
+    out: &mut [u8],
+    at: usize,
+    lay: bool,
+)
     requires { ⌜ Layable f (now bytes) from n (length (now out)) at lay ⌝ }
     ensures { λ _. ⌜ now (out .exit) ≡ ifB lay (putAt (now (out .entry)) at (controlWord f 0 n ++ part from n (now (bytes .entry)))) (now (out .entry)) ⌝ }
 {
@@ -155,61 +149,6 @@ pub(crate) fn take_records(
         let cur = t.cur;
         t = take_record(f, b, lengths, bytes, cur, t.used, out, start, lay);
     }
-    let cur = t.cur;
-    Moved {
-        at: place_behind(start, t.used),
-        cur,
-    }
-}
-
-// One turn of a run of a sheet's records for which nothing has room.
-fn pass_record(f: u8, b: usize, lengths: &[u64], bytes: &[u8], c: Cursor, u: usize) -> Run
-    requires { ⌜ Fillable b (now lengths) (now bytes) c 0 ⌝ }
-    requires { ⌜ isUnbroken f ≡ true ⌝ }
-    requires { ⌜ c .image ≡ false ⌝ }
-    ensures { λ r. ⌜ Passed f b (now (lengths .entry)) (now (bytes .entry)) u c r ⌝ }
-{
-    let n = c.left;
-    let word = word_of(f);
-    if has_room(b, u, word, n) {
-        let d = next_of_sheet(lengths, bytes, past(bytes, c, n));
-        return Run {
-            on: d.live,
-            cur: d,
-            used: u + word + n,
-        };
-    }
-    Run {
-        on: false,
-        cur: c,
-        used: u,
-    }
-}
-
-// Counts a data block of a sheet's records for which nothing has room.
-pub(crate) fn pass_block(
-    f: u8,
-    b: usize,
-    lengths: &[u64],
-    bytes: &[u8],
-    c: Cursor,
-    at: usize,
-) -> Moved
-    requires { ⌜ Fillable b (now lengths) (now bytes) c at ⌝ }
-    requires { ⌜ isUnbroken f ≡ true ⌝ }
-    requires { ⌜ c .image ≡ false ⌝ }
-    ensures { λ r. ⌜ BlockPassed f b (now (lengths .entry)) (now (bytes .entry)) c at r ⌝ }
-{
-    let mut t = Run {
-        on: true,
-        cur: c,
-        used: 0,
-    };
-    while t.on {
-        let cur = t.cur;
-        t = pass_record(f, b, lengths, bytes, cur, t.used);
-    }
-    let start = place_behind(at, WORD);
     let cur = t.cur;
     Moved {
         at: place_behind(start, t.used),

@@ -13,8 +13,8 @@ abbrev μ-loop : tie.MeasureT-loop
 loop-holds : tie.Need-loop-holds Inv-loop μ-loop
 loop-holds c = search laying
 
-lay-block-requires : tie.Need-lay-block-requires Inv-loop μ-loop
-lay-block-requires c κs = search laying
+lay-next-requires : tie.Need-lay-next-requires Inv-loop μ-loop
+lay-next-requires c κs = search laying
 
 loop-less : tie.Need-loop-less Inv-loop μ-loop
 loop-less c = search laying
@@ -35,7 +35,7 @@ lay-blocks-spec =
     Inv-loop
     μ-loop
     loop-holds
-    lay-block-requires
+    lay-next-requires
     loop-less
     loop-again
     same-length

@@ -1,6 +1,6 @@
 use Rattle.base.proofs.Rules.{ifs}
-use Rattle.writer.proofs.whole.is_listed.Statement.{statement}
-use Rattle.writer.proofs.whole.is_listed.Tie as tie
+use Rattle.writer.proofs.listed.is_listed.Statement.{statement}
+use Rattle.writer.proofs.listed.is_listed.Tie as tie
 
 returns : tie.Need-returns
 returns c = search ifs
