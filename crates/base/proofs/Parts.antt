@@ -86,6 +86,23 @@ put-put old at xs ys h =
     ∙ ap (λ (l : List ℕ). take at old ++ xs ++ ys ++ l) rest
     ∙ ap (λ (l : List ℕ). l ++ drop (at + length (xs ++ ys)) old) (append-assoc (take at old) xs ys)
 
+-- two puts, the second right before the first, are one
+pub put-before : (old : List ℕ) (at : ℕ) (xs ys : List ℕ) → at + length xs ≤ length old
+    → putAt (putAt old (at + length xs) ys) at xs ≡ putAt old at (xs ++ ys)
+unfolding putAt
+put-before old at xs ys h =
+    let put : List ℕ = take (at + length xs) old ++ ys ++ drop (at + length xs + length ys) old in
+    let behind : at + length xs + length ys ≡ at + length (xs ++ ys) = simp length-append (omega arith) in
+    let front : take at put ≡ take at old
+    = sym (take-take at (at + length xs) put (omega arith)) ∙ ap (take at) (take-put old (at + length xs) ys h) ∙ take-take at (at + length xs) old (omega arith) in
+    let rest : drop (at + length xs) put ≡ ys ++ drop (at + length xs + length ys) old
+    = ap (drop (at + length xs)) (append-assoc (take (at + length xs) old) ys _) ∙ drop-at (take (at + length xs) old) _ (at + length xs) (length-take-le (at + length xs) old h) in
+    ap (λ (l : List ℕ). l ++ xs ++ drop (at + length xs) put) front
+    ∙ ap (λ (l : List ℕ). take at old ++ xs ++ l) rest
+    ∙ sym (append-assoc (take at old ++ xs) ys _)
+    ∙ ap (λ (l : List ℕ). l ++ drop (at + length xs + length ys) old) (append-assoc (take at old) xs ys)
+    ∙ ap (λ (k : ℕ). take at old ++ (xs ++ ys) ++ drop k old) behind
+
 -- ---- the three ways in which `part_of` cuts a part
 
 pub part-past : (a n : ℕ) (s : List ℕ) → length s ≤ a → take (0 - 0) (drop 0 s) ≡ part a n s

@@ -1,13 +1,14 @@
 -- Writes into a lent buffer, one after the other. Assumes nothing.
 use mathlib.Core.Path.{_≡_, refl, sym, ap, _∙_, subst}
 use mathlib.Core.List.{List, [], _∷_, _++_}
-use Prim.Native.Nat.{ℕ, zero, suc, _+_, _-_, _≤_, _<_, min}
+use Prim.Native.Nat.{ℕ, zero, suc, _+_, _-_, _*_, _/_, _%_, _≤_, _<_, min}
 use native.Mathlib.Omega.{arith}
 use native.Mathlib.Numerals.{add-one}
 use borrow.Author.Needs.{needs}
 use lib.ListN.{length, take, drop, getD, set, length-append, length-set, drop-of-length-le}
 use lib.Seq.{drop-cons}
 use Rattle.base.specs.Part.{putAt}
+use Rattle.base.specs.Digits.{digits}
 use Rattle.base.proofs.Parts.{length-put, put-none, put-put}
 use Rattle.label.proofs.Put.{put-first}
 use Rattle.output.specs.Output.{Wrote, Written, refused, refusalOf, Answers}
@@ -46,6 +47,21 @@ pub copying-all : (old : List ℕ) (at : ℕ) (s out : List ℕ) (i : ℕ) → C
 copying-all old at s out i c h = sym (ap (putAt out (at + i)) (drop-of-length-le s h) ∙ put-none out (at + i)) ∙ c .left
 
 pub ruleset copying = (copying-none, copying-more, copying-all, needs)
+
+-- ---- digits
+
+-- the digits of a number below 10,000, found one from the other
+pub digits-of : (n k : ℕ) → k ≡ n % 10000
+    → (48 + k / 10 / 10 / 10) ∷ (48 + (k / 10 / 10 - k / 10 / 10 / 10 * 10)) ∷ (48 + (k / 10 - k / 10 / 10 * 10)) ∷ (48 + (k - k / 10 * 10)) ∷ [] ≡ digits 4 n
+unfolding digits
+digits-of n k e =
+    let first : k / 10 / 10 / 10 ≡ n / 10 / 10 / 10 % 10 = omega arith in
+    let second : k / 10 / 10 - k / 10 / 10 / 10 * 10 ≡ n / 10 / 10 % 10 = omega arith in
+    let third : k / 10 - k / 10 / 10 * 10 ≡ n / 10 % 10 = omega arith in
+    let fourth : k - k / 10 * 10 ≡ n % 10 = omega arith in
+    rw (fourth, third, second, first)
+
+pub ruleset figures = (digits-of, needs)
 
 -- ---- a write
 

@@ -82,17 +82,18 @@ pub fn put_bytes(out: &mut [u8], at: usize, s: &[u8], most: usize) -> usize
     end
 }
 
-// The last four digits of a number.
+// The last four digits of a number. They are found in 32 bits, one from the other, since a control word is written for each of millions of records.
 pub fn four_digits(n: usize) -> [u8; 4]
     ensures { λ r. ⌜ r ≡ digits 4 n ⌝ }
 {
-    let tens = n / 10;
+    let last = (n % 10000) as u32;
+    let tens = last / 10;
     let hundreds = tens / 10;
     let thousands = hundreds / 10;
     [
-        b'0' + (thousands % 10) as u8,
-        b'0' + (hundreds % 10) as u8,
-        b'0' + (tens % 10) as u8,
-        b'0' + (n % 10) as u8,
+        b'0' + thousands as u8,
+        b'0' + (hundreds - thousands * 10) as u8,
+        b'0' + (tens - hundreds * 10) as u8,
+        b'0' + (last - tens * 10) as u8,
     ]
 }

@@ -2,20 +2,22 @@
 use mathlib.Core.Path.{_≡_, refl, sym, ap, _∙_}
 use mathlib.Core.Bool.{Bool, true, false, not, false≢true}
 use mathlib.Core.List.{List, []}
-use Prim.Native.Nat.{ℕ, _+_, _≤_, _<_, min}
+use Prim.Native.Nat.{ℕ, _+_, _-_, _≤_, _<_, min}
 use native.Mathlib.Omega.{arith}
 use native.Mathlib.Numerals.{add-one}
 use borrow.Author.Needs.{needs}
 use borrow.Author.Tests.{eq-eqb, ne-eqb, le-leb, lt-leb, not-true, not-false}
+use mir.Val.{Fits}
+use mir.Syntax.{w64}
 use lib.Dec.{leb}
-use lib.ListN.{length, drop, getD, drop-of-length-le}
+use lib.ListN.{length, drop, getD, length-take, length-drop, drop-of-length-le}
 use lib.Seq.{drop-cons, drop-drop}
 use Rattle.base.specs.If.{ifB, if-true, if-false, if-case}
 use Rattle.base.specs.Part.{part, allAre}
 use Rattle.sheet.specs.Legal.{legalRecord, legalRecords}
 use Rattle.sheet.specs.Flat.{sum, cutBy}
 use Rattle.sheet.specs.Passing.{Behind}
-use Rattle.sheet.proofs.Cutting.{drop-past}
+use Rattle.sheet.proofs.Cutting.{drop-min, drop-past}
 use Rattle.sheet.proofs.Sums.{sum-at}
 
 -- ---- one record
@@ -51,6 +53,7 @@ pub ruleset records = (fixed-right, fixed-other, variable-long, variable-right, 
 
 pub record Cut (f r : ℕ) (ls s : List ℕ) (from at i : ℕ) : Type 0 where
   pub within : i ≤ length ls
+  pub place : at < 18446744073709551616
   pub left : legalRecords f r (cutBy (drop i ls) (drop at s)) ≡ legalRecords f r (cutBy ls (drop from s))
   pub behind : drop (sum (drop i ls)) (drop at s) ≡ drop (sum ls) (drop from s)
 
@@ -61,18 +64,35 @@ records-at : (f r : ℕ) (ls s : List ℕ) (at i : ℕ) → i < length ls
 unfolding legalRecords cutBy part
 records-at f r ls s at i h = rw (add-one, drop-cons ls i 0 h)
 
-pub cut-none : (f r : ℕ) (ls s : List ℕ) (from : ℕ) → Cut f r ls s from from 0
-cut-none f r ls s from = record { within = omega arith; left = refl; behind = refl }
+pub cut-none : (f r : ℕ) (ls s : List ℕ) (from : ℕ) → Fits w64 from → Cut f r ls s from from 0
+cut-none f r ls s from h = record { within = omega arith; place = h .fits; left = refl; behind = refl }
 
-pub cut-more : (f r : ℕ) (ls s : List ℕ) (from at i : ℕ) (p : Bool) (b : ℕ) → Cut f r ls s from at i → i < length ls
-    → p ≡ legalRecord f r (part at (getD ls i 0) s) → not p ≡ false → b ≡ min (at + getD ls i 0) (length s) → Cut f r ls s from b (i + 1)
-cut-more f r ls s from at i p b c h e n q =
-    let d : drop b s ≡ drop (getD ls i 0) (drop at s) = drop-past at (getD ls i 0) b s q in
+module _ (at n : ℕ) (s x : List ℕ) (q : x ≡ part at n s) where
+  long : length x ≡ min n (length s - at)
+  unfolding part
+  long = ap length q ∙ length-take n (drop at s) ∙ ap (min n) (length-drop at s)
+
+  -- what stands behind as many bytes as the part has
+  part-behind : drop (at + length x) s ≡ drop n (drop at s)
+  part-behind = sym (drop-min (at + length x) s) ∙ drop-past at n (min (at + length x) (length s)) s (omega (arith, long))
+
+  behind-small : at < 18446744073709551616 → length s < 18446744073709551616 → at + length x < 18446744073709551616
+  behind-small h k = omega (arith, long)
+
+pub behind-fits : (f r : ℕ) (ls s : List ℕ) (from at i : ℕ) (x : List ℕ) → Cut f r ls s from at i → x ≡ part at (getD ls i 0) s
+    → length s < 18446744073709551616 → Fits w64 (at + length x)
+behind-fits f r ls s from at i x c q h = record { fits = behind-small at (getD ls i 0) s x q (c .place) h }
+
+pub cut-more : (f r : ℕ) (ls s : List ℕ) (from at i : ℕ) (x : List ℕ) (p : Bool) → Cut f r ls s from at i → i < length ls
+    → x ≡ part at (getD ls i 0) s → p ≡ legalRecord f r x → not p ≡ false → length s < 18446744073709551616 → Cut f r ls s from (at + length x) (i + 1)
+cut-more f r ls s from at i x p c h q e n m =
+    let d : drop (at + length x) s ≡ drop (getD ls i 0) (drop at s) = part-behind at (getD ls i 0) s x q in
     record {
       within = omega arith;
+      place = behind-small at (getD ls i 0) s x q (c .place) m;
       left =
           ap (λ (t : List ℕ). legalRecords f r (cutBy (drop (i + 1) ls) t)) d
-          ∙ sym (records-at f r ls s at i h ∙ if-true _ _ _ (sym e ∙ not-false p n))
+          ∙ sym (records-at f r ls s at i h ∙ if-true _ _ _ (ap (legalRecord f r) (sym q) ∙ sym e ∙ not-false p n))
           ∙ c .left;
       behind =
           ap (drop (sum (drop (i + 1) ls))) d
@@ -81,12 +101,12 @@ cut-more f r ls s from at i p b c h e n q =
           ∙ c .behind;
     }
 
-pub cut-wrong : (f r : ℕ) (ls s : List ℕ) (from at i : ℕ) (p : Bool) → Cut f r ls s from at i → i < length ls
-    → p ≡ legalRecord f r (part at (getD ls i 0) s) → not p ≡ true
+pub cut-wrong : (f r : ℕ) (ls s : List ℕ) (from at i : ℕ) (x : List ℕ) (p : Bool) → Cut f r ls s from at i → i < length ls
+    → x ≡ part at (getD ls i 0) s → p ≡ legalRecord f r x → not p ≡ true
     → Behind (legalRecords f r (cutBy ls (drop from s))) ls s from (record { legal = false; at = at })
-cut-wrong f r ls s from at i p c h e n =
+cut-wrong f r ls s from at i x p c h q e n =
     record {
-      answer = sym (records-at f r ls s at i h ∙ if-false _ _ _ (sym e ∙ not-true p n)) ∙ c .left;
+      answer = sym (records-at f r ls s at i h ∙ if-false _ _ _ (ap (legalRecord f r) (sym q) ∙ sym e ∙ not-true p n)) ∙ c .left;
       place = λ q. absurd (false≢true q);
     }
 
@@ -100,4 +120,4 @@ cut-all f r ls s from at i c h =
       place = λ q. sym (ap (λ (l : List ℕ). drop (sum l) (drop at s)) e) ∙ c .behind;
     }
 
-pub ruleset cuts = (cut-none, cut-more, cut-wrong, cut-all, needs)
+pub ruleset cuts = (behind-fits, cut-none, cut-more, cut-wrong, cut-all, needs)

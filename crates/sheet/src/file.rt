@@ -1,7 +1,6 @@
 // The files on a sheet: their entries of 46 bytes and their records. It knows nothing of reels.
 ghost use mathlib.Core.Path.{_≡_};
 ghost use lib.ListN.{drop};
-ghost use Rattle.base.specs.Part.{part};
 ghost use Rattle.order.specs.Kind.{hdr};
 ghost use Rattle.label.specs.Name.{HDR1, HDR2};
 ghost use Rattle.label.specs.Judged.{labelFault};
@@ -126,13 +125,6 @@ fn is_legal_record(format: u8, size: u32, x: &[u8]) -> bool
     n <= most
 }
 
-// Whether the n bytes at a place are a legal record.
-fn is_legal_at(format: u8, size: u32, bytes: &[u8], at: usize, n: u64) -> bool
-    ensures { λ r. ⌜ r ≡ legalRecord format size (part at n (now (bytes .entry))) ⌝ }
-{
-    is_legal_record(format, size, part_of(bytes, at, n as usize))
-}
-
 // The records of these lengths from a place on.
 fn records_passed(format: u8, size: u32, lengths: &[u64], bytes: &[u8], from: usize) -> Passed
     ensures { λ r. ⌜ Behind (legalRecords format size (cutBy (now (lengths .entry)) (drop from (now (bytes .entry))))) (now (lengths .entry)) (now (bytes .entry)) from r ⌝ }
@@ -140,11 +132,11 @@ fn records_passed(format: u8, size: u32, lengths: &[u64], bytes: &[u8], from: us
     let mut at = from;
     let mut i = 0;
     while i < lengths.len() {
-        let n = lengths[i];
-        if !is_legal_at(format, size, bytes, at, n) {
+        let x = part_of(bytes, at, lengths[i] as usize);
+        if !is_legal_record(format, size, x) {
             return Passed { legal: false, at };
         }
-        at = past(at, n, bytes.len());
+        at += x.len();
         i += 1;
     }
     Passed { legal: true, at }

@@ -9,10 +9,9 @@ use borrow.Author.Tests.{eq-eqb, ne-eqb}
 use mir.Val.{Fits}
 use mir.Syntax.{w64}
 use lib.ListN.{length, take, drop, length-append}
-use lib.Seq.{length-take-le, take-take, drop-at}
 use Rattle.base.specs.If.{ifB, if-true, if-false, so-true}
 use Rattle.base.specs.Part.{putAt}
-use Rattle.base.proofs.Parts.{put-none, take-put}
+use Rattle.base.proofs.Parts.{put-none, put-before}
 use Rattle.image.specs.Item.{block, three, bytesOf, encode}
 use Rattle.writer.specs.declared.source.Cursor.{Cursor}
 use Rattle.writer.specs.declared.source.Moved.{Moved}
@@ -307,23 +306,6 @@ fillable-most b lengths bytes c at g = g .most
 pub ruleset filling = (turned-none, turned-turned, turned-fillable, turned-filled, turns-fall, fillable-most, needs)
 
 -- ---- the block's length, known behind it
-
--- two puts, the second right before the first, are one
-put-before : (old : List ℕ) (at : ℕ) (xs ys : List ℕ) → at + length xs ≤ length old
-    → putAt (putAt old (at + length xs) ys) at xs ≡ putAt old at (xs ++ ys)
-unfolding putAt
-put-before old at xs ys h =
-    let put : List ℕ = take (at + length xs) old ++ ys ++ drop (at + length xs + length ys) old in
-    let behind : at + length xs + length ys ≡ at + length (xs ++ ys) = simp length-append (omega arith) in
-    let front : take at put ≡ take at old
-    = sym (take-take at (at + length xs) put (omega arith)) ∙ ap (take at) (take-put old (at + length xs) ys h) ∙ take-take at (at + length xs) old (omega arith) in
-    let rest : drop (at + length xs) put ≡ ys ++ drop (at + length xs + length ys) old
-    = ap (drop (at + length xs)) (append-assoc (take (at + length xs) old) ys _) ∙ drop-at (take (at + length xs) old) _ (at + length xs) (length-take-le (at + length xs) old h) in
-    ap (λ (l : List ℕ). l ++ xs ++ drop (at + length xs) put) front
-    ∙ ap (λ (l : List ℕ). take at old ++ xs ++ l) rest
-    ∙ sym (append-assoc (take at old ++ xs) ys _)
-    ∙ ap (λ (l : List ℕ). l ++ drop (at + length xs + length ys) old) (append-assoc (take at old) xs ys)
-    ∙ ap (λ (k : ℕ). take at old ++ (xs ++ ys) ++ drop k old) behind
 
 -- the length from the places around it
 counted-between : (start end n : ℕ) → end ≡ min (start + n) overLong → end < overLong → end - start ≡ n

@@ -13,20 +13,23 @@ abbrev μ-loop : tie.MeasureT-loop
 loop-holds : tie.Need-loop-holds Inv-loop μ-loop
 loop-holds c = search cuts
 
-mul-n : tie.Need-mul-n Inv-loop μ-loop
-mul-n c = search cuts
+mul-part-of : tie.Need-mul-part-of Inv-loop μ-loop
+mul-part-of c = search cuts
 
-shared-slice-read-n : tie.Need-shared-slice-read-n Inv-loop μ-loop
-shared-slice-read-n c = search cuts
+shared-slice-read-part-of : tie.Need-shared-slice-read-part-of Inv-loop μ-loop
+shared-slice-read-part-of c = search cuts
 
-is-legal-at-requires : tie.Need-is-legal-at-requires Inv-loop μ-loop
-is-legal-at-requires c κs = search cuts
+part-of-requires : tie.Need-part-of-requires Inv-loop μ-loop
+part-of-requires c κs = search cuts
+
+is-legal-record-requires : tie.Need-is-legal-record-requires Inv-loop μ-loop
+is-legal-record-requires c κs = search cuts
 
 returns : tie.Need-returns Inv-loop μ-loop
 returns c = search cuts
 
-past-requires : tie.Need-past-requires Inv-loop μ-loop
-past-requires c κs = search cuts
+add-at : tie.Need-add-at Inv-loop μ-loop
+add-at c = search cuts
 
 add-i : tie.Need-add-i Inv-loop μ-loop
 add-i c = search cuts
@@ -47,11 +50,12 @@ records-passed-spec =
     Inv-loop
     μ-loop
     loop-holds
-    mul-n
-    shared-slice-read-n
-    is-legal-at-requires
+    mul-part-of
+    shared-slice-read-part-of
+    part-of-requires
+    is-legal-record-requires
     returns
-    past-requires
+    add-at
     add-i
     loop-less
     loop-again
