@@ -41,7 +41,8 @@ impl Both {
         Both { twins: Twins::new(most), scratch: vec![0; most], tally: Tally::default() }
     }
 
-    /// The answers with buffers of no bytes, one byte short, exact, and longer; the last one.
+    /// The answers with buffers of no bytes, one byte short, exact, longer, and with room for the
+    /// longest block behind the image, so that none of its blocks is short of room; the last one.
     #[track_caller]
     pub fn write(&mut self, order: &Order) -> Written {
         let sheet = order.sheet();
@@ -59,8 +60,8 @@ impl Both {
         let due = oracle(&mut self.scratch);
         self.tally.given += 1;
         let rooms = match due.len {
-            0 => [0, 1, 500, 5_000],
-            len => [0, len - 1, len, len + 33],
+            0 => [0, 1, 500, 5_000, 50_000],
+            len => [0, len - 1, len, len + 33, len + 100_002],
         };
         let mut last = due;
         for room in rooms.map(|room| room.min(self.scratch.len())) {
