@@ -155,9 +155,9 @@ module _ (f b u : ℕ) (lengths bytes : List ℕ) (c : Cursor) (at : ℕ) (g : F
     unit-in = subst (λ (j : ℕ). Wrote o at (unitOf f (c .begun) j (bytesAt bytes c)) p (m .at)) tak (d .wrote)
 
     -- a segment closes the block
-    pub turned-broken : k < c .left → Turning f b lengths bytes u c o at p (record { on = false; cur = m .cur; at = m .at; used = u })
+    pub turned-broken : (v : ℕ) → k < c .left → Turning f b lengths bytes u c o at p (record { on = false; cur = m .cur; at = m .at; used = v })
     unfolding fillAt afterAt leftAt
-    turned-broken less =
+    turned-broken v less =
         let part : taken f b u (length (bytesAt bytes c)) ≡ length (bytesAt bytes c) → ⊥ = λ z. omega (arith, tak, size) in
         record {
           turned =

@@ -1,4 +1,4 @@
--- Blocks of a sheet's whole records laid on a reel, one after the other, whatever follows. Assumes nothing.
+-- The blocks of a sheet laid on a reel, one after the other, whatever follows. Assumes nothing.
 use mathlib.Core.Path.{_≡_, refl, sym, ap, _∙_, subst}
 use mathlib.Core.Bool.{Bool, true, false, false≢true}
 use mathlib.Core.List.{List, []}
@@ -18,11 +18,10 @@ use Rattle.writer.specs.declared.reel.Laying.{Laying}
 use Rattle.writer.specs.Pack.{blocksLeft}
 use Rattle.writer.specs.Output.{overLong, hasRoom}
 use Rattle.writer.specs.Source.{leftAt}
-use Rattle.writer.specs.Fills.{Fillable, BlockPut, isTold, Takable, Listable}
+use Rattle.writer.specs.Fills.{Fillable, BlockPut, isListed, Listable}
 use Rattle.writer.specs.Reels.{Ready, oneMore, LaidHere, Passed, Passing, LaidSome, goesOn, tillSpent, LaidListed, Layable}
 use Rattle.writer.proofs.Packing.{by-test, blocks-finished}
 use Rattle.writer.proofs.Units.{both}
-use Rattle.writer.proofs.Wholes.{told-unbroken, told-none}
 use Rattle.writer.proofs.Runs.{same-source}
 use Rattle.writer.proofs.Reeling.{roomed-here, over-finished, laid-here, ready-room, ready-count, passed-block, passed-none, passed-passed, passed-layable, laid-some}
 
@@ -38,20 +37,19 @@ module _ (n size at : ℕ) (h : hasRoom n size at ≡ true) where
   unfolding hasRoom
   room-within = leb-true _ _ (and-second (ltb (at + n) overLong) (leb (at + n) size) h)
 
-pub listed-listable : (f b : ℕ) (lengths bytes : List ℕ) (c : Cursor) (size at : ℕ) (lay t : Bool) → t ≡ ifB (c .image) false (isTold f c lay size at) → t ≡ true
-    → Fillable b lengths bytes c at → lay ≡ hasRoom (3 + b) size at → Listable f b lengths bytes c size at lay
-listed-listable f b lengths bytes c size at lay t q h g e =
-    let listed : (c .image ≡ false) × (isTold f c lay size at ≡ true)
-    = if-case (λ (r : Bool). r ≡ true → (c .image ≡ false) × (isTold f c lay size at ≡ true)) (c .image) false _ (λ _ z. absurd (false≢true z)) (λ s z. (s, z))
+pub listed-listable : (b : ℕ) (lengths bytes : List ℕ) (c : Cursor) (size at : ℕ) (lay t : Bool) → t ≡ isListed c lay size at → t ≡ true
+    → Fillable b lengths bytes c at → lay ≡ hasRoom (3 + b) size at → Listable b lengths bytes c size at lay
+unfolding isListed
+listed-listable b lengths bytes c size at lay t q h g e =
+    let listed : (c .image ≡ false) × (ifB lay true (ltb size at) ≡ true)
+    = if-case (λ (r : Bool). r ≡ true → (c .image ≡ false) × (ifB lay true (ltb size at) ≡ true)) (c .image) false _ (λ _ z. absurd (false≢true z)) (λ s z. (s, z))
     (sym q ∙ h) in
-    let told : isTold f c lay size at ≡ true = listed .1 in
     record {
       fillable = g;
-      unbroken = told-unbroken f c lay size at true (sym told) refl;
       sheet = listed .0;
       short = λ l. room-short (3 + b) size at (sym e ∙ l);
       room = λ l. room-within (3 + b) size at (sym e ∙ l);
-      none = told-none f c lay size at true (sym told) refl;
+      none = λ l. ltb-true _ _ (sym (if-false _ _ _ l) ∙ listed .1);
     }
 
 pub word-fits : (b : ℕ) (lengths bytes : List ℕ) (c : Cursor) (at : ℕ) → Fillable b lengths bytes c at → Fits w64 (3 + b)
@@ -62,7 +60,7 @@ pub ruleset some = (listed-listable, word-fits, laid-some, needs)
 -- ---- one block
 
 module _ (f b : ℕ) (lengths bytes : List ℕ) (c : Cursor) (v : Reel) (lay : Bool) (o p : List ℕ) (d : Moved) (t : Bool)
-    (k : Listable f b lengths bytes c (length o) (v .at) lay) (y : BlockPut f b lengths bytes c o (v .at) p d) (e : t ≡ goesOn b (d .cur .live) (v .room - 1) (length p) (d .at) lay) where
+    (k : Listable b lengths bytes c (length o) (v .at) lay) (y : BlockPut f b lengths bytes c o (v .at) p d) (e : t ≡ goesOn b (d .cur .live) (v .room - 1) (length p) (d .at) lay) where
   module _ (h : t ≡ true) where
     on-rest : ifB (ltb 0 (v .room - 1)) (ifB lay (hasRoom (3 + b) (length p) (d .at)) true) false ≡ true
     unfolding goesOn
@@ -78,11 +76,10 @@ module _ (f b : ℕ) (lengths bytes : List ℕ) (c : Cursor) (v : Reel) (lay : B
     on-lay : lay ≡ true → hasRoom (3 + b) (length p) (d .at) ≡ true
     on-lay l = sym (if-true _ _ _ l) ∙ both (ltb 0 (v .room - 1)) _ (λ _ r. r) on-rest
 
-    on-next : Listable f b lengths bytes (d .cur) (length p) (d .at) lay
+    on-next : Listable b lengths bytes (d .cur) (length p) (d .at) lay
     on-next =
         record {
           fillable = record { good = y .good; live = on-live; most = k .fillable .most; place = omega (arith, y .wrote .place) };
-          unbroken = k .unbroken;
           sheet = same-source lengths bytes c (d .cur) (y .end) ∙ k .sheet;
           short = λ l. room-short (3 + b) (length p) (d .at) (on-lay l);
           room = λ l. room-within (3 + b) (length p) (d .at) (on-lay l);
@@ -92,8 +89,8 @@ module _ (f b : ℕ) (lengths bytes : List ℕ) (c : Cursor) (v : Reel) (lay : B
   pub laid-listed : LaidListed f b lengths bytes c v lay o p (record { on = t; cur = d .cur; reel = oneMore v (d .at) })
   laid-listed = record { here = laid-here f b lengths bytes c v o p d y; next = on-next; room = on-room }
 
-pub listable-most : (f b : ℕ) (lengths bytes : List ℕ) (c : Cursor) (size at : ℕ) (lay : Bool) → Listable f b lengths bytes c size at lay → b ≤ 99999
-listable-most f b lengths bytes c size at lay k = k .fillable .most
+pub listable-most : (b : ℕ) (lengths bytes : List ℕ) (c : Cursor) (size at : ℕ) (lay : Bool) → Listable b lengths bytes c size at lay → b ≤ 99999
+listable-most b lengths bytes c size at lay k = k .fillable .most
 
 pub ruleset one = (laid-listed, listable-most, ready-room, ready-count, needs)
 
@@ -109,10 +106,10 @@ pub record Running (f b : ℕ) (lengths bytes : List ℕ) (c : Cursor) (v : Reel
   pub strung : (quota : ℕ) (set e : List ℕ) (sequence : ℕ) (names : List ℕ) → Layable f b lengths bytes quota names c v
       → Strung f b lengths bytes quota set e sequence names c v o p x
   pub kept : length p ≡ length o
-  pub next : x .on ≡ true → Listable f b lengths bytes (x .cur) (length p) (x .reel .at) lay
+  pub next : x .on ≡ true → Listable b lengths bytes (x .cur) (length p) (x .reel .at) lay
   pub ready : x .on ≡ true → Ready (x .reel)
 
-pub running-none : (f b : ℕ) (lengths bytes : List ℕ) (c : Cursor) (v : Reel) (lay : Bool) (o : List ℕ) → Listable f b lengths bytes c (length o) (v .at) lay → Ready v
+pub running-none : (f b : ℕ) (lengths bytes : List ℕ) (c : Cursor) (v : Reel) (lay : Bool) (o : List ℕ) → Listable b lengths bytes c (length o) (v .at) lay → Ready v
     → Running f b lengths bytes c v lay o o (record { on = true; cur = c; reel = v })
 running-none f b lengths bytes c v lay o k y =
     record {
@@ -140,7 +137,7 @@ block-falls f b lengths bytes quota set e sequence names c v o p x m =
     omega (arith, m .some))
 
 module _ (f b : ℕ) (lengths bytes : List ℕ) (c : Cursor) (v : Reel) (lay : Bool) (o p : List ℕ) (x : Laying) (m : Running f b lengths bytes c v lay o p x) where
-  pub running-next : x .on ≡ true → Listable f b lengths bytes (x .cur) (length p) (x .reel .at) lay
+  pub running-next : x .on ≡ true → Listable b lengths bytes (x .cur) (length p) (x .reel .at) lay
   running-next on = m .next on
 
   pub running-ready : x .on ≡ true → Ready (x .reel)
@@ -149,7 +146,7 @@ module _ (f b : ℕ) (lengths bytes : List ℕ) (c : Cursor) (v : Reel) (lay : B
   pub running-more : (q : List ℕ) (y : Laying) → x .on ≡ true → LaidListed f b lengths bytes (x .cur) (x .reel) lay p q y
       → Running f b lengths bytes c v lay o q y
   running-more q y on d =
-      let k : Listable f b lengths bytes (x .cur) (length p) (x .reel .at) lay = m .next on in
+      let k : Listable b lengths bytes (x .cur) (length p) (x .reel .at) lay = m .next on in
       let r : Ready (x .reel) = m .ready on in
       record {
         strung =

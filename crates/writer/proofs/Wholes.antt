@@ -25,10 +25,10 @@ use Rattle.writer.specs.Pack.{enters, taken, indicatorOf, controlWord}
 use Rattle.writer.specs.Output.{Wrote, overLong, hasRoom}
 use Rattle.writer.specs.Source.{isWhole, bytesAt, laterAt, Good, Handed, Opened, past}
 use Rattle.writer.specs.Fills.{unitOf, UnitPut, Fillable, Turned, Turning, Filled, BlockPut, isUnbroken, isTold, Takable, Layable, turnOf, Ran}
-use Rattle.writer.proofs.Packing.{by-test, enters-whole, taken-whole}
+use Rattle.writer.proofs.Packing.{by-test, entered, enters-whole, taken-whole}
 use Rattle.writer.proofs.Units.{both, control-F, control-D, length-control}
-use Rattle.writer.proofs.Sources.{good-holds, sheet-whole, past-whole, past-front, past-handed}
-use Rattle.writer.proofs.Filling.{blocks, fillable-holds, turned-full, turned-on, turned-none, turned-turned, turned-filled, turnsLeft, turns-fall, length-three, block-void}
+use Rattle.writer.proofs.Sources.{good-holds, good-length, past-whole, past-front, past-handed}
+use Rattle.writer.proofs.Filling.{blocks, turned-full, turned-broken, turned-on, turned-none, turned-turned, turned-filled, turnsLeft, turns-fall}
 use Rattle.output.proofs.Writing.{wrote-put}
 
 -- ---- room
@@ -62,12 +62,11 @@ module _ (f : ℕ) (c : Cursor) (lay : Bool) (size at : ℕ) (t : Bool) (q : t �
   pub told-none : lay ≡ false → size < at
   told-none l = ltb-true _ _ (sym (if-false _ _ _ l) ∙ both (isWhole c) _ (λ _ r. r) told-rest)
 
-  pub told-takable : (b : ℕ) (lengths bytes : List ℕ) → Fillable b lengths bytes c at → lay ≡ hasRoom b size at → Takable f b lengths bytes c size at lay
+  pub told-takable : (b : ℕ) (lengths bytes : List ℕ) → Fillable b lengths bytes c at → lay ≡ hasRoom b size at → Takable b lengths bytes c size at lay
   unfolding hasRoom
   told-takable b lengths bytes g e =
       record {
         fillable = g;
-        unbroken = told-unbroken;
         whole = told-whole;
         short = λ l. ltb-true _ _ (and-first (ltb (at + b) overLong) (leb (at + b) size) (sym e ∙ l));
         room = λ l. leb-true _ _ (and-second (ltb (at + b) overLong) (leb (at + b) size) (sym e ∙ l));
@@ -94,7 +93,12 @@ control-any f i j k h =
 
 -- ---- a record written where it has room
 
-module _ (f : ℕ) (bytes : List ℕ) (from n : ℕ) (o : List ℕ) (at : ℕ) (k : Layable f bytes from n (length o) at true) where
+-- the code's `&bytes[from..from + n]`
+pub part-cut : (from n : ℕ) (bytes : List ℕ) → take (from + n - from) (drop from bytes) ≡ part from n bytes
+unfolding part
+part-cut from n bytes = let same : from + n - from ≡ n = omega arith in ap (λ (k : ℕ). take k (drop from bytes)) same
+
+module _ (f : ℕ) (bytes : List ℕ) (from n : ℕ) (o : List ℕ) (at : ℕ) (k : Layable f bytes from n (length o) at true) (u : isUnbroken f ≡ true) where
   pub word-room : (d : List ℕ) → f ≡ 68 → d ≡ digits 4 (n + 4) → at + length d ≤ length o
   word-room d e h = let four : length d ≡ 4 = ap length h ∙ length-digits 4 (n + 4) in omega (arith, word-variable f e, k .room refl)
 
@@ -104,20 +108,18 @@ module _ (f : ℕ) (bytes : List ℕ) (from n : ℕ) (o : List ℕ) (at : ℕ) (
   abbrev s : List ℕ
   s = take (from + n - from) (drop from bytes)
 
-  -- the code's `&bytes[from..from + n]`
   cut : s ≡ part from n bytes
-  unfolding part
-  cut = let same : from + n - from ≡ n = omega arith in ap (λ (k : ℕ). take k (drop from bytes)) same
+  cut = part-cut from n bytes
 
   long : length s ≡ n
   long = ap length cut ∙ length-part from n bytes (k .inside)
 
   pub fixed-room : (f ≡ 68 → ⊥) → at + length s ≤ length o
-  fixed-room d = omega (arith, long, word-fixed f (unbroken-fixed f (k .unbroken) d), k .room refl)
+  fixed-room d = omega (arith, long, word-fixed f (unbroken-fixed f u d), k .room refl)
 
   pub fixed-put : (p : List ℕ) → (f ≡ 68 → ⊥) → p ≡ putAt o at s → p ≡ putAt o at (controlWord f 0 n ++ part from n bytes)
   fixed-put p d e =
-      e ∙ ap (putAt o at) cut ∙ sym (ap (λ (w : List ℕ). putAt o at (w ++ part from n bytes)) (control-F f 0 n (unbroken-fixed f (k .unbroken) d)))
+      e ∙ ap (putAt o at) cut ∙ sym (ap (λ (w : List ℕ). putAt o at (w ++ part from n bytes)) (control-F f 0 n (unbroken-fixed f u d)))
 
   module _ (e : f ≡ 68) (d : List ℕ) (h : d ≡ digits 4 (n + 4)) (p : List ℕ) (x : p ≡ putAt o at d) where
     pub variable-room : at + 4 + length s ≤ length p
@@ -156,14 +158,8 @@ module _ (lengths bytes : List ℕ) (c : Cursor) (g : Good lengths bytes c) (v :
   pub whole-few : c .left ≤ c .here
   whole-few = omega (arith, g .holds .whole v)
 
-  whole-inside : c .at + c .left ≤ length bytes
-  whole-inside = omega (arith, whole-few, g .holds .inside)
-
   whole-handed : Handed bytes c (c .left) (past c (c .left))
   whole-handed = past-handed bytes c (c .left) (g .holds) whole-few (omega arith)
-
-  whole-front : take (c .left) (bytesAt bytes c) ≡ part (c .at) (c .left) bytes
-  whole-front = past-front bytes c (c .left) (g .holds) whole-few (omega arith)
 
   pub whole-good : (y : Cursor) → y ≡ past c (c .left) → Good lengths bytes y
   whole-good y e = subst (Good lengths bytes) (sym e) (whole-handed .good lengths g)
@@ -178,6 +174,120 @@ pub ruleset nexts = (whole-few, whole-good, past-spent, past-opened, good-holds,
 
 -- ---- a turn of a run
 
+-- any bytes of a record that is one segment stand together
+module _ (lengths bytes : List ℕ) (c : Cursor) (g : Good lengths bytes c) (v : isWhole c ≡ true) (n : ℕ) (l : n ≤ c .left) where
+  pub part-few : n ≤ c .here
+  part-few = omega (arith, g .holds .whole v)
+
+  pub part-inside : c .at + n ≤ length bytes
+  part-inside = omega (arith, part-few, g .holds .inside)
+
+  part-handed : Handed bytes c n (past c n)
+  part-handed = past-handed bytes c n (g .holds) part-few l
+
+  part-front : take n (bytesAt bytes c) ≡ part (c .at) n bytes
+  part-front = past-front bytes c n (g .holds) part-few l
+
+-- the open record does not enter
+pub ran-none : (f b u : ℕ) (lengths bytes : List ℕ) (c : Cursor) (o : List ℕ) (start : ℕ) (lay t : Bool) → Takable b lengths bytes c (length o) start lay
+    → t ≡ enters f b u (c .left) → t ≡ false → Ran f b lengths bytes u c o start o (record { on = false; cur = c; used = u })
+ran-none f b u lengths bytes c o start lay t k q h =
+    let g : Fillable b lengths bytes c (min (start + u) overLong)
+    = record { good = k .fillable .good; live = k .fillable .live; most = k .fillable .most; place = omega arith } in
+    record { turning = turned-full f b u lengths bytes c (min (start + u) overLong) g o t q h; whole = k .whole }
+
+-- n bytes of it enter
+module _ (f b u : ℕ) (lengths bytes : List ℕ) (c : Cursor) (o : List ℕ) (start : ℕ) (lay : Bool) (k : Takable b lengths bytes c (length o) start lay)
+    (e : enters f b u (c .left) ≡ true) (n : ℕ) (h : n ≡ taken f b u (c .left)) where
+  most : n ≤ c .left
+  most = omega (arith, entered f b u (c .left) e .most)
+
+  enough : u + wordOf f + n ≤ b
+  enough = omega (arith, entered f b u (c .left) e .within)
+
+  pub unit-layable : Layable f bytes (c .at) n (length o) (start + u) lay
+  unit-layable =
+      record {
+        inside = part-inside lengths bytes c (k .fillable .good) (k .whole) n most;
+        small = omega (arith, enough, k .fillable .most);
+        short = λ l. let short = k .short l in omega (arith, enough);
+        room = λ l. let room = k .room l in omega (arith, enough);
+      }
+
+  pub unit-fits : Fits w64 (start + u)
+  unit-fits = record { fits = omega (arith, enough, k .fillable .most, k .fillable .place) }
+
+  -- they were written behind their control word, or nothing has room
+  module _ (w : ℕ) (word : w ≡ wordOf f) (i : ℕ) (same : controlWord f i n ≡ controlWord f (indicatorOf (c .begun) n (c .left)) n) (p : List ℕ)
+      (z : p ≡ ifB lay (putAt o (start + u) (controlWord f i n ++ part (c .at) n bytes)) o) where
+    abbrev place : ℕ
+    place = min (start + u) overLong
+
+    abbrev behind : ℕ
+    behind = min (start + (u + w + n)) overLong
+
+    abbrev unit : List ℕ
+    unit = unitOf f (c .begun) n (bytesAt bytes c)
+
+    unit-bytes : unit ≡ controlWord f i n ++ part (c .at) n bytes
+    unit-bytes =
+        ap (λ (m : ℕ). controlWord f (indicatorOf (c .begun) n m) n ++ take n (bytesAt bytes c)) (good-length lengths bytes c (k .fillable .good))
+        ∙ ap (λ (s : List ℕ). s ++ take n (bytesAt bytes c)) (sym same)
+        ∙ ap (λ (s : List ℕ). controlWord f i n ++ s) (part-front lengths bytes c (k .fillable .good) (k .whole) n most)
+
+    unit-long : length unit ≡ w + n
+    unit-long =
+        ap length unit-bytes
+        ∙ length-append (controlWord f i n) (part (c .at) n bytes)
+        ∙ ap (λ (m : ℕ). m + length (part (c .at) n bytes)) (length-control f i n ∙ sym word)
+        ∙ ap (λ (m : ℕ). w + m) (length-part (c .at) n bytes (part-inside lengths bytes c (k .fillable .good) (k .whole) n most))
+
+    behind-is : behind ≡ min (place + length unit) overLong
+    behind-is = omega (arith, unit-long)
+
+    written : lay ≡ true → Wrote o place unit p behind
+    written l =
+        let short = k .short l in
+        let room = k .room l in
+        let here : start + u ≡ place = omega (arith, enough) in
+        wrote-put o place unit p behind behind-is (omega (arith, enough)) (omega (arith, enough))
+        (z ∙ if-true _ _ _ l ∙ ap (λ (j : ℕ). putAt o j (controlWord f i n ++ part (c .at) n bytes)) here ∙ ap (putAt o place) (sym unit-bytes))
+
+    void : lay ≡ false → Wrote o place unit p behind
+    void l =
+        let none = k .none l in
+        subst (λ (s : List ℕ). Wrote o place unit s behind) (sym (z ∙ if-false _ _ _ l))
+        (record { kept = refl; place = behind-is; done = λ x y. absurd (omega arith) })
+
+    fillable : Fillable b lengths bytes c place
+    fillable = record { good = k .fillable .good; live = k .fillable .live; most = k .fillable .most; place = omega arith }
+
+    unit-put : UnitPut f bytes c n o place p (record { at = behind; cur = past c n })
+    unit-put = record { wrote = by-test lay written void; handed = part-handed lengths bytes c (k .fillable .good) (k .whole) n most }
+
+    -- a part of the record closes the block
+    pub ran-broken : (y : Cursor) → n < c .left → y ≡ past c n → Ran f b lengths bytes u c o start p (record { on = false; cur = y; used = u + w + n })
+    ran-broken y less q =
+        subst (λ (d : Cursor). Ran f b lengths bytes u c o start p (record { on = false; cur = d; used = u + w + n })) (sym q)
+        (record {
+          turning =
+              turned-broken f b u lengths bytes c place fillable e n h o p (record { at = behind; cur = past c n }) unit-put (u + w + n) less;
+          whole = past-whole c n ∙ k .whole;
+        })
+
+    -- all of it, and the next one is opened
+    pub ran-on : (d : Cursor) → c .left ≤ n → Opened lengths bytes (past c (c .left)) d
+        → Ran f b lengths bytes u c o start p (record { on = d .live; cur = d; used = u + w + n })
+    ran-on d more op =
+        let all : c .left ≡ n = omega (arith, most) in
+        let next : Opened lengths bytes (past c n) d = subst (λ (j : ℕ). Opened lengths bytes (past c j) d) all op in
+        record {
+          turning = turned-on f b u lengths bytes c place fillable e n h o p (record { at = behind; cur = past c n }) unit-put d w more next word;
+          whole = next .whole ∙ past-whole c n ∙ k .whole;
+        }
+
+-- ---- a turn of a run of whole records
+
 -- the open record enters
 module _ (b u w : ℕ) (lengths bytes : List ℕ) (c : Cursor) (a : ℕ) (g : Fillable b lengths bytes c a) (t : Bool) (told : t ≡ leb (u + w + c .left) b) (h : t ≡ true) where
   within : u + w + c .left ≤ b
@@ -189,111 +299,42 @@ module _ (b u w : ℕ) (lengths bytes : List ℕ) (c : Cursor) (a : ℕ) (g : Fi
   pub whole-fits : Fits w64 (u + w + c .left)
   whole-fits = record { fits = omega (arith, within, g .most) }
 
-module _ (f b u : ℕ) (lengths bytes : List ℕ) (c : Cursor) (a start w : ℕ) (g : Fillable b lengths bytes c a) (x : isUnbroken f ≡ true) (v : isWhole c ≡ true)
-    (word : w ≡ wordOf f) (t : Bool) (told : t ≡ leb (u + w + c .left) b) where
-  abbrev place : ℕ
-  place = min (start + u) overLong
-
-  abbrev behind : ℕ
-  behind = min (start + (u + w + c .left)) overLong
-
-  fillable : Fillable b lengths bytes c place
-  fillable = record { good = g .good; live = g .live; most = g .most; place = omega arith }
-
+module _ (f b u : ℕ) (lengths bytes : List ℕ) (c : Cursor) (o : List ℕ) (start : ℕ) (lay : Bool) (k : Takable b lengths bytes c (length o) start lay)
+    (x : isUnbroken f ≡ true) (w : ℕ) (word : w ≡ wordOf f) (t : Bool) (told : t ≡ leb (u + w + c .left) b) where
   entered-as : t ≡ enters f b u (c .left)
-  entered-as = told ∙ ap (λ (k : ℕ). leb (u + k + c .left) b) word ∙ sym (enters-whole f b u (c .left) (not-segmented f x))
+  entered-as = told ∙ ap (λ (j : ℕ). leb (u + j + c .left) b) word ∙ sym (enters-whole f b u (c .left) (not-segmented f x))
 
-  run-full : (o : List ℕ) → t ≡ false → Ran f b lengths bytes u c o start o (record { on = false; cur = c; used = u })
-  run-full o h = record { turning = turned-full f b u lengths bytes c place fillable o t entered-as h; whole = v }
-
-  unit-bytes : unitOf f (c .begun) (c .left) (bytesAt bytes c) ≡ controlWord f 0 (c .left) ++ part (c .at) (c .left) bytes
-  unit-bytes =
-      ap (λ (s : List ℕ). s ++ take (c .left) (bytesAt bytes c)) (control-any f _ 0 (c .left) x)
-      ∙ ap (λ (s : List ℕ). controlWord f 0 (c .left) ++ s) (whole-front lengths bytes c (g .good) v)
-
-  unit-long : length (unitOf f (c .begun) (c .left) (bytesAt bytes c)) ≡ w + c .left
-  unit-long =
-      ap length unit-bytes
-      ∙ length-append (controlWord f 0 (c .left)) (part (c .at) (c .left) bytes)
-      ∙ ap (λ (k : ℕ). k + length (part (c .at) (c .left) bytes)) (length-control f 0 (c .left) ∙ sym word)
-      ∙ ap (λ (k : ℕ). w + k) (length-part (c .at) (c .left) bytes (whole-inside lengths bytes c (g .good) v))
-
-  behind-is : behind ≡ min (place + length (unitOf f (c .begun) (c .left) (bytesAt bytes c))) overLong
-  behind-is = omega (arith, unit-long)
-
-  module _ (h : t ≡ true) (d : Cursor) (op : Opened lengths bytes (past c (c .left)) d) where
-    -- however the record was written, the next one is opened
-    run-on : (o p : List ℕ) → Wrote o place (unitOf f (c .begun) (c .left) (bytesAt bytes c)) p behind
-        → Ran f b lengths bytes u c o start p (record { on = d .live; cur = d; used = u + w + c .left })
-    run-on o p z =
-        record {
-          turning =
-              turned-on f b u lengths bytes c place fillable (sym entered-as ∙ h) (c .left) (sym (taken-whole f b u (c .left) (not-segmented f x))) o p
-              (record { at = behind; cur = past c (c .left) }) (record { wrote = z; handed = whole-handed lengths bytes c (g .good) v }) d w (omega arith) op word;
-          whole = op .whole ∙ past-whole c (c .left) ∙ v;
-        }
-
-    -- nothing has room
-    run-void : (o : List ℕ) → length o < start → Ran f b lengths bytes u c o start o (record { on = d .live; cur = d; used = u + w + c .left })
-    run-void o none = run-on o o (record { kept = refl; place = behind-is; done = λ l k. absurd (omega arith) })
-
-module _ (f b u : ℕ) (lengths bytes : List ℕ) (c : Cursor) (o : List ℕ) (start : ℕ) (lay : Bool) (k : Takable f b lengths bytes c (length o) start lay) (w : ℕ)
-    (word : w ≡ wordOf f) (t : Bool) (told : t ≡ leb (u + w + c .left) b) where
-  -- the open record does not enter
   pub ran-full : t ≡ false → Ran f b lengths bytes u c o start o (record { on = false; cur = c; used = u })
-  ran-full h = run-full f b u lengths bytes c start start w (k .fillable) (k .unbroken) (k .whole) word t told o h
+  ran-full h = ran-none f b u lengths bytes c o start lay t k entered-as h
 
   module _ (h : t ≡ true) where
-    enough : u + w + c .left ≤ b
-    enough = within b u w lengths bytes c start (k .fillable) t told h
+    enters-here : enters f b u (c .left) ≡ true
+    enters-here = sym entered-as ∙ h
+
+    all-taken : c .left ≡ taken f b u (c .left)
+    all-taken = sym (taken-whole f b u (c .left) (not-segmented f x))
 
     pub ran-fits : Fits w64 (start + u)
-    ran-fits = record { fits = omega (arith, enough, k .fillable .most, k .fillable .place) }
+    ran-fits = unit-fits f b u lengths bytes c o start lay k enters-here (c .left) all-taken
 
     pub ran-layable : Layable f bytes (c .at) (c .left) (length o) (start + u) lay
-    ran-layable =
-        record {
-          unbroken = k .unbroken;
-          inside = whole-inside lengths bytes c (k .fillable .good) (k .whole);
-          small = omega (arith, enough, k .fillable .most);
-          short = λ l. let short = k .short l in omega (arith, enough);
-          room = λ l. let room = k .room l in omega (arith, enough);
-        }
+    ran-layable = unit-layable f b u lengths bytes c o start lay k enters-here (c .left) all-taken
 
     -- the record was written, or nothing has room
     pub ran-laid : (p : List ℕ) (d : Cursor) → p ≡ ifB lay (putAt o (start + u) (controlWord f 0 (c .left) ++ part (c .at) (c .left) bytes)) o
         → Opened lengths bytes (past c (c .left)) d → Ran f b lengths bytes u c o start p (record { on = d .live; cur = d; used = u + w + c .left })
-    ran-laid p d z op = by-test lay written void
-      where
-        written : lay ≡ true → Ran f b lengths bytes u c o start p (record { on = d .live; cur = d; used = u + w + c .left })
-        written l =
-            let short = k .short l in
-            let room = k .room l in
-            let here : start + u ≡ min (start + u) overLong = omega (arith, enough) in
-            let bytes-are : unitOf f (c .begun) (c .left) (bytesAt bytes c) ≡ controlWord f 0 (c .left) ++ part (c .at) (c .left) bytes
-            = unit-bytes f b u lengths bytes c start start w (k .fillable) (k .unbroken) (k .whole) word t told in
-            run-on f b u lengths bytes c start start w (k .fillable) (k .unbroken) (k .whole) word t told h d op o p
-            (wrote-put o (min (start + u) overLong) (unitOf f (c .begun) (c .left) (bytesAt bytes c)) p (min (start + (u + w + c .left)) overLong)
-            (behind-is f b u lengths bytes c start start w (k .fillable) (k .unbroken) (k .whole) word t told) (omega (arith, enough)) (omega (arith, enough))
-            (z
-            ∙ if-true _ _ _ l
-            ∙ ap (λ (i : ℕ). putAt o i (controlWord f 0 (c .left) ++ part (c .at) (c .left) bytes)) here
-            ∙ ap (putAt o (min (start + u) overLong)) (sym bytes-are)))
+    ran-laid p d z op =
+        ran-on f b u lengths bytes c o start lay k enters-here (c .left) all-taken w word 0 (control-any f 0 _ (c .left) x) p z d (omega arith) op
 
-        void : lay ≡ false → Ran f b lengths bytes u c o start p (record { on = d .live; cur = d; used = u + w + c .left })
-        void l =
-            subst (λ (s : List ℕ). Ran f b lengths bytes u c o start s (record { on = d .live; cur = d; used = u + w + c .left })) (sym (z ∙ if-false _ _ _ l))
-            (run-void f b u lengths bytes c start start w (k .fillable) (k .unbroken) (k .whole) word t told h d op o (k .none l))
+pub takable-good : (b : ℕ) (lengths bytes : List ℕ) (c : Cursor) (size start : ℕ) (lay : Bool) → Takable b lengths bytes c size start lay → Good lengths bytes c
+takable-good b lengths bytes c size start lay k = k .fillable .good
 
-pub takable-good : (f b : ℕ) (lengths bytes : List ℕ) (c : Cursor) (size start : ℕ) (lay : Bool) → Takable f b lengths bytes c size start lay → Good lengths bytes c
-takable-good f b lengths bytes c size start lay k = k .fillable .good
+pub takable-whole : (b : ℕ) (lengths bytes : List ℕ) (c : Cursor) (size start : ℕ) (lay : Bool) → Takable b lengths bytes c size start lay → isWhole c ≡ true
+takable-whole b lengths bytes c size start lay k = k .whole
 
-pub takable-whole : (f b : ℕ) (lengths bytes : List ℕ) (c : Cursor) (size start : ℕ) (lay : Bool) → Takable f b lengths bytes c size start lay → isWhole c ≡ true
-takable-whole f b lengths bytes c size start lay k = k .whole
-
-pub takable-fillable : (f b : ℕ) (lengths bytes : List ℕ) (c : Cursor) (size start : ℕ) (lay : Bool) → Takable f b lengths bytes c size start lay
+pub takable-fillable : (b : ℕ) (lengths bytes : List ℕ) (c : Cursor) (size start : ℕ) (lay : Bool) → Takable b lengths bytes c size start lay
     → Fillable b lengths bytes c start
-takable-fillable f b lengths bytes c size start lay k = k .fillable
+takable-fillable b lengths bytes c size start lay k = k .fillable
 
 pub ruleset runs = (takable-good, takable-whole, takable-fillable, whole-word-fits, whole-fits, ran-fits, ran-layable, ran-full, ran-laid, needs)
 
@@ -302,7 +343,7 @@ pub ruleset runs = (takable-good, takable-whole, takable-fillable, whole-word-fi
 -- from cursor c, buffer o and place `start` on, to a run and buffer p
 pub record Running (f b : ℕ) (lengths bytes : List ℕ) (c : Cursor) (o : List ℕ) (start : ℕ) (lay : Bool) (p : List ℕ) (r : Run) : Type 0 where
   pub turned : Turned f b lengths bytes 0 c o start p (turnOf start r)
-  pub takable : r .on ≡ true → Takable f b lengths bytes (r .cur) (length p) start lay
+  pub takable : r .on ≡ true → Takable b lengths bytes (r .cur) (length p) start lay
 
 -- a run that has not begun
 run-none : (f b : ℕ) (lengths bytes : List ℕ) (c : Cursor) (o : List ℕ) (start : ℕ) → Fillable b lengths bytes c start
@@ -311,17 +352,17 @@ run-none f b lengths bytes c o start g =
     let here : start ≡ min (start + 0) overLong = omega (arith, g .place) in
     subst (λ (k : ℕ). Turned f b lengths bytes 0 c o start o (record { on = true; cur = c; at = k; used = 0 })) here (turned-none f b lengths bytes c o start g)
 
-pub running-none : (f b : ℕ) (lengths bytes : List ℕ) (c : Cursor) (o : List ℕ) (start : ℕ) (lay : Bool) → Takable f b lengths bytes c (length o) start lay
+pub running-none : (f b : ℕ) (lengths bytes : List ℕ) (c : Cursor) (o : List ℕ) (start : ℕ) (lay : Bool) → Takable b lengths bytes c (length o) start lay
     → Running f b lengths bytes c o start lay o (record { on = true; cur = c; used = 0 })
 running-none f b lengths bytes c o start lay k = record { turned = run-none f b lengths bytes c o start (k .fillable); takable = λ _. k }
 
 module _ (f b : ℕ) (lengths bytes : List ℕ) (c : Cursor) (o : List ℕ) (start : ℕ) (lay : Bool) (p : List ℕ) (t : Run) (x : Running f b lengths bytes c o start lay p t) where
-  pub running-takable : t .on ≡ true → Takable f b lengths bytes (t .cur) (length p) start lay
+  pub running-takable : t .on ≡ true → Takable b lengths bytes (t .cur) (length p) start lay
   running-takable on = x .takable on
 
   pub running-more : (q : List ℕ) (v : Run) → t .on ≡ true → Ran f b lengths bytes (t .used) (t .cur) p start q v → Running f b lengths bytes c o start lay q v
   running-more q v on y =
-      let k : Takable f b lengths bytes (t .cur) (length p) start lay = x .takable on in
+      let k : Takable b lengths bytes (t .cur) (length p) start lay = x .takable on in
       let n : Turned f b lengths bytes (t .used) (t .cur) p (min (start + t .used) overLong) q (turnOf start v) = y .turning .turned in
       record {
         turned = turned-turned f b 0 lengths bytes c o start p (turnOf start t) q (turnOf start v) (x .turned) on (y .turning);
@@ -329,7 +370,6 @@ module _ (f b : ℕ) (lengths bytes : List ℕ) (c : Cursor) (o : List ℕ) (sta
             λ z.
             record {
               fillable = record { good = n .good; live = n .live z; most = k .fillable .most; place = k .fillable .place };
-              unbroken = k .unbroken;
               whole = y .whole;
               short = k .short;
               room = λ l. let r = k .room l in omega (arith, n .kept);
@@ -356,4 +396,4 @@ runs-fall f b lengths bytes o start t p v on y = turns-fall f b lengths bytes o 
 
 pub ruleset running = (running-none, running-takable, running-more, running-filled, running-kept, runs-fall, needs)
 
-pub ruleset told = (told-takable, blocks)
+pub ruleset told = (told-takable, told-unbroken, blocks)

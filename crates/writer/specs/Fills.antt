@@ -81,24 +81,22 @@ isUnbroken f = ifB (eqb f F) true (eqb f D)
 unfoldable pub isTold : ℕ → Cursor → Bool → ℕ → ℕ → Bool
 isTold f c lay size a = ifB (isUnbroken f) (ifB (isWhole c) (ifB lay true (ltb size a)) false) false
 
--- where such a block may get its next record
-pub record Takable (f b : ℕ) (lengths bytes : List ℕ) (c : Cursor) (size start : ℕ) (lay : Bool) : Type 0 where
+-- where a block that starts there may get its next unit from a record that is one segment
+pub record Takable (b : ℕ) (lengths bytes : List ℕ) (c : Cursor) (size start : ℕ) (lay : Bool) : Type 0 where
   pub fillable : Fillable b lengths bytes c start
-  pub unbroken : isUnbroken f ≡ true
   pub whole : isWhole c ≡ true
   pub short : lay ≡ true → start + b < overLong
   pub room : lay ≡ true → start + b ≤ size
   pub none : lay ≡ false → size < start
 
--- where a whole record of n bytes may be written, if its block has room
+-- where a unit of n bytes may be written, if its block has room
 pub record Layable (f : ℕ) (bytes : List ℕ) (from n size at : ℕ) (lay : Bool) : Type 0 where
-  pub unbroken : isUnbroken f ≡ true
   pub inside : from + n ≤ length bytes
   pub small : n ≤ 99999
   pub short : lay ≡ true → at + wordOf f + n < overLong
   pub room : lay ≡ true → at + wordOf f + n ≤ size
 
--- a run of whole records, in a block that starts at that place, as a turn
+-- a run of units, in a block that starts at that place, as a turn
 abbrev pub turnOf : ℕ → Run → Turn
 turnOf start r = record { cur = r .cur; at = min (start + r .used) overLong; used = r .used; on = r .on }
 
@@ -111,10 +109,15 @@ pub record Ran (f b : ℕ) (lengths bytes : List ℕ) (u : ℕ) (c : Cursor) (o 
 abbrev pub movedOf : ℕ → Run → Moved
 movedOf start r = record { at = min (start + r .used) overLong; cur = r .cur }
 
--- where a block of a sheet's whole records may be written, led by its length: all of it has room (lay) or nothing has
-pub record Listable (f b : ℕ) (lengths bytes : List ℕ) (c : Cursor) (size at : ℕ) (lay : Bool) : Type 0 where
+-- ---- the blocks of a sheet
+
+-- in a buffer of that size all of a sheet's block from place a on has room (lay), or nothing has
+unfoldable pub isListed : Cursor → Bool → ℕ → ℕ → Bool
+isListed c lay size a = ifB (c .image) false (ifB lay true (ltb size a))
+
+-- where a block of a sheet may be written, led by its length
+pub record Listable (b : ℕ) (lengths bytes : List ℕ) (c : Cursor) (size at : ℕ) (lay : Bool) : Type 0 where
   pub fillable : Fillable b lengths bytes c at
-  pub unbroken : isUnbroken f ≡ true
   pub sheet : c .image ≡ false
   pub short : lay ≡ true → at + (3 + b) < overLong
   pub room : lay ≡ true → at + (3 + b) ≤ size

@@ -114,7 +114,7 @@ pub record LaidSome (f b : ℕ) (lengths bytes : List ℕ) (c : Cursor) (v : Ree
   pub some : (quota : ℕ) (set e : List ℕ) (sequence : ℕ) (names : List ℕ) → Layable f b lengths bytes quota names c v
       → Passing f b lengths bytes quota set e sequence names c v o p x
 
--- another block of a sheet's whole records can be laid, with room for so many on the reel
+-- another block of a sheet can be laid, with room for so many on the reel
 unfoldable pub goesOn : ℕ → Bool → ℕ → ℕ → ℕ → Bool → Bool
 goesOn b live room size at lay = ifB live (ifB (ltb 0 room) (ifB lay (hasRoom (3 + b) size at) true) false) false
 
@@ -122,10 +122,10 @@ goesOn b live room size at lay = ifB live (ifB (ltb 0 room) (ifB lay (hasRoom (3
 abbrev pub tillSpent : Laying → Laying
 tillSpent x = record { on = x .cur .live; cur = x .cur; reel = x .reel }
 
--- a block of a sheet's whole records was laid on reel v; where x is on, another one can be
+-- a block of a sheet was laid on reel v; where x is on, another one can be
 pub record LaidListed (f b : ℕ) (lengths bytes : List ℕ) (c : Cursor) (v : Reel) (lay : Bool) (o p : List ℕ) (x : Laying) : Type 0 where
   pub here : LaidHere f b lengths bytes c v o p (tillSpent x)
-  pub next : x .on ≡ true → Listable f b lengths bytes (x .cur) (length p) (x .reel .at) lay
+  pub next : x .on ≡ true → Listable b lengths bytes (x .cur) (length p) (x .reel .at) lay
   pub room : x .on ≡ true → 1 ≤ x .reel .room
 
 -- behind the last block the trailer labels were laid, unless a name was lacking

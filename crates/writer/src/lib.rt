@@ -2,7 +2,7 @@
 // for each part.
 mod fill; // fill.rt: data blocks
 mod item; // item.rt: labels, marks and ends of reels
-mod listed; // listed.rt: blocks of a sheet's whole records
+mod listed; // listed.rt: the blocks of a sheet
 mod out; // out.rt: the lent buffer
 mod reel; // reel.rt: files on reels
 mod set; // set.rt: all files

@@ -112,7 +112,7 @@ fn lay_here(
     }
 }
 
-// Whether another block of a sheet's whole records can be laid on a reel with room for so many, in a buffer of that size.
+// Whether another block of a sheet can be laid on a reel with room for so many, in a buffer of that size.
 fn goes_on(b: usize, live: bool, room: u64, size: usize, at: usize, lay: bool) -> bool
     requires { ⌜ b ≤ 99999 ⌝ }
     ensures { λ r. ⌜ r ≡ goesOn b live room size at lay ⌝ }
@@ -129,7 +129,7 @@ fn goes_on(b: usize, live: bool, room: u64, size: usize, at: usize, lay: bool) -
     false
 }
 
-// Lays a block of a sheet's whole records on a reel that has room for it, and tells whether another one can be laid.
+// Lays a block of a sheet on a reel that has room for it, and tells whether another one can be laid.
 fn lay_listed(
     f: u8,
     b: usize,
@@ -140,7 +140,7 @@ fn lay_listed(
     out: &mut [u8],
     lay: bool,
 ) -> Laying
-    requires { ⌜ Listable f b (now lengths) (now bytes) c (length (now out)) (v .at) lay ⌝ }
+    requires { ⌜ Listable b (now lengths) (now bytes) c (length (now out)) (v .at) lay ⌝ }
     requires { ⌜ Ready v ⌝ }
     ensures { λ x. ⌜ LaidListed f b (now (lengths .entry)) (now (bytes .entry)) c v lay (now (out .entry)) (now (out .exit)) x ⌝ }
 {
@@ -161,7 +161,7 @@ fn lay_listed(
     }
 }
 
-// Lays blocks of a sheet's whole records on a reel, one after the other, from one on that has room.
+// Lays blocks of a sheet on a reel, one after the other, from one on that has room.
 fn lay_run(
     f: u8,
     b: usize,
@@ -172,7 +172,7 @@ fn lay_run(
     out: &mut [u8],
     lay: bool,
 ) -> Laying
-    requires { ⌜ Listable f b (now lengths) (now bytes) c (length (now out)) (v .at) lay ⌝ }
+    requires { ⌜ Listable b (now lengths) (now bytes) c (length (now out)) (v .at) lay ⌝ }
     requires { ⌜ Ready v ⌝ }
     ensures { λ x. ⌜ LaidSome f b (now (lengths .entry)) (now (bytes .entry)) c v (now (out .entry)) (now (out .exit)) x ⌝ }
 {
@@ -195,7 +195,7 @@ fn lay_run(
     }
 }
 
-// Lays blocks on a reel that has room for one: a run of them where a sheet's records are told by their lengths, else one.
+// Lays blocks on a reel that has room for one: a run of a sheet's blocks where the buffer has room for them or for nothing, else one.
 fn lay_some(
     f: u8,
     b: usize,
@@ -211,7 +211,7 @@ fn lay_some(
 {
     let size = out.len();
     let lay = room_for(WORD + b, size, v.at);
-    if is_listed(f, c, lay, size, v.at) {
+    if is_listed(c, lay, size, v.at) {
         return lay_run(f, b, lengths, bytes, c, v, out, lay);
     }
     lay_here(f, b, lengths, bytes, c, v, out)

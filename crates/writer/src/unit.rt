@@ -90,7 +90,7 @@ pub(crate) fn taken(f: u8, b: usize, u: usize, n: usize) -> usize
 }
 
 // The indicator of a segment of k bytes of n that remain.
-fn indicator(begun: u8, k: usize, n: usize) -> u8
+pub(crate) fn indicator(begun: u8, k: usize, n: usize) -> u8
     ensures { λ r. ⌜ (r ≡ indicatorOf begun k n) × (r ≤ 3) ⌝ }
 {
     if k == n {

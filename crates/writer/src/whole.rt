@@ -30,7 +30,7 @@ pub struct Run {
 }
 
 // Whether a record of the format is one unit.
-fn is_unbroken(f: u8) -> bool
+pub(crate) fn is_unbroken(f: u8) -> bool
     ensures { λ r. ⌜ r ≡ isUnbroken f ⌝ }
 {
     f == FIXED || f == VARIABLE
@@ -54,6 +54,7 @@ pub(crate) fn is_told(f: u8, c: Cursor, lay: bool, size: usize, at: usize) -> bo
 // Writes a whole record, its control word before it, where it has room.
 fn put_record(f: u8, bytes: &[u8], from: usize, n: usize, out: &mut [u8], at: usize)
     requires { ⌜ Layable f (now bytes) from n (length (now out)) at true ⌝ }
+    requires { ⌜ isUnbroken f ≡ true ⌝ }
     ensures { λ _. ⌜ now (out .exit) ≡ putAt (now (out .entry)) at (controlWord f 0 n ++ part from n (now (bytes .entry))) ⌝ }
 {
     let end = from + n;
@@ -77,6 +78,7 @@ pub(crate) fn lay_record(
     lay: bool,
 )
     requires { ⌜ Layable f (now bytes) from n (length (now out)) at lay ⌝ }
+    requires { ⌜ isUnbroken f ≡ true ⌝ }
     ensures { λ _. ⌜ now (out .exit) ≡ ifB lay (putAt (now (out .entry)) at (controlWord f 0 n ++ part from n (now (bytes .entry)))) (now (out .entry)) ⌝ }
 {
     if lay {
@@ -105,7 +107,8 @@ fn take_record(
     start: usize,
     lay: bool,
 ) -> Run
-    requires { ⌜ Takable f b (now lengths) (now bytes) c (length (now out)) start lay ⌝ }
+    requires { ⌜ Takable b (now lengths) (now bytes) c (length (now out)) start lay ⌝ }
+    requires { ⌜ isUnbroken f ≡ true ⌝ }
     ensures { λ r. ⌜ Ran f b (now (lengths .entry)) (now (bytes .entry)) u c (now (out .entry)) start (now (out .exit)) r ⌝ }
 {
     let n = c.left;
@@ -137,7 +140,8 @@ pub(crate) fn take_records(
     start: usize,
     lay: bool,
 ) -> Moved
-    requires { ⌜ Takable f b (now lengths) (now bytes) c (length (now out)) start lay ⌝ }
+    requires { ⌜ Takable b (now lengths) (now bytes) c (length (now out)) start lay ⌝ }
+    requires { ⌜ isUnbroken f ≡ true ⌝ }
     ensures { λ r. ⌜ Filled f b (now (lengths .entry)) (now (bytes .entry)) c (now (out .entry)) start (now (out .exit)) r ⌝ }
 {
     let mut t = Run {

@@ -1,41 +1,36 @@
-use Rattle.writer.proofs.Wholes.{Running, runsLeft}
-use Rattle.writer.proofs.Runs.{filling}
+use Rattle.writer.proofs.Runs.{formats}
 use Rattle.writer.proofs.listed.fill_listed.Statement.{statement}
 use Rattle.writer.proofs.listed.fill_listed.Tie as tie
 
-abbrev Inv-loop : tie.InvT-loop
-Inv-loop f b lengths bytes out₀ start lay t₀ out t = Running f b lengths bytes (t₀ .cur) out₀ start lay out t
+is-unbroken-requires : tie.Need-is-unbroken-requires
+is-unbroken-requires c κs = search formats
 
-abbrev μ-loop : tie.MeasureT-loop
-μ-loop f b lengths bytes out₀ start lay t₀ out t = runsLeft lengths bytes t
+fill-whole-requires : tie.Need-fill-whole-requires
+fill-whole-requires c κs = (search formats, (search formats, search formats))
 
-loop-holds : tie.Need-loop-holds Inv-loop μ-loop
-loop-holds c = search filling
+same-length : tie.Need-same-length
+same-length c = search formats
 
-take-listed-requires : tie.Need-take-listed-requires Inv-loop μ-loop
-take-listed-requires c κs = search filling
+returns : tie.Need-returns
+returns c = search formats
 
-loop-less : tie.Need-loop-less Inv-loop μ-loop
-loop-less c = search filling
+fill-segments-requires : tie.Need-fill-segments-requires
+fill-segments-requires c κs = (search formats, (search formats, search formats))
 
-loop-again : tie.Need-loop-again Inv-loop μ-loop
-loop-again c = search filling
+same-length-2 : tie.Need-same-length-2
+same-length-2 c = search formats
 
-same-length : tie.Need-same-length Inv-loop μ-loop
-same-length c = search filling
-
-returns : tie.Need-returns Inv-loop μ-loop
-returns c = search filling
+returns-2 : tie.Need-returns-2
+returns-2 c = search formats
 
 pub fill-listed-spec : {M : Type 1} → statement M
 fill-listed-spec =
     tie.close
     (tie.spec
-    Inv-loop
-    μ-loop
-    loop-holds
-    take-listed-requires
-    loop-less
-    loop-again
+    is-unbroken-requires
+    fill-whole-requires
     same-length
-    returns)
+    returns
+    fill-segments-requires
+    same-length-2
+    returns-2)

@@ -1,6 +1,6 @@
 use Rattle.writer.proofs.Wholes.{runs}
-use Rattle.writer.proofs.listed.take_listed.Statement.{statement}
-use Rattle.writer.proofs.listed.take_listed.Tie as tie
+use Rattle.writer.proofs.listed.take_whole.Statement.{statement}
+use Rattle.writer.proofs.listed.take_whole.Tie as tie
 
 word-of-requires : tie.Need-word-of-requires
 word-of-requires c κs = search runs
@@ -32,8 +32,8 @@ returns c = search runs
 returns-2 : tie.Need-returns-2
 returns-2 c = search runs
 
-pub take-listed-spec : {M : Type 1} → statement M
-take-listed-spec =
+pub take-whole-spec : {M : Type 1} → statement M
+take-whole-spec =
     tie.close
     (tie.spec
     word-of-requires
