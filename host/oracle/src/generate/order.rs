@@ -173,12 +173,15 @@ pub enum Large {
     Fixed,
     /// S records of 5,000 bytes in blocks of 4,096.
     Segmented,
+    /// S records of 80 bytes in blocks of 4,096.
+    Short,
     /// D records of 6 bytes, each in a block of 10.
     Tiny,
 }
 
 impl Large {
-    pub const ALL: [Large; 4] = [Large::Variable, Large::Fixed, Large::Segmented, Large::Tiny];
+    pub const ALL: [Large; 5] =
+        [Large::Variable, Large::Fixed, Large::Segmented, Large::Short, Large::Tiny];
 
     fn shape(self) -> (Shape, usize) {
         let shape = |format, block, record| Shape { format, block, record, offset: 0 };
@@ -186,6 +189,7 @@ impl Large {
             Large::Variable => (shape(b'D', 32_760, 84), 80),
             Large::Fixed => (shape(b'F', 800, 80), 80),
             Large::Segmented => (shape(b'S', 4_096, 5_000), 5_000),
+            Large::Short => (shape(b'S', 4_096, 80), 80),
             Large::Tiny => (shape(b'D', 10, 10), 6),
         }
     }
@@ -196,6 +200,7 @@ impl Large {
             Large::Variable => 84,
             Large::Fixed => 81,
             Large::Segmented => 5_011,
+            Large::Short => 86,
             Large::Tiny => 13,
         }
     }

@@ -39,6 +39,7 @@ fn name(kind: Large) -> &'static str {
         Large::Variable => "D 80 in 32,760",
         Large::Fixed => "F 80 in 800",
         Large::Segmented => "S 5,000 in 4,096",
+        Large::Short => "S 80 in 4,096",
         Large::Tiny => "D 6 in 10",
     }
 }
