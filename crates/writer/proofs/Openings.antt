@@ -33,20 +33,21 @@ use Rattle.content.proofs.Unsplit.{split-format}
 use Rattle.content.proofs.Wholes.{measured-whole as whole-measured, word-least, whole-left, whole-start, whole-end}
 use Rattle.content.proofs.Records.{measured-nothing, measured-whole, measured-split, measured-end-nothing, measured-end-whole, measured-end-split, split-long, whole-within, first-split, first-some}
 use Rattle.writer.specs.declared.source.Cursor.{Cursor}
-use Rattle.writer.specs.Source.{isWhole, walkOf, behindOf, bytesAt, lengthsAt, laterAt, FileEnd, endAt, stopAt, Further, Holds, Good, opened, Opened}
+use Rattle.writer.specs.Source.{isWhole, isUnsplit, walkOf, behindOf, bytesAt, lengthsAt, laterAt, FileEnd, endAt, stopAt, Further, Holds, Good, opened, Opened}
 use Rattle.writer.proofs.Segments.{Segment, first-segment, whole-walk, split-walk}
 use Rattle.writer.proofs.Sources.{moved, sheet-whole, ended, sheet-end, image-end, sheet-stop, image-stop}
 
 -- ---- whether the records are one segment each
 
-pub whole-image : (c : Cursor) → c .image ≡ true → not (eqb (c .format) S) ≡ isWhole c
-unfolding isWhole
-whole-image c e = sym (if-true _ _ _ e)
+pub unsplit-image : (c : Cursor) → c .image ≡ true → not (eqb (c .format) S) ≡ isUnsplit c
+unfolding isUnsplit
+unsplit-image c e = sym (if-true _ _ _ e)
 
-pub whole-sheet : (c : Cursor) → c .image ≡ false → true ≡ isWhole c
-whole-sheet c e = sym (sheet-whole c e)
+pub unsplit-sheet : (c : Cursor) → c .image ≡ false → false ≡ isUnsplit c
+unfolding isUnsplit
+unsplit-sheet c e = sym (if-false _ _ _ e)
 
-pub ruleset kinds = (whole-image, whole-sheet, needs)
+pub ruleset kinds = (unsplit-image, unsplit-sheet, needs)
 
 image-format : (c : Cursor) → c .image ≡ true → isWhole c ≡ true → c .format ≡ S → ⊥
 unfolding isWhole

@@ -22,37 +22,26 @@ use Rattle.writer.specs.declared.source.Cursor.{Cursor}
 use Rattle.writer.specs.declared.whole.Run.{Run}
 use Rattle.writer.specs.Pack.{enters, taken, indicatorOf, controlWord, unitIn, fill}
 use Rattle.writer.specs.Output.{Wrote, overLong}
-use Rattle.writer.specs.Source.{FileEnd, endAt, bytesAt, laterAt, Opened, past}
+use Rattle.writer.specs.Source.{bytesAt, laterAt, Opened, past}
 use Rattle.writer.specs.Fills.{fillAt, Filled, BlockPut, isUnbroken, Takable, Layable, turnOf, Ran, movedOf, Listable}
 use Rattle.writer.proofs.Packing.{by-test, entered}
 use Rattle.writer.proofs.Packed.{unit-within}
 use Rattle.writer.proofs.Sources.{sheet-whole, good-holds}
 use Rattle.writer.proofs.Filling.{used-word-fits, used-fits, turned-filled, length-three, block-void, block-done}
-use Rattle.writer.proofs.Wholes.{part-cut, laid-room, laid-none, whole-few, whole-good, past-spent, past-opened, part-few, unit-layable, unit-fits, ran-none, ran-broken, ran-on, takable-good, takable-whole, takable-fillable, Running, running-none, running-takable, running-more, running-kept, runs-fall}
+use Rattle.writer.proofs.Wholes.{part-cut, laid-room, laid-none, whole-few, whole-good, past-spent, past-source, past-opened, part-few, unit-layable, unit-fits, ran-none, ran-broken, ran-on, takable-good, takable-whole, takable-fillable, Running, running-none, running-takable, running-more, running-source, running-kept, runs-fall}
 use Rattle.output.proofs.Writing.{wrote-put}
 
 -- ---- the record behind the open one
 
-pub past-sheet : (c y : Cursor) (k : ℕ) → y ≡ past c k → c .image ≡ false → y .image ≡ false
-past-sheet c y k e s = ap (λ (z : Cursor). z .image) e ∙ s
-
-pub ruleset nexts = (sheet-whole, whole-few, whole-good, past-spent, past-sheet, past-opened, good-holds, needs)
-
--- cursors at one file are of one source
-pub same-source : (lengths bytes : List ℕ) (c d : Cursor) → endAt lengths bytes d ≡ endAt lengths bytes c → d .image ≡ c .image
-unfolding endAt
-same-source lengths bytes c d e = ap (λ (x : FileEnd). x .image) e
+pub ruleset nexts = (sheet-whole, whole-few, whole-good, past-spent, past-source, past-opened, good-holds, needs)
 
 -- ---- the loop over the records of a block
 
-module _ (f b : ℕ) (lengths bytes : List ℕ) (c : Cursor) (o : List ℕ) (start : ℕ) (lay : Bool) (p : List ℕ) (t : Run) (x : Running f b lengths bytes c o start lay p t) where
-  pub running-sheet : c .image ≡ false → t .cur .image ≡ false
-  running-sheet s = same-source lengths bytes c (t .cur) (x .turned .end) ∙ s
+pub running-moved : (f b : ℕ) (lengths bytes : List ℕ) (c : Cursor) (o : List ℕ) (start : ℕ) (lay : Bool) (p : List ℕ) (t : Run) → Running f b lengths bytes c o start lay p t
+    → t .on ≡ false → Filled f b lengths bytes c o start p (movedOf start t)
+running-moved f b lengths bytes c o start lay p t x off = turned-filled f b lengths bytes c o start p (turnOf start t) (x .turned) off
 
-  pub running-moved : t .on ≡ false → Filled f b lengths bytes c o start p (movedOf start t)
-  running-moved off = turned-filled f b lengths bytes c o start p (turnOf start t) (x .turned) off
-
-pub ruleset filling = (running-none, running-takable, running-more, running-kept, runs-fall, running-sheet, running-moved, needs)
+pub ruleset filling = (running-none, running-takable, running-more, running-source, running-moved, running-kept, runs-fall, needs)
 
 -- ---- a segment
 

@@ -22,7 +22,7 @@ use Rattle.writer.specs.Fills.{Fillable, BlockPut, isListed, Listable}
 use Rattle.writer.specs.Reels.{Ready, oneMore, LaidHere, Passed, Passing, LaidSome, goesOn, tillSpent, LaidListed, Layable}
 use Rattle.writer.proofs.Packing.{by-test, blocks-finished}
 use Rattle.writer.proofs.Units.{both}
-use Rattle.writer.proofs.Runs.{same-source}
+use Rattle.writer.proofs.Wholes.{same-source}
 use Rattle.writer.proofs.Reeling.{roomed-here, over-finished, laid-here, ready-room, ready-count, passed-block, passed-none, passed-passed, passed-layable, laid-some}
 
 -- ---- where a block can be laid

@@ -23,7 +23,7 @@ use Rattle.block.specs.Unit.{wordOf}
 use Rattle.block.proofs.Wholes.{word-fixed, word-variable}
 use Rattle.writer.specs.Pack.{enters, taken, indicatorOf, controlWord}
 use Rattle.writer.specs.Output.{Wrote, overLong, hasRoom}
-use Rattle.writer.specs.Source.{isWhole, bytesAt, laterAt, Good, Handed, Opened, past}
+use Rattle.writer.specs.Source.{isWhole, isUnsplit, bytesAt, laterAt, FileEnd, endAt, Good, Handed, Opened, past}
 use Rattle.writer.specs.Fills.{unitOf, UnitPut, Fillable, Turned, Turning, Filled, BlockPut, isUnbroken, isTold, Takable, Layable, turnOf, Ran}
 use Rattle.writer.proofs.Packing.{by-test, entered, enters-whole, taken-whole}
 use Rattle.writer.proofs.Units.{both, control-F, control-D, length-control}
@@ -52,22 +52,27 @@ module _ (f : ℕ) (c : Cursor) (lay : Bool) (size at : ℕ) (t : Bool) (q : t �
   unfolding isTold
   told-unbroken = both (isUnbroken f) _ (λ u _. u) (sym q ∙ h)
 
-  told-rest : ifB (isWhole c) (ifB lay true (ltb size at)) false ≡ true
+  told-rest : ifB (isUnsplit c) (ifB lay true (ltb size at)) false ≡ true
   unfolding isTold
   told-rest = both (isUnbroken f) _ (λ _ s. s) (sym q ∙ h)
 
-  told-whole : isWhole c ≡ true
-  told-whole = both (isWhole c) _ (λ w _. w) told-rest
+  told-unsplit : (c .image ≡ true) × (isWhole c ≡ true)
+  unfolding isUnsplit isWhole
+  told-unsplit =
+      both (c .image) _ (λ i s. (i, if-true _ _ _ i ∙ s)) (both (isUnsplit c) _ (λ w _. w) told-rest)
 
-  pub told-none : lay ≡ false → size < at
-  told-none l = ltb-true _ _ (sym (if-false _ _ _ l) ∙ both (isWhole c) _ (λ _ r. r) told-rest)
+  pub told-image : c .image ≡ true
+  told-image = told-unsplit .0
+
+  told-none : lay ≡ false → size < at
+  told-none l = ltb-true _ _ (sym (if-false _ _ _ l) ∙ both (isUnsplit c) _ (λ _ r. r) told-rest)
 
   pub told-takable : (b : ℕ) (lengths bytes : List ℕ) → Fillable b lengths bytes c at → lay ≡ hasRoom b size at → Takable b lengths bytes c size at lay
   unfolding hasRoom
   told-takable b lengths bytes g e =
       record {
         fillable = g;
-        whole = told-whole;
+        whole = told-unsplit .1;
         short = λ l. ltb-true _ _ (and-first (ltb (at + b) overLong) (leb (at + b) size) (sym e ∙ l));
         room = λ l. leb-true _ _ (and-second (ltb (at + b) overLong) (leb (at + b) size) (sym e ∙ l));
         none = told-none;
@@ -167,10 +172,13 @@ module _ (lengths bytes : List ℕ) (c : Cursor) (g : Good lengths bytes c) (v :
 pub past-spent : (c y : Cursor) → y ≡ past c (c .left) → y .left ≡ 0
 past-spent c y e = ap (λ (d : Cursor). d .left) e ∙ omega arith
 
+pub past-source : (c y : Cursor) (k : ℕ) (t : Bool) → y ≡ past c k → c .image ≡ t → y .image ≡ t
+past-source c y k t e s = ap (λ (z : Cursor). z .image) e ∙ s
+
 pub past-opened : (lengths bytes : List ℕ) (c y d : Cursor) → y ≡ past c (c .left) → Opened lengths bytes y d → Opened lengths bytes (past c (c .left)) d
 past-opened lengths bytes c y d e op = subst (λ (z : Cursor). Opened lengths bytes z d) e op
 
-pub ruleset nexts = (whole-few, whole-good, past-spent, past-opened, good-holds, needs)
+pub ruleset nexts = (whole-few, whole-good, past-spent, past-source, past-opened, good-holds, needs)
 
 -- ---- a turn of a run
 
@@ -340,6 +348,11 @@ pub ruleset runs = (takable-good, takable-whole, takable-fillable, whole-word-fi
 
 -- ---- the loop
 
+-- cursors at one file are of one source
+pub same-source : (lengths bytes : List ℕ) (c d : Cursor) → endAt lengths bytes d ≡ endAt lengths bytes c → d .image ≡ c .image
+unfolding endAt
+same-source lengths bytes c d e = ap (λ (x : FileEnd). x .image) e
+
 -- from cursor c, buffer o and place `start` on, to a run and buffer p
 pub record Running (f b : ℕ) (lengths bytes : List ℕ) (c : Cursor) (o : List ℕ) (start : ℕ) (lay : Bool) (p : List ℕ) (r : Run) : Type 0 where
   pub turned : Turned f b lengths bytes 0 c o start p (turnOf start r)
@@ -382,6 +395,9 @@ module _ (f b : ℕ) (lengths bytes : List ℕ) (c : Cursor) (o : List ℕ) (sta
       subst (λ (k : ℕ). Filled f b lengths bytes c o start p (record { at = k; cur = t .cur })) (sym e)
       (turned-filled f b lengths bytes c o start p (turnOf start t) (x .turned) off)
 
+  pub running-source : (b : Bool) → c .image ≡ b → t .cur .image ≡ b
+  running-source b s = same-source lengths bytes c (t .cur) (x .turned .end) ∙ s
+
   pub running-kept : length p ≡ length o
   running-kept = x .turned .kept
 
@@ -394,6 +410,6 @@ pub runs-fall : (f b : ℕ) (lengths bytes : List ℕ) (o : List ℕ) (start : �
 unfolding turnsLeft
 runs-fall f b lengths bytes o start t p v on y = turns-fall f b lengths bytes o (turnOf start t) p (turnOf start v) on (y .turning)
 
-pub ruleset running = (running-none, running-takable, running-more, running-filled, running-kept, runs-fall, needs)
+pub ruleset running = (running-none, running-takable, running-more, running-source, running-filled, running-kept, runs-fall, needs)
 
-pub ruleset told = (told-takable, told-unbroken, blocks)
+pub ruleset told = (told-takable, told-unbroken, told-image, blocks)

@@ -15,7 +15,7 @@ use Rattle.writer.specs.declared.whole.Run.{Run}
 use Rattle.block.specs.Unit.{wordOf}
 use Rattle.writer.specs.Pack.{Left, indicatorOf, controlWord, fill, after}
 use Rattle.writer.specs.Output.{Wrote, overLong}
-use Rattle.writer.specs.Source.{isWhole, bytesAt, laterAt, endAt, leftAt, Good, Handed}
+use Rattle.writer.specs.Source.{isWhole, isUnsplit, bytesAt, laterAt, endAt, leftAt, Good, Handed}
 
 -- a unit of k bytes of x
 abbrev pub unitOf : ℕ → ℕ → ℕ → List ℕ → List ℕ
@@ -77,9 +77,9 @@ pub record BlockPut (f b : ℕ) (lengths bytes : List ℕ) (c : Cursor) (o : Lis
 unfoldable pub isUnbroken : ℕ → Bool
 isUnbroken f = ifB (eqb f F) true (eqb f D)
 
--- a block from place a on is a run of whole records, and in a buffer of that size all of it has room (lay) or nothing has
+-- a block of an image from place a on is a run of whole records, and in a buffer of that size all of it has room (lay) or nothing has
 unfoldable pub isTold : ℕ → Cursor → Bool → ℕ → ℕ → Bool
-isTold f c lay size a = ifB (isUnbroken f) (ifB (isWhole c) (ifB lay true (ltb size a)) false) false
+isTold f c lay size a = ifB (isUnbroken f) (ifB (isUnsplit c) (ifB lay true (ltb size a)) false) false
 
 -- where a block that starts there may get its next unit from a record that is one segment
 pub record Takable (b : ℕ) (lengths bytes : List ℕ) (c : Cursor) (size start : ℕ) (lay : Bool) : Type 0 where

@@ -32,6 +32,10 @@ behindOf c = record { format = c .format; size = c .size; offset = c .offset; at
 unfoldable pub isWhole : Cursor → Bool
 isWhole c = ifB (c .image) (not (eqb (c .format) S)) true
 
+-- the records are those of an F or D file of an image
+unfoldable pub isUnsplit : Cursor → Bool
+isUnsplit c = ifB (c .image) (not (eqb (c .format) S)) false
+
 -- what is left of the open record: of the open segment, and, where it goes on behind it, of the others
 unfoldable pub bytesAt : List ℕ → Cursor → List ℕ
 bytesAt bytes c = take (c .left) (part (c .at) (c .here) bytes ++ bytesBehind bytes (walkOf c))

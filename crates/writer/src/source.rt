@@ -4,7 +4,7 @@ ghost use mathlib.Core.Path.{_≡_};
 ghost use mathlib.Core.Bool.{true, false};
 ghost use Prim.Native.Nat.{_+_, _≤_, _<_};
 ghost use lib.ListN.{length};
-ghost use Rattle.writer.specs.Source.{isWhole, walkOf, behindOf, Holds, Good, Copied, Spelled, Onward, Segmented, past, opened, Opened};
+ghost use Rattle.writer.specs.Source.{isUnsplit, walkOf, behindOf, Holds, Good, Copied, Spelled, Onward, Segmented, past, opened, Opened};
 ghost use Rattle.content.specs.Walk.{recordAt};
 ghost use Rattle.content.specs.Measure.{measuredBy};
 ghost use Rattle.content.specs.declared.measuring.Measured.the-variants.{Split};
@@ -112,14 +112,14 @@ pub(crate) fn past(bytes: &[u8], c: Cursor, k: usize) -> Cursor
     }
 }
 
-// Whether the records are one segment each.
-pub(crate) fn is_whole(c: Cursor) -> bool
-    ensures { λ r. ⌜ r ≡ isWhole c ⌝ }
+// Whether the records are those of an F or D file of an image, one segment each.
+pub(crate) fn is_unsplit(c: Cursor) -> bool
+    ensures { λ r. ⌜ r ≡ isUnsplit c ⌝ }
 {
     if c.image {
         return c.format != SEGMENTED as u32;
     }
-    true
+    false
 }
 
 // Writes k bytes of the open segment.
@@ -305,7 +305,7 @@ fn next_of_image(lengths: &[u64], bytes: &[u8], c: Cursor) -> Cursor
 }
 
 // Opens the next record of an image's file, which most often stands whole in a block and then is told by one number.
-fn whole_of_image(lengths: &[u64], bytes: &[u8], c: Cursor) -> Cursor
+pub(crate) fn whole_of_image(lengths: &[u64], bytes: &[u8], c: Cursor) -> Cursor
     requires { ⌜ Good (now lengths) (now bytes) c ⌝ }
     requires { ⌜ c .image ≡ true ⌝ }
     ensures { λ r. ⌜ Opened (now (lengths .entry)) (now (bytes .entry)) c r ⌝ }
@@ -321,18 +321,6 @@ fn whole_of_image(lengths: &[u64], bytes: &[u8], c: Cursor) -> Cursor
     let n = k - word;
     let rest = v.left - k;
     opened(c, true, v.at + word, n, n, rest, v.at + k, rest)
-}
-
-// Opens the next record of the file as `next` does, by the shortest way where records stand whole in their blocks.
-pub(crate) fn next_whole(lengths: &[u64], bytes: &[u8], c: Cursor) -> Cursor
-    requires { ⌜ Good (now lengths) (now bytes) c ⌝ }
-    requires { ⌜ c .left ≡ 0 ⌝ }
-    ensures { λ r. ⌜ Opened (now (lengths .entry)) (now (bytes .entry)) c r ⌝ }
-{
-    if c.image {
-        return whole_of_image(lengths, bytes, c);
-    }
-    next_of_sheet(lengths, bytes, c)
 }
 
 // Opens the next record of the file, behind one that has been handed over.

@@ -1,5 +1,5 @@
-// Blocks of whole records, which are those of F and D files. Either such a block has room, or nothing has: no write asks for room again, and where nothing
-// has room the records are only counted.
+// Blocks of whole records of an image, which are those of its F and D files. Either such a block has room, or nothing has: no write asks for room again, and
+// where nothing has room the records are only counted.
 ghost use mathlib.Core.Path.{_≡_};
 ghost use mathlib.Core.Bool.{true, false};
 ghost use mathlib.Core.List.{_++_};
@@ -13,9 +13,9 @@ use crate::out::copy_to;
 use crate::out::place_behind;
 use crate::source::Cursor;
 use crate::source::Moved;
-use crate::source::is_whole;
-use crate::source::next_whole;
+use crate::source::is_unsplit;
 use crate::source::past;
+use crate::source::whole_of_image;
 use crate::unit::has_room;
 use crate::unit::word_of;
 use base::FIXED;
@@ -36,12 +36,12 @@ pub(crate) fn is_unbroken(f: u8) -> bool
     f == FIXED || f == VARIABLE
 }
 
-// Whether a block is a run of whole records that have room, or for which nothing has, in a buffer of that size from its place on.
+// Whether a block of an image is a run of whole records that have room, or for which nothing has, in a buffer of that size from its place on.
 pub(crate) fn is_told(f: u8, c: Cursor, lay: bool, size: usize, at: usize) -> bool
     ensures { λ r. ⌜ r ≡ isTold f c lay size at ⌝ }
 {
     if is_unbroken(f) {
-        if is_whole(c) {
+        if is_unsplit(c) {
             if lay {
                 return true;
             }
@@ -90,9 +90,10 @@ pub(crate) fn lay_record(
 fn open_behind(lengths: &[u64], bytes: &[u8], c: Cursor) -> Cursor
     requires { ⌜ Good (now lengths) (now bytes) c ⌝ }
     requires { ⌜ isWhole c ≡ true ⌝ }
+    requires { ⌜ c .image ≡ true ⌝ }
     ensures { λ r. ⌜ Opened (now (lengths .entry)) (now (bytes .entry)) (past c (c .left)) r ⌝ }
 {
-    next_whole(lengths, bytes, past(bytes, c, c.left))
+    whole_of_image(lengths, bytes, past(bytes, c, c.left))
 }
 
 // One turn of a run: the open record, if it enters, is written where the block has room, and the next one is opened.
@@ -109,6 +110,7 @@ fn take_record(
 ) -> Run
     requires { ⌜ Takable b (now lengths) (now bytes) c (length (now out)) start lay ⌝ }
     requires { ⌜ isUnbroken f ≡ true ⌝ }
+    requires { ⌜ c .image ≡ true ⌝ }
     ensures { λ r. ⌜ Ran f b (now (lengths .entry)) (now (bytes .entry)) u c (now (out .entry)) start (now (out .exit)) r ⌝ }
 {
     let n = c.left;
@@ -142,6 +144,7 @@ pub(crate) fn take_records(
 ) -> Moved
     requires { ⌜ Takable b (now lengths) (now bytes) c (length (now out)) start lay ⌝ }
     requires { ⌜ isUnbroken f ≡ true ⌝ }
+    requires { ⌜ c .image ≡ true ⌝ }
     ensures { λ r. ⌜ Filled f b (now (lengths .entry)) (now (bytes .entry)) c (now (out .entry)) start (now (out .exit)) r ⌝ }
 {
     let mut t = Run {

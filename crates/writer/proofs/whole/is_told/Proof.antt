@@ -7,8 +7,8 @@ use Rattle.writer.proofs.whole.is_told.Tie as tie
 is-unbroken-requires : tie.Need-is-unbroken-requires
 is-unbroken-requires c κs = search ifs
 
-is-whole-requires : tie.Need-is-whole-requires
-is-whole-requires c κs = search ifs
+is-unsplit-requires : tie.Need-is-unsplit-requires
+is-unsplit-requires c κs = search ifs
 
 returns : tie.Need-returns
 unfolding isTold
@@ -29,4 +29,4 @@ returns-4 c = search (if-false, so-false) depth 20
 pub is-told-spec : {M : Type 1} → statement M
 is-told-spec =
     tie.close
-    (tie.spec is-unbroken-requires is-whole-requires returns returns-2 returns-3 returns-4)
+    (tie.spec is-unbroken-requires is-unsplit-requires returns returns-2 returns-3 returns-4)
