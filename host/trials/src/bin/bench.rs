@@ -6,10 +6,10 @@ use oracle::generate::{large, large_order, Large};
 use oracle::tape::Tape;
 use oracle::{Answer, Found, Records};
 use std::hint::black_box;
-use std::time::{Duration, Instant};
+use std::time::Instant;
 use trials::{agreed, archive};
 
-const ROUNDS: usize = 15;
+const ROUNDS: usize = 60;
 const SIZE: usize = 10_000_000;
 const SIZES: [usize; 3] = [1_000_000, 4_000_000, 16_000_000];
 
@@ -44,19 +44,37 @@ fn name(kind: Large) -> &'static str {
     }
 }
 
-/// The best times in milliseconds of several runs, which take turns, so that all see the same load; each
-/// comes first in its round as often as the others, since the first finds the least in the caches.
-fn best<const N: usize>(runs: [&mut dyn FnMut(); N]) -> [f64; N] {
-    let mut best = [Duration::MAX; N];
-    for round in 0..ROUNDS {
-        for turn in 0..N {
-            let which = (round + turn) % N;
-            let start = Instant::now();
-            runs[which]();
-            best[which] = start.elapsed().min(best[which]);
+/// The times in milliseconds of several runs, round by round.
+struct Times<const N: usize>(Vec<[f64; N]>);
+
+impl<const N: usize> Times<N> {
+    /// The runs take turns, so that all see the same load; each comes first in its round as often as the
+    /// others, since the first finds the least in the caches.
+    fn of(runs: [&mut dyn FnMut(); N]) -> Times<N> {
+        let mut rounds = vec![[0.0; N]; ROUNDS];
+        for (round, times) in rounds.iter_mut().enumerate() {
+            for turn in 0..N {
+                let which = (round + turn) % N;
+                let start = Instant::now();
+                runs[which]();
+                times[which] = start.elapsed().as_secs_f64() * 1e3;
+            }
         }
+        Times(rounds)
     }
-    best.map(|time| time.as_secs_f64() * 1e3)
+
+    /// The best time of a run.
+    fn best(&self, run: usize) -> f64 {
+        self.0.iter().map(|times| times[run]).fold(f64::MAX, f64::min)
+    }
+
+    /// How long the first run takes, measured by another: the median over the rounds, since in one round
+    /// both see the same machine, and the best times of two may be of different moments.
+    fn ratio(&self, other: usize) -> f64 {
+        let mut ratios: Vec<f64> = self.0.iter().map(|times| times[0] / times[other]).collect();
+        ratios.sort_by(f64::total_cmp);
+        ratios[ROUNDS / 2]
+    }
 }
 
 fn checking() {
@@ -73,16 +91,17 @@ fn checking() {
     }
 }
 
-fn check_times(image: &[u8]) -> [f64; 2] {
-    best([&mut || _ = black_box(archive::check(black_box(image))), &mut || {
+fn check_times(image: &[u8]) -> Times<2> {
+    Times::of([&mut || _ = black_box(archive::check(black_box(image))), &mut || {
         _ = black_box(oracle::check(black_box(image)))
     }])
 }
 
 fn check_row(name: &str, image: &[u8]) {
     let Answer { number, item, byte } = agreed(image);
-    let [archive, oracle] = check_times(image);
-    let (bytes, ratio) = (image.len(), archive / oracle);
+    let times = check_times(image);
+    let (bytes, archive, oracle, ratio) =
+        (image.len(), times.best(0), times.best(1), times.ratio(1));
     println!(
         "| {name} | {bytes} | ({number},{item},{byte}) | {archive:.2} | {oracle:.2} | {ratio:.2} |"
     );
@@ -94,7 +113,7 @@ fn linear() {
     for kind in [Large::Variable, Large::Tiny] {
         for size in SIZES {
             let image = large(kind, size);
-            let [archive, _] = check_times(&image);
+            let archive = check_times(&image).best(0);
             let (bytes, nanoseconds) = (image.len(), archive * 1e6 / image.len() as f64);
             println!("| {} | {bytes} | {archive:.2} | {nanoseconds:.3} |", name(kind));
         }
@@ -102,8 +121,9 @@ fn linear() {
 }
 
 /// A row with the time of a copy of the bytes beside the others.
-fn row(what: &str, count: usize, bytes: usize, [archive, oracle, copy]: [f64; 3]) {
-    let ratio = archive / oracle;
+fn row(what: &str, count: usize, bytes: usize, times: Times<3>) {
+    let [archive, oracle, copy] = [0, 1, 2].map(|run| times.best(run));
+    let ratio = times.ratio(1);
     println!(
         "| {what} | {count} | {bytes} | {archive:.2} | {oracle:.2} | {ratio:.2} | {copy:.2} |"
     );
@@ -123,7 +143,7 @@ fn walking() {
         let found = walked(image, &mut join);
         assert_eq!(found, stepped(image, &mut other), "both hand out the same");
         assert_eq!(found, read(image), "both hand out the same");
-        let [archive, oracle, iterator, copy] = best([
+        let times = Times::of([
             &mut || _ = black_box(walked(black_box(image), &mut join)),
             &mut || _ = black_box(stepped(black_box(image), &mut other)),
             &mut || _ = black_box(read(black_box(image))),
@@ -131,7 +151,8 @@ fn walking() {
         ]);
         black_box(&copied);
         let (what, (records, _), bytes) = (name(kind), found, image.len());
-        let (ratio, trusting) = (archive / oracle, archive / iterator);
+        let [archive, oracle, iterator, copy] = [0, 1, 2, 3].map(|run| times.best(run));
+        let (ratio, trusting) = (times.ratio(1), times.ratio(2));
         println!(
             "| {what} | {records} | {bytes} | {archive:.2} | {oracle:.2} | {ratio:.2} | {iterator:.2} | {trusting:.2} | {copy:.2} |"
         );
@@ -188,7 +209,7 @@ fn writing() {
         let (written, due) = (archive::write(&sheet, one), sheet.write(other));
         assert!(written == due && one == other, "both write the same");
         let image = one[..written.len].to_vec();
-        let times = best([
+        let times = Times::of([
             &mut || _ = black_box(archive::write(black_box(&sheet), one)),
             &mut || _ = black_box(black_box(&sheet).write(other)),
             &mut || copied[..image.len()].copy_from_slice(black_box(&image)),
@@ -210,7 +231,7 @@ fn rewriting() {
         let written = archive::rewrite(image, 999_999, REELS, one);
         let due = oracle::rewrite(image, 999_999, REELS, other);
         assert!(written == due && one == other, "both write the same");
-        let times = best([
+        let times = Times::of([
             &mut || _ = black_box(archive::rewrite(black_box(image), 999_999, REELS, one)),
             &mut || _ = black_box(oracle::rewrite(black_box(image), 999_999, REELS, other)),
             &mut || copied[..image.len()].copy_from_slice(black_box(image)),
@@ -228,7 +249,7 @@ fn listing() {
         let (mut text, mut copied) = ([0; 4_096], vec![0; image.len()]);
         let written = archive::listing(image, &mut text);
         assert_eq!(text[..written.len], oracle::listing(image), "both write the same");
-        let times = best([
+        let times = Times::of([
             &mut || _ = black_box(archive::listing(black_box(image), &mut text)),
             &mut || _ = black_box(oracle::listing(black_box(image))),
             &mut || copied.copy_from_slice(black_box(image)),
