@@ -130,7 +130,7 @@ fn goes_on(b: usize, live: bool, room: u64, size: usize, at: usize, lay: bool) -
 }
 
 // Lays a block of a sheet on a reel that has room for it, and tells whether another one can be laid.
-fn lay_listed(
+fn lay_in_run(
     f: u8,
     b: usize,
     lengths: &[u64],
@@ -184,7 +184,7 @@ fn lay_run(
     while x.on {
         let cur = x.cur;
         let reel = x.reel;
-        x = lay_listed(f, b, lengths, bytes, cur, reel, out, lay);
+        x = lay_in_run(f, b, lengths, bytes, cur, reel, out, lay);
     }
     let cur = x.cur;
     let reel = x.reel;

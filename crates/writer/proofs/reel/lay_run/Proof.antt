@@ -11,8 +11,8 @@ abbrev μ-loop : tie.MeasureT-loop
 loop-holds : tie.Need-loop-holds Inv-loop μ-loop
 loop-holds c = search series
 
-lay-listed-requires : tie.Need-lay-listed-requires Inv-loop μ-loop
-lay-listed-requires c κs = search series
+lay-in-run-requires : tie.Need-lay-in-run-requires Inv-loop μ-loop
+lay-in-run-requires c κs = search series
 
 loop-less : tie.Need-loop-less Inv-loop μ-loop
 loop-less c = search series
@@ -33,7 +33,7 @@ lay-run-spec =
     Inv-loop
     μ-loop
     loop-holds
-    lay-listed-requires
+    lay-in-run-requires
     loop-less
     loop-again
     same-length

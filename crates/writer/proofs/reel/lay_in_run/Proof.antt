@@ -1,6 +1,6 @@
 use Rattle.writer.proofs.Series.{one}
-use Rattle.writer.proofs.reel.lay_listed.Statement.{statement}
-use Rattle.writer.proofs.reel.lay_listed.Tie as tie
+use Rattle.writer.proofs.reel.lay_in_run.Statement.{statement}
+use Rattle.writer.proofs.reel.lay_in_run.Tie as tie
 
 put-listed-requires : tie.Need-put-listed-requires
 put-listed-requires c κs = search one
@@ -20,6 +20,6 @@ same-length c = search one
 returns : tie.Need-returns
 returns c = search one
 
-pub lay-listed-spec : {M : Type 1} → statement M
-lay-listed-spec =
+pub lay-in-run-spec : {M : Type 1} → statement M
+lay-in-run-spec =
     tie.close (tie.spec put-listed-requires sub-room goes-on-requires add-t16 same-length returns)
