@@ -36,7 +36,7 @@ use Rattle.writer.proofs.Packed.{Suited, legal-room}
 use Rattle.writer.proofs.Entry.{legal-second, suited}
 use Rattle.writer.proofs.Laying.{legal-file}
 use Rattle.output.proofs.Writing.{wrote-wrote, wrote-same}
-use Rattle.writer.proofs.Reeling.{lays-same, names-some}
+use Rattle.writer.proofs.Lays.{lays-same, names-some}
 
 -- ---- what is laid, with the head of the image before it
 

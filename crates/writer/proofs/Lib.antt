@@ -14,7 +14,9 @@ pub mod Filling
 pub mod Wholes
 pub mod Runs
 pub mod Items
+pub mod Lays
 pub mod Reeling
+pub mod Bodies
 pub mod Series
 pub mod Filing
 pub mod FromSheet

@@ -1,4 +1,4 @@
--- Blocks of whole records: what a turn of a run does, where its block has room and where nothing has. Assumes nothing.
+-- Runs of units from records that are one segment, and blocks of whole records: what a turn does, where its block has room and where nothing has. Assumes nothing.
 use mathlib.Core.Path.{_≡_, refl, sym, ap, _∙_, subst}
 use mathlib.Core.Bool.{Bool, true, false, false≢true, _&&_}
 use mathlib.Core.List.{List, [], _∷_, _++_}

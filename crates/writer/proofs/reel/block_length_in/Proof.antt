@@ -1,4 +1,4 @@
-use Rattle.writer.proofs.Reeling.{entries}
+use Rattle.writer.proofs.Bodies.{entries}
 use Rattle.writer.proofs.reel.block_length_in.Statement.{statement}
 use Rattle.writer.proofs.reel.block_length_in.Tie as tie
 

@@ -1,4 +1,4 @@
-use Rattle.writer.proofs.Reeling.{endings}
+use Rattle.writer.proofs.Bodies.{endings}
 use Rattle.writer.proofs.reel.end_file.Statement.{statement}
 use Rattle.writer.proofs.reel.end_file.Tie as tie
 

@@ -1,4 +1,4 @@
-use Rattle.writer.proofs.Reeling.{bodies}
+use Rattle.writer.proofs.Bodies.{bodies}
 use Rattle.writer.proofs.reel.lay_body.Statement.{statement}
 use Rattle.writer.proofs.reel.lay_body.Tie as tie
 

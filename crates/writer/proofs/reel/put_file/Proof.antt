@@ -1,4 +1,4 @@
-use Rattle.writer.proofs.Reeling.{files}
+use Rattle.writer.proofs.Bodies.{files}
 use Rattle.writer.proofs.reel.put_file.Statement.{statement}
 use Rattle.writer.proofs.reel.put_file.Tie as tie
 
