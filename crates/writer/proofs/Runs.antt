@@ -185,10 +185,10 @@ length-room lay at n w o l e h = let three-long : length w ≡ 3 = ap length e �
 pub length-small : (lay : Bool) (n : ℕ) → lay ≡ true → (lay ≡ true → n < overLong) → n < overLong
 length-small lay n l h = h l
 
-pub length-put : (lay : Bool) (at n : ℕ) (w o p : List ℕ) → lay ≡ true → w ≡ three n → p ≡ putAt o at w → p ≡ ifB lay (putAt o at (three n)) o
-length-put lay at n w o p l e q = q ∙ ap (putAt o at) e ∙ sym (if-true _ _ _ l)
+pub length-laid : (lay : Bool) (at n : ℕ) (w o p : List ℕ) → lay ≡ true → w ≡ three n → p ≡ putAt o at w → p ≡ ifB lay (putAt o at (three n)) o
+length-laid lay at n w o p l e q = q ∙ ap (putAt o at) e ∙ sym (if-true _ _ _ l)
 
-pub ruleset lengths = (length-room, length-small, length-put, laid-none, needs)
+pub ruleset lengths = (length-room, length-small, length-laid, laid-none, needs)
 
 -- ---- a block
 

@@ -1,8 +1,8 @@
 -- The blocks of a sheet laid on a reel, one after the other, whatever follows. Assumes nothing.
-use mathlib.Core.Path.{_≡_, refl, sym, ap, _∙_, subst}
+use mathlib.Core.Path.{_≡_, refl, sym, ap, _∙_}
 use mathlib.Core.Bool.{Bool, true, false, false≢true}
-use mathlib.Core.List.{List, []}
-use Prim.Native.Nat.{ℕ, _+_, _-_, _≤_, _<_, min}
+use mathlib.Core.List.{List}
+use Prim.Native.Nat.{ℕ, _+_, _-_, _≤_, _<_}
 use native.Mathlib.Omega.{arith}
 use borrow.Author.Needs.{needs}
 use borrow.Author.Tests.{ltb-true, leb-true}
@@ -19,11 +19,11 @@ use Rattle.writer.specs.Pack.{blocksLeft}
 use Rattle.writer.specs.Output.{overLong, hasRoom}
 use Rattle.writer.specs.Source.{leftAt}
 use Rattle.writer.specs.Fills.{Fillable, BlockPut, isListed, Listable}
-use Rattle.writer.specs.Reels.{Ready, oneMore, LaidHere, Passed, Passing, LaidSome, goesOn, tillSpent, LaidListed, Layable}
+use Rattle.writer.specs.Reels.{Ready, oneMore, Passed, Passing, LaidSome, goesOn, tillSpent, LaidListed, Layable}
 use Rattle.writer.proofs.Packing.{by-test, blocks-finished}
 use Rattle.writer.proofs.Units.{both}
 use Rattle.writer.proofs.Wholes.{same-source}
-use Rattle.writer.proofs.Reeling.{roomed-here, over-finished, laid-here, ready-room, ready-count, passed-block, passed-none, passed-passed, passed-layable, laid-some}
+use Rattle.writer.proofs.Reeling.{over-finished, laid-here, ready-room, ready-count, passed-none, passed-passed, passed-layable, laid-some}
 
 -- ---- where a block can be laid
 
@@ -102,16 +102,16 @@ pub record Strung (f b : ℕ) (lengths bytes : List ℕ) (quota : ℕ) (set e : 
   pub few : length (blocksLeft f b (leftAt lengths bytes (x .cur))) ≤ length (blocksLeft f b (leftAt lengths bytes c))
   pub fewer : x .on ≡ false → length (blocksLeft f b (leftAt lengths bytes (x .cur))) < length (blocksLeft f b (leftAt lengths bytes c))
 
-pub record Running (f b : ℕ) (lengths bytes : List ℕ) (c : Cursor) (v : Reel) (lay : Bool) (o p : List ℕ) (x : Laying) : Type 0 where
+pub record InRun (f b : ℕ) (lengths bytes : List ℕ) (c : Cursor) (v : Reel) (lay : Bool) (o p : List ℕ) (x : Laying) : Type 0 where
   pub strung : (quota : ℕ) (set e : List ℕ) (sequence : ℕ) (names : List ℕ) → Layable f b lengths bytes quota names c v
       → Strung f b lengths bytes quota set e sequence names c v o p x
   pub kept : length p ≡ length o
   pub next : x .on ≡ true → Listable b lengths bytes (x .cur) (length p) (x .reel .at) lay
   pub ready : x .on ≡ true → Ready (x .reel)
 
-pub running-none : (f b : ℕ) (lengths bytes : List ℕ) (c : Cursor) (v : Reel) (lay : Bool) (o : List ℕ) → Listable b lengths bytes c (length o) (v .at) lay → Ready v
-    → Running f b lengths bytes c v lay o o (record { on = true; cur = c; reel = v })
-running-none f b lengths bytes c v lay o k y =
+pub in-run-none : (f b : ℕ) (lengths bytes : List ℕ) (c : Cursor) (v : Reel) (lay : Bool) (o : List ℕ) → Listable b lengths bytes c (length o) (v .at) lay → Ready v
+    → InRun f b lengths bytes c v lay o o (record { on = true; cur = c; reel = v })
+in-run-none f b lengths bytes c v lay o k y =
     record {
       strung =
           λ quota set e sequence names l.
@@ -136,16 +136,16 @@ block-falls f b lengths bytes quota set e sequence names c v o p x m =
     = ap length (ap (blocksLeft f b) (over-finished lengths bytes (x .cur) z) ∙ blocks-finished f b) in
     omega (arith, m .some))
 
-module _ (f b : ℕ) (lengths bytes : List ℕ) (c : Cursor) (v : Reel) (lay : Bool) (o p : List ℕ) (x : Laying) (m : Running f b lengths bytes c v lay o p x) where
-  pub running-next : x .on ≡ true → Listable b lengths bytes (x .cur) (length p) (x .reel .at) lay
-  running-next on = m .next on
+module _ (f b : ℕ) (lengths bytes : List ℕ) (c : Cursor) (v : Reel) (lay : Bool) (o p : List ℕ) (x : Laying) (m : InRun f b lengths bytes c v lay o p x) where
+  pub in-run-next : x .on ≡ true → Listable b lengths bytes (x .cur) (length p) (x .reel .at) lay
+  in-run-next on = m .next on
 
-  pub running-ready : x .on ≡ true → Ready (x .reel)
-  running-ready on = m .ready on
+  pub in-run-ready : x .on ≡ true → Ready (x .reel)
+  in-run-ready on = m .ready on
 
-  pub running-more : (q : List ℕ) (y : Laying) → x .on ≡ true → LaidListed f b lengths bytes (x .cur) (x .reel) lay p q y
-      → Running f b lengths bytes c v lay o q y
-  running-more q y on d =
+  pub in-run-more : (q : List ℕ) (y : Laying) → x .on ≡ true → LaidListed f b lengths bytes (x .cur) (x .reel) lay p q y
+      → InRun f b lengths bytes c v lay o q y
+  in-run-more q y on d =
       let k : Listable b lengths bytes (x .cur) (length p) (x .reel .at) lay = m .next on in
       let r : Ready (x .reel) = m .ready on in
       record {
@@ -174,11 +174,11 @@ module _ (f b : ℕ) (lengths bytes : List ℕ) (c : Cursor) (v : Reel) (lay : B
             record { room = more; count = omega (arith, r .room, r .count) };
       }
 
-  pub running-kept : length p ≡ length o
-  running-kept = m .kept
+  pub in-run-kept : length p ≡ length o
+  in-run-kept = m .kept
 
-  pub running-some : x .on ≡ false → LaidSome f b lengths bytes c v o p (tillSpent x)
-  running-some off =
+  pub in-run-some : x .on ≡ false → LaidSome f b lengths bytes c v o p (tillSpent x)
+  in-run-some off =
       record {
         some =
             λ quota set e sequence names l.
@@ -189,9 +189,9 @@ module _ (f b : ℕ) (lengths bytes : List ℕ) (c : Cursor) (v : Reel) (lay : B
 
 -- each block takes room on the reel
 pub room-falls : (f b : ℕ) (lengths bytes : List ℕ) (c : Cursor) (v : Reel) (lay : Bool) (o p : List ℕ) (x : Laying) (q : List ℕ) (y : Laying)
-    → Running f b lengths bytes c v lay o p x → x .on ≡ true → LaidListed f b lengths bytes (x .cur) (x .reel) lay p q y → y .reel .room < x .reel .room
+    → InRun f b lengths bytes c v lay o p x → x .on ≡ true → LaidListed f b lengths bytes (x .cur) (x .reel) lay p q y → y .reel .room < x .reel .room
 room-falls f b lengths bytes c v lay o p x q y m on d =
     let room : y .reel .room ≡ x .reel .room - 1 = ap (λ (w : Reel). w .room) (d .here .reel) in
     omega (arith, m .ready on .room)
 
-pub ruleset series = (running-none, running-next, running-ready, running-more, running-kept, running-some, room-falls, needs)
+pub ruleset series = (in-run-none, in-run-next, in-run-ready, in-run-more, in-run-kept, in-run-some, room-falls, needs)

@@ -1,11 +1,11 @@
 -- Runs of units from records that are one segment, and blocks of whole records: what a turn does, where its block has room and where nothing has. Assumes nothing.
 use mathlib.Core.Path.{_≡_, refl, sym, ap, _∙_, subst}
-use mathlib.Core.Bool.{Bool, true, false, false≢true, _&&_}
-use mathlib.Core.List.{List, [], _∷_, _++_}
+use mathlib.Core.Bool.{Bool, true, false, _&&_}
+use mathlib.Core.List.{List, _++_}
 use Prim.Native.Nat.{ℕ, _+_, _-_, _≤_, _<_, min}
 use native.Mathlib.Omega.{arith}
 use borrow.Author.Needs.{needs}
-use borrow.Author.Tests.{eqb-true, leb-true, ltb-true, le-ltb, lt-ltb, le-leb, lt-leb, ne-eqb}
+use borrow.Author.Tests.{eqb-true, leb-true, ltb-true, le-ltb, lt-ltb, ne-eqb}
 use mir.Val.{Fits}
 use mir.Syntax.{w64}
 use lib.Dec.{eqb, leb, ltb}
@@ -15,16 +15,14 @@ use Rattle.base.specs.Part.{part, putAt}
 use Rattle.base.specs.Digits.{digits}
 use Rattle.base.proofs.Parts.{length-part, length-put, put-put}
 use Rattle.base.proofs.Numbers.{length-digits}
-use Rattle.image.specs.Item.{three}
 use Rattle.writer.specs.declared.source.Cursor.{Cursor}
-use Rattle.writer.specs.declared.source.Moved.{Moved}
 use Rattle.writer.specs.declared.whole.Run.{Run}
 use Rattle.block.specs.Unit.{wordOf}
 use Rattle.block.proofs.Wholes.{word-fixed, word-variable}
 use Rattle.writer.specs.Pack.{enters, taken, indicatorOf, controlWord}
 use Rattle.writer.specs.Output.{Wrote, overLong, hasRoom}
-use Rattle.writer.specs.Source.{isWhole, isUnsplit, bytesAt, laterAt, FileEnd, endAt, Good, Handed, Opened, past}
-use Rattle.writer.specs.Fills.{unitOf, UnitPut, Fillable, Turned, Turning, Filled, BlockPut, isUnbroken, isTold, Takable, Layable, turnOf, Ran}
+use Rattle.writer.specs.Source.{isWhole, isUnsplit, bytesAt, FileEnd, endAt, Good, Handed, Opened, past}
+use Rattle.writer.specs.Fills.{unitOf, UnitPut, Fillable, Turned, Filled, isUnbroken, isTold, Takable, Layable, turnOf, Ran}
 use Rattle.writer.proofs.Packing.{by-test, entered, enters-whole, taken-whole}
 use Rattle.writer.proofs.Units.{both, control-F, control-D, length-control}
 use Rattle.writer.proofs.Sources.{good-holds, good-length, past-whole, past-front, past-handed}
@@ -157,30 +155,7 @@ laid-none lay o q l = sym (if-false _ _ _ l)
 
 pub ruleset laid = (laid-room, laid-put, laid-none, needs)
 
--- ---- the record behind a whole one
-
-module _ (lengths bytes : List ℕ) (c : Cursor) (g : Good lengths bytes c) (v : isWhole c ≡ true) where
-  pub whole-few : c .left ≤ c .here
-  whole-few = omega (arith, g .holds .whole v)
-
-  whole-handed : Handed bytes c (c .left) (past c (c .left))
-  whole-handed = past-handed bytes c (c .left) (g .holds) whole-few (omega arith)
-
-  pub whole-good : (y : Cursor) → y ≡ past c (c .left) → Good lengths bytes y
-  whole-good y e = subst (Good lengths bytes) (sym e) (whole-handed .good lengths g)
-
-pub past-spent : (c y : Cursor) → y ≡ past c (c .left) → y .left ≡ 0
-past-spent c y e = ap (λ (d : Cursor). d .left) e ∙ omega arith
-
-pub past-source : (c y : Cursor) (k : ℕ) (t : Bool) → y ≡ past c k → c .image ≡ t → y .image ≡ t
-past-source c y k t e s = ap (λ (z : Cursor). z .image) e ∙ s
-
-pub past-opened : (lengths bytes : List ℕ) (c y d : Cursor) → y ≡ past c (c .left) → Opened lengths bytes y d → Opened lengths bytes (past c (c .left)) d
-past-opened lengths bytes c y d e op = subst (λ (z : Cursor). Opened lengths bytes z d) e op
-
-pub ruleset nexts = (whole-few, whole-good, past-spent, past-source, past-opened, good-holds, needs)
-
--- ---- a turn of a run
+-- ---- a record that is one segment
 
 -- any bytes of a record that is one segment stand together
 module _ (lengths bytes : List ℕ) (c : Cursor) (g : Good lengths bytes c) (v : isWhole c ≡ true) (n : ℕ) (l : n ≤ c .left) where
@@ -195,6 +170,28 @@ module _ (lengths bytes : List ℕ) (c : Cursor) (g : Good lengths bytes c) (v :
 
   part-front : take n (bytesAt bytes c) ≡ part (c .at) n bytes
   part-front = past-front bytes c n (g .holds) part-few l
+
+-- ---- the record behind a whole one
+
+module _ (lengths bytes : List ℕ) (c : Cursor) (g : Good lengths bytes c) (v : isWhole c ≡ true) where
+  pub whole-few : c .left ≤ c .here
+  whole-few = part-few lengths bytes c g v (c .left) (omega arith)
+
+  pub whole-good : (y : Cursor) → y ≡ past c (c .left) → Good lengths bytes y
+  whole-good y e = subst (Good lengths bytes) (sym e) (part-handed lengths bytes c g v (c .left) (omega arith) .good lengths g)
+
+pub past-spent : (c y : Cursor) → y ≡ past c (c .left) → y .left ≡ 0
+past-spent c y e = ap (λ (d : Cursor). d .left) e ∙ omega arith
+
+pub past-source : (c y : Cursor) (k : ℕ) (t : Bool) → y ≡ past c k → c .image ≡ t → y .image ≡ t
+past-source c y k t e s = ap (λ (z : Cursor). z .image) e ∙ s
+
+pub past-opened : (lengths bytes : List ℕ) (c y d : Cursor) → y ≡ past c (c .left) → Opened lengths bytes y d → Opened lengths bytes (past c (c .left)) d
+past-opened lengths bytes c y d e op = subst (λ (z : Cursor). Opened lengths bytes z d) e op
+
+pub ruleset nexts = (whole-few, whole-good, past-spent, past-source, past-opened, good-holds, needs)
+
+-- ---- a turn of a run
 
 -- the open record does not enter
 pub ran-none : (f b u : ℕ) (lengths bytes : List ℕ) (c : Cursor) (o : List ℕ) (start : ℕ) (lay t : Bool) → Takable b lengths bytes c (length o) start lay

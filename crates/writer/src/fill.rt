@@ -1,9 +1,8 @@
 // A data block filled from the records of a file, and led by its length. It knows when a block is full, and nothing of reels.
 ghost use mathlib.Core.Path.{_≡_};
 ghost use mathlib.Core.Bool.{true};
-ghost use Prim.Native.Nat.{_≤_};
 ghost use Rattle.writer.specs.Pack.{enters as entersIn};
-ghost use Rattle.writer.specs.Fills.{Fillable, Turned, Turning, Filled, BlockPut};
+ghost use Rattle.writer.specs.Fills.{Fillable, Turning, Filled, BlockPut};
 use crate::out::OVER_LONG;
 use crate::out::WORD;
 use crate::out::place_behind;

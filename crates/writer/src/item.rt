@@ -1,5 +1,4 @@
 // Labels, tape marks and ends of reels as items of an image. It knows which of them stand together, and nothing of when they are due.
-ghost use mathlib.Core.Path.{_≡_};
 ghost use mathlib.Core.List.{[], _∷_, _++_};
 ghost use Prim.Native.Nat.{suc, _+_, _<_};
 ghost use lib.ListN.{length};

@@ -8,7 +8,7 @@ ghost use Rattle.base.specs.If.{ifB};
 ghost use Rattle.base.specs.Part.{part, putAt};
 ghost use Rattle.writer.specs.Pack.{controlWord};
 ghost use Rattle.writer.specs.Source.{isWhole, Good, past, Opened};
-ghost use Rattle.writer.specs.Fills.{Fillable, Filled, isUnbroken, isTold, Takable, Layable, Ran};
+ghost use Rattle.writer.specs.Fills.{Filled, isUnbroken, isTold, Takable, Layable, Ran};
 use crate::out::copy_to;
 use crate::out::place_behind;
 use crate::source::Cursor;

@@ -1,9 +1,9 @@
-use Rattle.writer.proofs.Series.{Running, series}
+use Rattle.writer.proofs.Series.{InRun, series}
 use Rattle.writer.proofs.reel.lay_run.Statement.{statement}
 use Rattle.writer.proofs.reel.lay_run.Tie as tie
 
 abbrev Inv-loop : tie.InvT-loop
-Inv-loop f b lengths bytes out₀ lay x₀ out x = Running f b lengths bytes (x₀ .cur) (x₀ .reel) lay out₀ out x
+Inv-loop f b lengths bytes out₀ lay x₀ out x = InRun f b lengths bytes (x₀ .cur) (x₀ .reel) lay out₀ out x
 
 abbrev μ-loop : tie.MeasureT-loop
 μ-loop f b lengths bytes out₀ lay x₀ out x = x .reel .room
