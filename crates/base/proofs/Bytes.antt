@@ -62,6 +62,17 @@ same-true (x ∷ s) (y ∷ t) h =
     if-case (λ (b : Bool). b ≡ true → x ∷ s ≡ y ∷ t) (eqb x y) (same s t) false
     (λ e q. mathlib.Core.Path.ap₂ _∷_ (eqb-true x y e) (same-true s t q)) (λ e q. absurd (mathlib.Core.Bool.false≢true q)) h
 
+-- ---- two lists compared, said of what they are equal to
+
+pub same-is : (t : Bool) (p q a b : List ℕ) → t ≡ same p q → p ≡ a → q ≡ b → t ≡ same a b
+same-is t p q a b e f g = cc
+
+pub same-first : (t : Bool) (p q a : List ℕ) → t ≡ same p q → p ≡ a → t ≡ same a q
+same-first t p q a e f = cc
+
+pub same-second : (t : Bool) (p q b : List ℕ) → t ≡ same p q → q ≡ b → t ≡ same p b
+same-second t p q b e f = cc
+
 -- ---- the loop of `equal`: what is left from here compares as the whole
 
 pub record Compared (s t : List ℕ) (i : ℕ) : Type 0 where

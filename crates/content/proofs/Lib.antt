@@ -1,3 +1,4 @@
+mod Composed
 pub mod Sections
 pub mod Searches
 pub mod Units

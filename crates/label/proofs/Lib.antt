@@ -1,4 +1,5 @@
 pub mod Rules
+mod Composed
 pub mod Walk
 pub mod Filled
 pub mod Put

@@ -140,3 +140,21 @@ chosen P [] k q each e = let z : _≡_ {A = ℕ} 0 1 = cc in absurd (omega arith
 chosen P (t ∷ ts) k q (here, later) e =
     if-case (λ (d : Due). d ≡ To q → P k q) (isKind k (t .item)) (To (t .phase)) (choose ts k)
     (λ s h. let same : t .phase ≡ q = cc in subst₂ P (sym (kind-is k (t .item) s)) same here) (λ _ h. chosen P ts k q later h) e
+
+-- what is due behind a phase, said of the phase that p is
+pub at-phase : (p q : Phase) (k : Kind) (r s : Due) → r ≡ s → s ≡ dueAfter q k → p ≡ q → r ≡ dueAfter p k
+at-phase p q k r s h e g = h ∙ e ∙ ap (λ (x : Phase). dueAfter x k) (sym g)
+
+-- the same with two tests
+pub at-two : (p q : Phase) (k : Kind) (t : Bool) (r a m s : Due) → r ≡ ifB t a m → m ≡ s → dueAfter q k ≡ ifB t a s → p ≡ q → r ≡ dueAfter p k
+at-two p q k t r a m s h e d g = h ∙ ap (λ (x : Due). ifB t a x) e ∙ sym d ∙ ap (λ (x : Phase). dueAfter x k) (sym g)
+
+-- nothing is due behind the end
+pub at-end : (p : Phase) (k : Kind) → p ≡ Accepted → Wrong ≡ dueAfter p k
+at-end p k g = sym (due-accepted k) ∙ ap (λ (x : Phase). dueAfter x k) (sym g)
+
+-- two kinds are due
+pub choose-two : (k i j : Kind) (p q : Phase) (r m : Due) → r ≡ ifB (isKind k i) (To p) m → m ≡ ifB (isKind k j) (To q) Wrong
+    → r ≡ choose (turn i p ∷ turn j q ∷ []) k
+unfolding choose
+choose-two k i j p q r m e f = e ∙ ap (λ (x : Due). ifB (isKind k i) (To p) x) f

@@ -1,3 +1,4 @@
+mod Composed
 pub mod Cutting
 pub mod Sums
 pub mod Records

@@ -3,5 +3,6 @@ pub mod Accepted
 pub mod Bodies
 pub mod Afters
 pub mod Faults
+mod Composed
 pub mod Walks
 pub mod Reels

@@ -1,5 +1,5 @@
 use Rattle.order.specs.Due.{dueAfter, dues, choose}
-use Rattle.order.proofs.Laws.{choose-rest, nexts}
+use Rattle.order.proofs.Laws.{choose-rest, nexts, choose-two}
 use Rattle.order.proofs.after_eov.Statement.{statement}
 use Rattle.order.proofs.after_eov.Tie as tie
 
@@ -21,7 +21,7 @@ either-requires-2 c κs = search nexts
 
 returns-2 : tie.Need-returns-2
 unfolding dueAfter dues choose
-returns-2 c = choose-rest _ _ _ _ _ (c .before .before .before .is-next .result) _ (search nexts) (search nexts) (cc)
+returns-2 c = choose-rest _ _ _ _ _ (c .before .before .before .is-next .result) _ (search nexts) (search nexts) (search choose-two)
 
 pub after-eov-spec : {M : Type 1} → statement M
 after-eov-spec =

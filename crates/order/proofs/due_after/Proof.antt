@@ -1,5 +1,5 @@
 use borrow.Author.Needs.{needs}
-use Rattle.order.proofs.Laws.{due-reel, due-first-header, due-data, due-trailer, due-first-eof, due-first-eov, due-file-end, due-volume-end, due-set-closed, due-reel-closed, due-over, due-accepted}
+use Rattle.order.proofs.Laws.{at-phase, at-two, at-end, due-reel, due-first-header, due-data, due-trailer, due-first-eof, due-first-eov, due-file-end, due-volume-end, due-set-closed, due-reel-closed, due-over}
 use Rattle.order.proofs.due_after.Statement.{statement}
 use Rattle.order.proofs.due_after.Tie as tie
 
@@ -130,64 +130,64 @@ enum-told-12 : tie.Need-enum-told-12
 enum-told-12 c = search needs
 
 returns : tie.Need-returns
-returns c = cc (due-reel (c .before .before .before .args .k))
+returns c = search (at-phase, due-reel)
 
 returns-2 : tie.Need-returns-2
-returns-2 c = cc
+returns-2 c = search at-phase
 
 returns-3 : tie.Need-returns-3
-returns-3 c = cc
+returns-3 c = search at-phase
 
 returns-4 : tie.Need-returns-4
-returns-4 c = cc (due-first-header (c .before .before .before .args .k))
+returns-4 c = search (at-phase, due-first-header)
 
 returns-5 : tie.Need-returns-5
-returns-5 c = cc
+returns-5 c = search at-phase
 
 returns-6 : tie.Need-returns-6
-returns-6 c = cc
+returns-6 c = search at-phase
 
 returns-7 : tie.Need-returns-7
-returns-7 c = cc (due-data (c .before .before .before .before .args .k))
+returns-7 c = search (at-two, due-data)
 
 returns-8 : tie.Need-returns-8
-returns-8 c = cc (due-trailer (c .before .before .before .before .args .k))
+returns-8 c = search (at-two, due-trailer)
 
 returns-9 : tie.Need-returns-9
-returns-9 c = cc (due-first-eof (c .before .before .before .args .k))
+returns-9 c = search (at-phase, due-first-eof)
 
 returns-10 : tie.Need-returns-10
-returns-10 c = cc
+returns-10 c = search at-phase
 
 returns-11 : tie.Need-returns-11
-returns-11 c = cc
+returns-11 c = search at-phase
 
 returns-12 : tie.Need-returns-12
-returns-12 c = cc (due-first-eov (c .before .before .before .args .k))
+returns-12 c = search (at-phase, due-first-eov)
 
 returns-13 : tie.Need-returns-13
-returns-13 c = cc
+returns-13 c = search at-phase
 
 returns-14 : tie.Need-returns-14
-returns-14 c = cc
+returns-14 c = search at-phase
 
 returns-15 : tie.Need-returns-15
-returns-15 c = cc (due-file-end (c .before .before .before .before .args .k))
+returns-15 c = search (at-two, due-file-end)
 
 returns-16 : tie.Need-returns-16
-returns-16 c = cc (due-volume-end (c .before .before .before .args .k))
+returns-16 c = search (at-phase, due-volume-end)
 
 returns-17 : tie.Need-returns-17
-returns-17 c = cc (due-set-closed (c .before .before .before .args .k))
+returns-17 c = search (at-phase, due-set-closed)
 
 returns-18 : tie.Need-returns-18
-returns-18 c = cc (due-reel-closed (c .before .before .before .args .k))
+returns-18 c = search (at-phase, due-reel-closed)
 
 returns-19 : tie.Need-returns-19
-returns-19 c = cc (due-over (c .before .before .before .args .k))
+returns-19 c = search (at-phase, due-over)
 
 returns-20 : tie.Need-returns-20
-returns-20 c = cc (due-accepted (c .before .before .args .k))
+returns-20 c = search at-end
 
 pub due-after-spec : {M : Type 1} → statement M
 due-after-spec =

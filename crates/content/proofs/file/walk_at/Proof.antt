@@ -1,3 +1,4 @@
+use Rattle.content.proofs.Composed.{composed}
 use Rattle.base.proofs.Rules.{ifs}
 use Rattle.content.proofs.file.walk_at.Statement.{statement}
 use Rattle.content.proofs.file.walk_at.Tie as tie
@@ -18,7 +19,7 @@ walk-from-requires : tie.Need-walk-from-requires
 walk-from-requires c κs = search ifs
 
 returns : tie.Need-returns
-returns c = cc
+returns c = search composed
 
 pub walk-at-spec : {M : Type 1} → statement M
 walk-at-spec =

@@ -1,3 +1,4 @@
+use Rattle.label.proofs.Composed.{composed}
 use borrow.Author.Needs.{needs}
 use Rattle.label.proofs.compared.same_part.Statement.{statement}
 use Rattle.label.proofs.compared.same_part.Tie as tie
@@ -12,7 +13,7 @@ equal-requires : tie.Need-equal-requires
 equal-requires c κs = search needs
 
 returns : tie.Need-returns
-returns c = cc
+returns c = search composed
 
 pub same-part-spec : {M : Type 1} → statement M
 same-part-spec = tie.close (tie.spec part-of-requires part-of-requires-2 equal-requires returns)

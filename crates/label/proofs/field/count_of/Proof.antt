@@ -1,3 +1,4 @@
+use Rattle.label.proofs.Composed.{composed}
 use Rattle.label.specs.Field.{countOf}
 use borrow.Author.Needs.{needs}
 use Rattle.label.proofs.field.count_of.Statement.{statement}
@@ -11,7 +12,7 @@ number-in-requires c κs = search needs
 
 returns : tie.Need-returns
 unfolding countOf
-returns c = cc
+returns c = search composed
 
 pub count-of-spec : {M : Type 1} → statement M
 count-of-spec = tie.close (tie.spec part-of-requires number-in-requires returns)

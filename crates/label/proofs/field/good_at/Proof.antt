@@ -1,3 +1,4 @@
+use Rattle.label.proofs.Composed.{composed}
 use Rattle.label.specs.Judged.{goodAt}
 use borrow.Author.Needs.{needs}
 use Rattle.label.proofs.field.good_at.Statement.{statement}
@@ -11,7 +12,7 @@ suits-rule-requires c κs = search needs
 
 returns : tie.Need-returns
 unfolding goodAt
-returns c = cc
+returns c = search composed
 
 pub good-at-spec : {M : Type 1} → statement M
 good-at-spec = tie.close (tie.spec part-of-requires suits-rule-requires returns)

@@ -1,3 +1,4 @@
+use Rattle.label.proofs.Composed.{composed}
 use Rattle.label.specs.Field.{hasRecordLength}
 use borrow.Author.Needs.{needs}
 use Rattle.label.proofs.field.has_record_length.Statement.{statement}
@@ -20,7 +21,7 @@ is-record-length-requires c κs = search needs
 
 returns : tie.Need-returns
 unfolding hasRecordLength
-returns c = cc
+returns c = search composed
 
 pub has-record-length-spec : {M : Type 1} → statement M
 has-record-length-spec =

@@ -1,3 +1,4 @@
+use Rattle.label.proofs.Composed.{composed}
 use borrow.Author.Needs.{needs}
 use Rattle.label.proofs.field.holds_positive.Statement.{statement}
 use Rattle.label.proofs.field.holds_positive.Tie as tie
@@ -9,7 +10,7 @@ is-positive-requires : tie.Need-is-positive-requires
 is-positive-requires c κs = search needs
 
 returns : tie.Need-returns
-returns c = cc
+returns c = search composed
 
 pub holds-positive-spec : {M : Type 1} → statement M
 holds-positive-spec = tie.close (tie.spec number-in-requires is-positive-requires returns)

@@ -1,4 +1,4 @@
-use Rattle.label.specs.Field.{isRecordLength}
+use Rattle.label.proofs.Composed.{composed}
 use borrow.Author.Needs.{needs}
 use Rattle.label.proofs.field.is_record_length.Statement.{statement}
 use Rattle.label.proofs.field.is_record_length.Tie as tie
@@ -13,12 +13,10 @@ enum-told : tie.Need-enum-told
 enum-told c = search needs
 
 returns : tie.Need-returns
-unfolding isRecordLength
-returns c = cc
+returns c = search composed
 
 returns-2 : tie.Need-returns-2
-unfolding isRecordLength
-returns-2 c = cc
+returns-2 c = search composed
 
 pub is-record-length-spec : {M : Type 1} → statement M
 is-record-length-spec =

@@ -1,3 +1,4 @@
+use Rattle.label.proofs.Composed.{composed}
 use Rattle.label.specs.Field.{setOf}
 use borrow.Author.Needs.{needs}
 use Rattle.label.proofs.field.set_of.Statement.{statement}
@@ -8,7 +9,7 @@ part-of-requires c κs = search needs
 
 returns : tie.Need-returns
 unfolding setOf
-returns c = cc
+returns c = search composed
 
 pub set-of-spec : {M : Type 1} → statement M
 set-of-spec = tie.close (tie.spec part-of-requires returns)

@@ -1,4 +1,4 @@
-use Rattle.label.specs.Field.{suitsBoth}
+use Rattle.label.proofs.Composed.{composed}
 use borrow.Author.Needs.{needs}
 use Rattle.label.proofs.field.suits_both.Statement.{statement}
 use Rattle.label.proofs.field.suits_both.Tie as tie
@@ -10,8 +10,7 @@ enum-told : tie.Need-enum-told
 enum-told c = search needs
 
 returns : tie.Need-returns
-unfolding suitsBoth
-returns c = cc
+returns c = search composed
 
 enum-known-o : tie.Need-enum-known-o
 enum-known-o c = search needs
@@ -20,15 +19,13 @@ enum-told-2 : tie.Need-enum-told-2
 enum-told-2 c = search needs
 
 returns-2 : tie.Need-returns-2
-unfolding suitsBoth
-returns-2 c = cc
+returns-2 c = search composed
 
 suits-requires : tie.Need-suits-requires
 suits-requires c κs = search needs
 
 returns-3 : tie.Need-returns-3
-unfolding suitsBoth
-returns-3 c = cc
+returns-3 c = search composed
 
 pub suits-both-spec : {M : Type 1} → statement M
 suits-both-spec =

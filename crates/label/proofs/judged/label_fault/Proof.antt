@@ -1,3 +1,4 @@
+use Rattle.label.proofs.Composed.{composed}
 use Rattle.label.specs.Judged.{labelFault}
 use borrow.Author.Needs.{needs}
 use Rattle.label.proofs.judged.label_fault.Statement.{statement}
@@ -17,7 +18,7 @@ field-fault-requires c κs = search needs
 
 returns : tie.Need-returns
 unfolding labelFault
-returns c = cc
+returns c = search composed
 
 pub label-fault-spec : {M : Type 1} → statement M
 label-fault-spec =

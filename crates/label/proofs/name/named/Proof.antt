@@ -1,3 +1,4 @@
+use Rattle.label.proofs.Composed.{composed}
 use Rattle.label.specs.Name.{named}
 use borrow.Author.Needs.{needs}
 use Rattle.label.proofs.name.named.Statement.{statement}
@@ -23,7 +24,7 @@ or-else-requires c κs = search needs
 
 returns : tie.Need-returns
 unfolding named
-returns c = cc
+returns c = search composed
 
 pub named-spec : {M : Type 1} → statement M
 named-spec =

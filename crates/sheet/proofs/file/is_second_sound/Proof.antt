@@ -1,4 +1,4 @@
-use Rattle.sheet.specs.Legal.{isSound}
+use Rattle.sheet.proofs.Composed.{composed}
 use borrow.Author.Needs.{needs}
 use Rattle.sheet.proofs.file.is_second_sound.Statement.{statement}
 use Rattle.sheet.proofs.file.is_second_sound.Tie as tie
@@ -16,8 +16,7 @@ label-fault-requires : tie.Need-label-fault-requires
 label-fault-requires c κs = search needs
 
 returns : tie.Need-returns
-unfolding isSound
-returns c = cc
+returns c = search composed
 
 pub is-second-sound-spec : {M : Type 1} → statement M
 is-second-sound-spec =

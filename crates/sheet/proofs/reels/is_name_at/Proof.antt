@@ -1,3 +1,4 @@
+use Rattle.sheet.proofs.Composed.{composed}
 use borrow.Author.Needs.{needs}
 use Rattle.sheet.proofs.reels.is_name_at.Statement.{statement}
 use Rattle.sheet.proofs.reels.is_name_at.Tie as tie
@@ -9,7 +10,7 @@ equal-requires : tie.Need-equal-requires
 equal-requires c κs = search needs
 
 returns : tie.Need-returns
-returns c = cc
+returns c = search composed
 
 pub is-name-at-spec : {M : Type 1} → statement M
 is-name-at-spec = tie.close (tie.spec part-of-requires equal-requires returns)

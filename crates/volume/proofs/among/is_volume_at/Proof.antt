@@ -1,3 +1,4 @@
+use Rattle.volume.proofs.Composed.{composed}
 use borrow.Author.Needs.{needs}
 use Rattle.volume.proofs.among.is_volume_at.Statement.{statement}
 use Rattle.volume.proofs.among.is_volume_at.Tie as tie
@@ -12,7 +13,7 @@ equal-requires : tie.Need-equal-requires
 equal-requires c κs = search needs
 
 returns : tie.Need-returns
-returns c = cc
+returns c = search composed
 
 pub is-volume-at-spec : {M : Type 1} → statement M
 is-volume-at-spec =

@@ -8,7 +8,7 @@ part-of-requires c κs = search needs
 
 returns : tie.Need-returns
 unfolding labelAt
-returns c = cc
+returns c = search
 
 pub label-at-spec : {M : Type 1} → statement M
 label-at-spec = tie.close (tie.spec part-of-requires returns)

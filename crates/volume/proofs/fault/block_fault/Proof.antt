@@ -1,3 +1,4 @@
+use Rattle.volume.proofs.Composed.{composed}
 use Rattle.volume.specs.Fault.{blockFault}
 use Rattle.base.specs.Answer.{fault}
 use borrow.Author.Needs.{needs}
@@ -9,7 +10,7 @@ outcome-in-requires c κs = search needs
 
 returns : tie.Need-returns
 unfolding blockFault fault
-returns c = cc
+returns c = search composed
 
 pub block-fault-spec : {M : Type 1} → statement M
 block-fault-spec = tie.close (tie.spec outcome-in-requires returns)

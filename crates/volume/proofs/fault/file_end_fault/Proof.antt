@@ -1,3 +1,4 @@
+use Rattle.volume.proofs.Composed.{composed}
 use Rattle.volume.specs.Fault.{fileEndFault}
 use borrow.Author.Needs.{needs}
 use Rattle.volume.proofs.fault.file_end_fault.Statement.{statement}
@@ -14,7 +15,7 @@ or-else-requires c κs = search needs
 
 returns : tie.Need-returns
 unfolding fileEndFault
-returns c = cc
+returns c = search composed
 
 pub file-end-fault-spec : {M : Type 1} → statement M
 file-end-fault-spec =

@@ -1,3 +1,4 @@
+use Rattle.volume.proofs.Composed.{composed}
 use Rattle.volume.proofs.Faults.{is-then, is-else}
 use Rattle.volume.specs.Fault.{firstHeaderFault}
 use borrow.Author.Needs.{needs}
@@ -12,7 +13,7 @@ crossed-requires c κs = search needs
 
 returns : tie.Need-returns
 unfolding firstHeaderFault
-returns c = is-then _ _ _ _ (cc) (cc)
+returns c = is-then _ _ _ _ (search) (search composed)
 
 new-file-place-requires : tie.Need-new-file-place-requires
 new-file-place-requires c κs = search needs
@@ -28,7 +29,7 @@ or-else-requires c κs = search needs
 
 returns-2 : tie.Need-returns-2
 unfolding firstHeaderFault
-returns-2 c = is-else _ _ _ _ (cc) (cc)
+returns-2 c = is-else _ _ _ _ (search) (search composed)
 
 pub first-header-fault-spec : {M : Type 1} → statement M
 first-header-fault-spec =

@@ -1,3 +1,4 @@
+use Rattle.volume.proofs.Composed.{composed}
 use Rattle.volume.specs.Fault.{firstTrailerFault}
 use borrow.Author.Needs.{needs}
 use Rattle.volume.proofs.fault.first_trailer_fault.Statement.{statement}
@@ -17,7 +18,7 @@ crossed-requires c κs = search needs
 
 returns : tie.Need-returns
 unfolding firstTrailerFault
-returns c = cc
+returns c = search composed
 
 pub first-trailer-fault-spec : {M : Type 1} → statement M
 first-trailer-fault-spec =

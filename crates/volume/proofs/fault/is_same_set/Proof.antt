@@ -1,3 +1,4 @@
+use Rattle.volume.proofs.Composed.{composed}
 use Rattle.volume.proofs.Faults.{is-else}
 use Rattle.base.proofs.Rules.{ifs}
 use borrow.Author.Needs.{needs}
@@ -17,7 +18,7 @@ equal-requires : tie.Need-equal-requires
 equal-requires c κs = search needs
 
 returns-2 : tie.Need-returns-2
-returns-2 c = is-else _ _ _ _ (search ifs) (cc)
+returns-2 c = is-else _ _ _ _ (search ifs) (search composed)
 
 pub is-same-set-spec : {M : Type 1} → statement M
 is-same-set-spec =

@@ -1,3 +1,4 @@
+use Rattle.volume.proofs.Composed.{composed}
 use Rattle.volume.specs.Fault.{itemFault}
 use Rattle.volume.specs.Place.{contents}
 use borrow.Author.Needs.{needs}
@@ -20,8 +21,7 @@ or-else-requires : tie.Need-or-else-requires
 or-else-requires c κs = search needs
 
 returns : tie.Need-returns
-unfolding itemFault contents
-returns c = cc
+returns c = search composed
 
 pub item-fault-spec : {M : Type 1} → statement M
 item-fault-spec =

@@ -1,3 +1,4 @@
+use Rattle.volume.proofs.Composed.{composed}
 use Rattle.volume.specs.Fault.{laterPlace}
 use borrow.Author.Needs.{needs}
 use Rattle.volume.proofs.fault.later_place.Statement.{statement}
@@ -14,7 +15,7 @@ lower-requires c κs = search needs
 
 returns : tie.Need-returns
 unfolding laterPlace
-returns c = cc
+returns c = search composed
 
 pub later-place-spec : {M : Type 1} → statement M
 later-place-spec =

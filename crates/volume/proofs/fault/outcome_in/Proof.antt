@@ -1,3 +1,4 @@
+use Rattle.volume.proofs.Composed.{composed}
 use Rattle.volume.specs.Fault.{outcomeIn}
 use borrow.Author.Needs.{needs}
 use Rattle.volume.proofs.fault.outcome_in.Statement.{statement}
@@ -35,7 +36,7 @@ block-outcome-requires c κs = search needs
 
 returns : tie.Need-returns
 unfolding outcomeIn
-returns c = cc
+returns c = search composed
 
 pub outcome-in-spec : {M : Type 1} → statement M
 outcome-in-spec =

@@ -1,4 +1,4 @@
-use Rattle.volume.specs.Fault.{says}
+use Rattle.volume.proofs.Composed.{composed}
 use borrow.Author.Needs.{needs}
 use Rattle.volume.proofs.fault.says.Statement.{statement}
 use Rattle.volume.proofs.fault.says.Tie as tie
@@ -13,12 +13,10 @@ enum-told : tie.Need-enum-told
 enum-told c = search needs
 
 returns : tie.Need-returns
-unfolding says
-returns c = cc
+returns c = search composed
 
 returns-2 : tie.Need-returns-2
-unfolding says
-returns-2 c = cc
+returns-2 c = search composed
 
 pub says-spec : {M : Type 1} → statement M
 says-spec = tie.close (tie.spec enum-known-x cast-result enum-told returns returns-2)

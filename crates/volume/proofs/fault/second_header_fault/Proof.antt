@@ -1,3 +1,4 @@
+use Rattle.volume.proofs.Composed.{composed}
 use Rattle.volume.proofs.Faults.{is-then}
 use Rattle.volume.specs.Fault.{secondHeaderFault}
 use Rattle.base.proofs.Rules.{ifs}
@@ -14,7 +15,7 @@ crossed-requires c κs = search needs
 
 returns : tie.Need-returns
 unfolding secondHeaderFault fault
-returns c = is-then _ _ _ _ (cc) (cc)
+returns c = is-then _ _ _ _ (search) (search composed)
 
 returns-2 : tie.Need-returns-2
 unfolding secondHeaderFault fault

@@ -1,3 +1,4 @@
+use Rattle.volume.proofs.Composed.{composed}
 use Rattle.volume.specs.Fault.{secondTrailerFault}
 use borrow.Author.Needs.{needs}
 use Rattle.volume.proofs.fault.second_trailer_fault.Statement.{statement}
@@ -11,7 +12,7 @@ crossed-requires c κs = search needs
 
 returns : tie.Need-returns
 unfolding secondTrailerFault
-returns c = cc
+returns c = search composed
 
 pub second-trailer-fault-spec : {M : Type 1} → statement M
 second-trailer-fault-spec =

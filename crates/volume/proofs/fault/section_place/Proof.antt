@@ -1,4 +1,4 @@
-use Rattle.volume.proofs.Faults.{is-then, is-else}
+use Rattle.volume.proofs.Composed.{composed}
 use borrow.Author.Needs.{needs}
 use Rattle.volume.proofs.fault.section_place.Statement.{statement}
 use Rattle.volume.proofs.fault.section_place.Tie as tie
@@ -22,10 +22,10 @@ says-requires : tie.Need-says-requires
 says-requires c κs = search needs
 
 returns : tie.Need-returns
-returns c = is-then _ _ _ _ (cc) (cc)
+returns c = search composed
 
 returns-2 : tie.Need-returns-2
-returns-2 c = is-else _ _ _ _ (cc) (cc)
+returns-2 c = search composed
 
 pub section-place-spec : {M : Type 1} → statement M
 section-place-spec =

@@ -1,4 +1,4 @@
-use Rattle.volume.specs.Fault.{valueOf}
+use Rattle.volume.proofs.Composed.{composed}
 use borrow.Author.Needs.{needs}
 use Rattle.volume.proofs.fault.value_of.Statement.{statement}
 use Rattle.volume.proofs.fault.value_of.Tie as tie
@@ -10,12 +10,10 @@ enum-told : tie.Need-enum-told
 enum-told c = search needs
 
 returns : tie.Need-returns
-unfolding valueOf
-returns c = cc
+returns c = search composed
 
 returns-2 : tie.Need-returns-2
-unfolding valueOf
-returns-2 c = cc
+returns-2 c = search composed
 
 pub value-of-spec : {M : Type 1} → statement M
 value-of-spec = tie.close (tie.spec enum-known-x enum-told returns returns-2)

@@ -1,3 +1,4 @@
+use Rattle.volume.proofs.Composed.{composed}
 use borrow.Author.Needs.{needs}
 use Rattle.volume.proofs.walk.lengths_of.Statement.{statement}
 use Rattle.volume.proofs.walk.lengths_of.Tie as tie
@@ -30,7 +31,7 @@ cast-t10 : tie.Need-cast-t10
 cast-t10 c = search needs
 
 returns : tie.Need-returns
-returns c = record { format = cc; block = cc; size = cc; offset = cc }
+returns c = record { format = search; block = search composed; size = search composed; offset = search composed }
 
 pub lengths-of-spec : {M : Type 1} → statement M
 lengths-of-spec =
