@@ -13,8 +13,6 @@ use lib.ListN.{length, drop}
 use Rattle.base.specs.If.{ifB, if-true, if-false}
 use Rattle.base.specs.Part.{part}
 use Rattle.base.proofs.Parts.{length-part}
-use Rattle.charset.specs.declared.Number.{Number}
-use Rattle.charset.specs.declared.Number.the-variants.{Value, Wrong as NoNumber}
 use Rattle.image.specs.Item.{Item, broken, shape, decode}
 use Rattle.image.specs.Framing.{items}
 use Rattle.image.specs.declared.Shape.{Shape}
@@ -27,7 +25,7 @@ use Rattle.order.specs.declared.Phase.{Phase}
 use Rattle.order.specs.declared.Phase.the-variants.{Reel, Header, Data}
 use Rattle.order.specs.declared.Due.{Due}
 use Rattle.order.specs.declared.Due.the-variants.{To, Wrong}
-use Rattle.volume.specs.Fault.{valueOf}
+use Rattle.volume.proofs.Faults.{value-some, value-none}
 use Rattle.volume.specs.Step.{kindIn, bytesIn}
 use Rattle.content.specs.Section.{placeBehind, seenAt}
 use Rattle.content.specs.File.{markFrom, walkFrom, beginsFile, goesOnBehind, firstBehind, onward, headerFrom, firstFile, nextFile, fileBehind, fromFile, filesOn, fileNumbered}
@@ -38,14 +36,6 @@ use Rattle.content.specs.declared.FileAt.{FileAt}
 use Rattle.content.specs.declared.NextFile.{NextFile}
 use Rattle.content.specs.declared.NextFile.the-variants.{At, Nowhere}
 use Rattle.content.proofs.Sections.{start-fits, end-fits, sees, unseen, item-within, item-start, item-end, item-falls}
-
-pub value-some : (x : Number) (n : ℕ) → x ≡ Value n → n ≡ valueOf x
-unfolding valueOf
-value-some x n e = sym (ap valueOf e)
-
-pub value-none : (x : Number) → x ≡ NoNumber → 0 ≡ valueOf x
-unfolding valueOf
-value-none x e = sym (ap valueOf e)
 
 pub ruleset values = (value-some, value-none, needs)
 

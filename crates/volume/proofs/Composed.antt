@@ -23,6 +23,7 @@ use Rattle.volume.specs.Place.{contents, labelAt, namesAt}
 use Rattle.volume.specs.declared.Reading.{Reading}
 use Rattle.volume.specs.declared.walk.Spot.{Spot}
 use Rattle.volume.specs.declared.walk.Turn.{Turn}
+use Rattle.volume.proofs.Faults.{value-some, value-none}
 
 pub says-value : (n v : ℕ) (x : Number) → x ≡ Value v → eqb v n ≡ says n x
 unfolding says
@@ -31,14 +32,6 @@ says-value n v x e = cc
 pub says-wrong : (n : ℕ) (x : Number) → x ≡ Wrong → false ≡ says n x
 unfolding says
 says-wrong n x e = cc
-
-pub value-number : (v : ℕ) (x : Number) → x ≡ Value v → v ≡ valueOf x
-unfolding valueOf
-value-number v x e = cc
-
-pub value-wrong : (x : Number) → x ≡ Wrong → 0 ≡ valueOf x
-unfolding valueOf
-value-wrong x e = cc
 
 pub value-is : (n : ℕ) (x y : Number) → n ≡ valueOf x → x ≡ y → n ≡ valueOf y
 value-is n x y e f = cc
@@ -92,4 +85,4 @@ pub number-is : (o p : Outcome) → o ≡ p → _≡_ {A = Fault} (record { numb
 unfolding fault
 number-is o p e = λ i. record { number = e i .number; byte = 0 }
 
-pub ruleset composed = (says-value, says-wrong, value-number, value-wrong, same-volume, item-is, stopped, number-is, value-is, crossed-is, lower-is, or-else-is, same-is, section-then, section-else, outcome-is)
+pub ruleset composed = (says-value, says-wrong, value-some, value-none, same-volume, item-is, stopped, number-is, value-is, crossed-is, lower-is, or-else-is, same-is, section-then, section-else, outcome-is)

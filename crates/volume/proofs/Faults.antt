@@ -15,8 +15,9 @@ use Rattle.base.specs.Part.{same}
 use Rattle.base.specs.Answer.{fault}
 use Rattle.base.specs.declared.Fault.{Fault}
 use Rattle.charset.specs.declared.Number.{Number}
+use Rattle.charset.specs.declared.Number.the-variants.{Value, Wrong}
 use Rattle.label.specs.Field.{volumeOf}
-use Rattle.volume.specs.Fault.{says, isAmong, crossed, volumeFault}
+use Rattle.volume.specs.Fault.{says, valueOf, isAmong, crossed, volumeFault}
 use Rattle.volume.specs.Place.{labelAt, namesAt}
 
 -- ---- a choice, at the branch that the code took
@@ -34,6 +35,14 @@ said b n x y e f h = cc
 
 pub unsaid : (b : Bool) (n : ℕ) (x y : Number) → b ≡ says n x → x ≡ y → b ≡ false → says n y ≡ false
 unsaid b n x y e f h = cc
+
+pub value-some : (x : Number) (n : ℕ) → x ≡ Value n → n ≡ valueOf x
+unfolding valueOf
+value-some x n e = sym (ap valueOf e)
+
+pub value-none : (x : Number) → x ≡ Wrong → 0 ≡ valueOf x
+unfolding valueOf
+value-none x e = sym (ap valueOf e)
 
 pub ruleset fields = (if-true, if-false, so-true, so-false, said, unsaid)
 
