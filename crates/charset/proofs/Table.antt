@@ -6,6 +6,7 @@ use mathlib.Core.List.{List, [], _∷_}
 use Prim.Native.Nat.{ℕ, zero, suc, _+_, _<_}
 use native.Mathlib.Nat.{add-zero, zero-add, add-suc, suc-add, le-of-suc-le-suc, not-suc-le-zero}
 use lib.ListN.{getD}
+use Rattle.charset.specs.Class.{classOf, Right}
 
 -- what f says of the n places from i on
 abbrev pub entries : (ℕ → ℕ) → ℕ → ℕ → List ℕ
@@ -19,3 +20,7 @@ from f (suc n) i (suc k) h = from f n (suc i) k (le-of-suc-le-suc h) ∙ ap f (s
 
 pub look-up : (f : ℕ → ℕ) (n k : ℕ) → k < n → getD (entries f 0 n) k 0 ≡ f k
 look-up f n k h = from f n 0 k h ∙ ap f (zero-add k)
+
+-- the table of what the rule of classes says of the 256 bytes
+pub right : Right (entries classOf 0 256)
+right = record { entry = look-up classOf 256 }

@@ -1,4 +1,4 @@
-// The class numbers of the 256 bytes, by the columns of the code table. It knows no rule: `class_of` is proved to follow it.
+// The class numbers of the 256 bytes, by the columns of the code table. It knows no rule: `class_table` is proved to follow it.
 
 // 2: a digit. 1: another a-character. 0: neither. A place is named where the class changes.
 pub const CLASSES: [u8; 256] = [

@@ -1,7 +1,7 @@
 // Characters, numbers and dates: what a label's field may hold. It knows no label.
 ghost use mathlib.Core.Path.{_≡_};
 ghost use Rattle.base.specs.Digits.{isDigit, allDigits};
-ghost use Rattle.charset.specs.Class.{isA, classOf, allA};
+ghost use Rattle.charset.specs.Class.{between, isA, classOf, Right, inRanges, RightElsewhere, allA};
 ghost use Rattle.charset.specs.Number.{numberIn};
 ghost use Rattle.charset.specs.Date.{isCentury, isYearDay, isDate};
 
@@ -15,39 +15,99 @@ pub enum Number {
     Wrong,
 }
 
-// The class number of a byte.
-pub fn class_of(b: u8) -> u8
-    ensures { λ r. ⌜ r ≡ classOf b ⌝ }
+// Whether a byte lies in the range from a to z.
+fn is_between(a: u8, z: u8, b: u8) -> bool
+    ensures { λ r. ⌜ r ≡ between a z b ⌝ }
 {
-    CLASSES[b as usize]
-}
-
-// Whether a byte is an a-character.
-pub fn is_character(b: u8) -> bool
-    ensures { λ r. ⌜ r ≡ isA b ⌝ }
-{
-    class_of(b) != 0
+    a <= b && b <= z
 }
 
 // Whether a byte is a digit.
 pub fn is_digit(b: u8) -> bool
     ensures { λ r. ⌜ r ≡ isDigit b ⌝ }
 {
-    class_of(b) == 2
+    is_between(b'0', b'9', b)
 }
 
-// Whether every byte is an a-character.
-pub fn all_characters(s: &[u8]) -> bool
+// Whether a byte lies in the ranges of most bytes: digits, capitals, SPACE.
+fn in_ranges(b: u8) -> bool
+    ensures { λ r. ⌜ r ≡ inRanges b ⌝ }
+{
+    if is_digit(b) {
+        return true;
+    }
+    if is_between(b'A', b'Z', b) {
+        return true;
+    }
+    b == b' '
+}
+
+// The class number of a byte. What the ranges tell is not looked up: the answer is the same whatever a table has for it.
+fn class_by(table: &[u8; 256], b: u8) -> u8
+    requires { ⌜ RightElsewhere (now table) ⌝ }
+    ensures { λ r. ⌜ r ≡ classOf b ⌝ }
+{
+    if is_digit(b) {
+        return 2;
+    }
+    if in_ranges(b) {
+        return 1;
+    }
+    table[b as usize]
+}
+
+// The table of this crate, which is right for every byte.
+fn class_table() -> [u8; 256]
+    ensures { λ r. ⌜ Right r ⌝ }
+{
+    CLASSES
+}
+
+// The class number of a byte.
+pub fn class_of(b: u8) -> u8
+    ensures { λ r. ⌜ r ≡ classOf b ⌝ }
+{
+    let table = class_table();
+    class_by(&table, b)
+}
+
+// Whether a byte is an a-character, by such a table.
+fn is_character_by(table: &[u8; 256], b: u8) -> bool
+    requires { ⌜ RightElsewhere (now table) ⌝ }
+    ensures { λ r. ⌜ r ≡ isA b ⌝ }
+{
+    class_by(table, b) != 0
+}
+
+// Whether a byte is an a-character.
+pub fn is_character(b: u8) -> bool
+    ensures { λ r. ⌜ r ≡ isA b ⌝ }
+{
+    let table = class_table();
+    is_character_by(&table, b)
+}
+
+// Whether every byte is an a-character, by such a table.
+fn all_characters_by(table: &[u8; 256], s: &[u8]) -> bool
+    requires { ⌜ RightElsewhere (now table) ⌝ }
     ensures { λ r. ⌜ r ≡ allA (now (s .entry)) ⌝ }
 {
     let mut i = 0;
     while i < s.len() {
-        if !is_character(s[i]) {
+        if !is_character_by(table, s[i]) {
             return false;
         }
         i += 1;
     }
     true
+}
+
+// Whether every byte is an a-character. The table is laid out once for all of them: a constant is copied wherever it is read.
+pub fn all_characters(s: &[u8]) -> bool
+    ensures { λ r. ⌜ r ≡ allA (now (s .entry)) ⌝ }
+{
+    let table = class_table();
+    all_characters_by(&table, s)
 }
 
 // Whether every byte is a digit.

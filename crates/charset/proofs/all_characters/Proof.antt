@@ -1,51 +1,15 @@
-use Prim.Native.Nat.{_-_}
-use lib.ListN.{length}
-use Rattle.charset.specs.Class.{isA, allA}
-use Rattle.charset.proofs.Passed.{Passed, passed-other, passed-all, passing}
+use Rattle.charset.proofs.Ranges.{telling}
 use Rattle.charset.proofs.all_characters.Statement.{statement}
 use Rattle.charset.proofs.all_characters.Tie as tie
 
-abbrev Inv-loop : tie.InvT-loop
-Inv-loop s i₀ i = Passed allA s i
+class-table-requires : tie.Need-class-table-requires
+class-table-requires c κs = search telling
 
-abbrev μ-loop : tie.MeasureT-loop
-μ-loop s i₀ i = length s - i
+all-characters-by-requires : tie.Need-all-characters-by-requires
+all-characters-by-requires c κs = search telling
 
-loop-holds : tie.Need-loop-holds Inv-loop μ-loop
-loop-holds c = search passing
-
-shared-slice-read-is-character : tie.Need-shared-slice-read-is-character Inv-loop μ-loop
-shared-slice-read-is-character c = search passing
-
-is-character-requires : tie.Need-is-character-requires Inv-loop μ-loop
-is-character-requires c κs = search passing
-
-returns : tie.Need-returns Inv-loop μ-loop
-returns c = search (passed-other isA allA, passing)
-
-add-i : tie.Need-add-i Inv-loop μ-loop
-add-i c = search passing
-
-loop-less : tie.Need-loop-less Inv-loop μ-loop
-loop-less c = search passing
-
-loop-again : tie.Need-loop-again Inv-loop μ-loop
-loop-again c = search passing
-
-returns-2 : tie.Need-returns-2 Inv-loop μ-loop
-returns-2 c = search (passed-all isA allA, passing)
+returns : tie.Need-returns
+returns c = search telling
 
 pub all-characters-spec : {M : Type 1} → statement M
-all-characters-spec =
-    tie.close
-    (tie.spec
-    Inv-loop
-    μ-loop
-    loop-holds
-    shared-slice-read-is-character
-    is-character-requires
-    returns
-    add-i
-    loop-less
-    loop-again
-    returns-2)
+all-characters-spec = tie.close (tie.spec class-table-requires all-characters-by-requires returns)

@@ -1,13 +1,12 @@
-use borrow.Author.Needs.{needs}
-use Rattle.charset.proofs.Characters.{digit-class}
+use Rattle.charset.proofs.Ranges.{telling}
 use Rattle.charset.proofs.is_digit.Statement.{statement}
 use Rattle.charset.proofs.is_digit.Tie as tie
 
-class-of-requires : tie.Need-class-of-requires
-class-of-requires c κs = search needs
+is-between-requires : tie.Need-is-between-requires
+is-between-requires c κs = search telling
 
 returns : tie.Need-returns
-returns c = search (digit-class, needs)
+returns c = search telling
 
 pub is-digit-spec : {M : Type 1} → statement M
-is-digit-spec = tie.close (tie.spec class-of-requires returns)
+is-digit-spec = tie.close (tie.spec is-between-requires returns)
