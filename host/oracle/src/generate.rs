@@ -6,8 +6,8 @@ mod order;
 mod whole;
 
 pub use damage::damaged;
-pub use order::{illegal_order, large, large_order, legal_order, names, Large};
-pub use whole::{whole, whole_pieces};
+pub use order::{illegal_order, large, large_order, legal_order, many_files, names, Large};
+pub use whole::{set_with_all_labels, whole, whole_pieces};
 
 use crate::label::Label;
 use crate::tape::{END_OF_REEL, HEAD, TAPE_MARK};

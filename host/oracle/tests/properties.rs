@@ -2,8 +2,8 @@
 
 use cases::tally::Tally;
 use oracle::generate::{
-    damaged, illegal_order, image_of, large, legal_order, names, whole, whole_pieces, Large, Piece,
-    Rng,
+    damaged, illegal_order, image_of, large, legal_order, many_files, names, set_with_all_labels,
+    whole, whole_pieces, Large, Piece, Rng,
 };
 use oracle::*;
 
@@ -137,4 +137,35 @@ fn large_images_are_accepted() {
         assert!(image.len() > 950_000 && image.len() < 1_100_000, "{kind:?}: {}", image.len());
         assert_eq!(check(&image), Answer::DONE);
     }
+}
+
+#[test]
+fn sets_that_are_nearly_all_labels_are_accepted() {
+    for image in [many_files(true), many_files(false)] {
+        assert_eq!(check(&image), Answer::DONE);
+        assert_eq!(meaning(&image).unwrap().files.len(), 64);
+        let (vol1, all) = (b"VOL1", image.windows(4));
+        assert_eq!(all.filter(|four| four == vol1).count(), 16);
+    }
+    let pieces = set_with_all_labels(&mut Rng::new(1), 64, 16);
+    assert_eq!(check(&image_of(&pieces)), Answer::DONE);
+    let labels = |name: &str| {
+        let named =
+            |piece: &&Piece| matches!(piece, Piece::Label(l) if l.starts_with(name.as_bytes()));
+        pieces.iter().filter(named).count()
+    };
+    let (files, later) = (64, labels("EOV1"));
+    assert_eq!((labels("VOL1"), later), (16, 15));
+    for (name, first, due) in [
+        ("VOL", 2, 16),
+        ("UVL", 1, 16),
+        ("HDR", 3, files + later),
+        ("EOF", 3, files),
+        ("EOV", 3, later),
+    ] {
+        for number in first..=9 {
+            assert_eq!(labels(&format!("{name}{number}")), due, "{name}{number}");
+        }
+    }
+    assert_eq!((labels("UHL"), labels("UTL")), (9 * (files + later), 9 * (files + later)));
 }

@@ -1,6 +1,7 @@
 //! The proved archive and the oracle on the same images: they must agree on each.
 
 pub mod archive;
+pub mod beside;
 pub mod images;
 pub mod listing;
 pub mod records;

@@ -223,10 +223,33 @@ pub fn large_order(kind: Large, size: usize) -> Order {
 
 /// An accepted image of about so many bytes.
 pub fn large(kind: Large, size: usize) -> Vec<u8> {
-    let order = large_order(kind, size);
-    let mut image = vec![0; size + size / 8 + 20_000];
+    written(&large_order(kind, size), size + size / 8 + 20_000)
+}
+
+/// An accepted image that is nearly all labels: 64 files of one short record each, on 16 reels. The
+/// identifiers of its files are of capitals, digits and SPACE, or of any a-characters.
+pub fn many_files(plain: bool) -> Vec<u8> {
+    let rng = &mut Rng::new(1);
+    let shape = Shape { format: b'D', block: 84, record: 84, offset: 0 };
+    let names = names(rng, 16);
+    let mut order = Order { set: b"LABELS".to_vec(), quota: 4, names, ..Order::default() };
+    for file in 1..=64 {
+        let mut facts = facts(rng, &shape);
+        rng.fill(&mut facts[..17], Rng::a_character);
+        if plain {
+            facts[..17].copy_from_slice(format!("PAYROLL 1984 W {file:02}").as_bytes());
+        }
+        order.begin_file(&facts);
+        order.push_record(b"1 record");
+    }
+    written(&order, 100_000)
+}
+
+/// The image of a legal sheet, where so much room is enough.
+fn written(order: &Order, room: usize) -> Vec<u8> {
+    let mut image = vec![0; room];
     let written = order.sheet().write(&mut image);
-    assert!(written.answer.is_done(), "a large sheet is legal and fits");
+    assert!(written.answer.is_done(), "the sheet is legal and its image fits");
     image.truncate(written.len);
     image
 }

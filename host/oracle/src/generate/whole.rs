@@ -30,14 +30,23 @@ pub fn set_of(rng: &mut Rng, files: usize, reels: usize) -> Vec<Piece> {
     let letters = rng.below(7);
     rng.fill(&mut set[..letters], Rng::a_character);
     let volume = rng.below(100_000);
-    let optional = rng.one_in(2);
-    let mut making = Making { rng, pieces: Vec::new(), set, volume, optional, reels, reel: 0 };
-    making.begin_reel();
-    for sequence in 1..=files {
-        making.file(sequence, files);
-    }
-    making.end_reel();
-    making.pieces
+    let optional = if rng.one_in(2) { Optional::Some } else { Optional::None };
+    let making = Making { rng, pieces: Vec::new(), set, volume, optional, reels, reel: 0 };
+    making.files(files)
+}
+
+/// A set of so many files on up to so many reels, with every optional label that a set may have.
+pub fn set_with_all_labels(rng: &mut Rng, files: usize, reels: usize) -> Vec<Piece> {
+    let (set, optional) = (*b"LABELS", Optional::All);
+    let making = Making { rng, pieces: Vec::new(), set, volume: 1, optional, reels, reel: 0 };
+    making.files(files)
+}
+
+/// Which of the optional labels are made.
+enum Optional {
+    None,
+    Some,
+    All,
 }
 
 struct Making<'r> {
@@ -46,8 +55,7 @@ struct Making<'r> {
     set: [u8; 6],
     /// Number of the first volume.
     volume: usize,
-    /// Optional labels are made.
-    optional: bool,
+    optional: Optional,
     /// Most reels, and reels begun.
     reels: usize,
     reel: usize,
@@ -62,6 +70,15 @@ struct Section {
 }
 
 impl Making<'_> {
+    fn files(mut self, files: usize) -> Vec<Piece> {
+        self.begin_reel();
+        for sequence in 1..=files {
+            self.file(sequence, files);
+        }
+        self.end_reel();
+        self.pieces
+    }
+
     fn mark(&mut self) {
         self.pieces.push(Piece::TapeMark);
     }
@@ -81,11 +98,13 @@ impl Making<'_> {
 
     /// Labels with these three bytes, numbered from `first`, or by any a-characters where it is 0.
     fn optional(&mut self, name: &[u8; 3], first: u8) {
-        if !self.optional || self.rng.one_in(2) {
-            return;
-        }
         let most = if first == 0 { 9 } else { usize::from(10 - first) };
-        let labels = if self.rng.one_in(6) { most } else { self.rng.below(3).min(most) };
+        let labels = match self.optional {
+            Optional::None => 0,
+            Optional::Some if self.rng.one_in(2) => 0,
+            Optional::Some if !self.rng.one_in(6) => self.rng.below(3).min(most),
+            Optional::Some | Optional::All => most,
+        };
         for i in 0..labels {
             let mut label = [b' '; 80];
             if self.rng.one_in(2) {

@@ -1,12 +1,13 @@
 //! `bench`: the times of the archive against the oracle's and a copy of the same bytes, as tables for
-//! docs/PERFORMANCE.md. `bench WHAT..` makes only the tables named: check, linear, walk, write,
+//! docs/PERFORMANCE.md. `bench WHAT..` makes only the tables named: check, labels, linear, walk, write,
 //! rewrite, list.
 
-use oracle::generate::{large, large_order, Large};
+use oracle::generate::{image_of, large, large_order, many_files, set_with_all_labels, Large, Rng};
 use oracle::tape::Tape;
 use oracle::{Answer, Found, Records};
 use std::hint::black_box;
 use std::time::Instant;
+use trials::beside::Beside;
 use trials::{agreed, archive};
 
 const ROUNDS: usize = 60;
@@ -15,8 +16,9 @@ const SIZES: [usize; 3] = [1_000_000, 4_000_000, 16_000_000];
 
 type Table = (&'static str, fn());
 
-const TABLES: [Table; 6] = [
+const TABLES: [Table; 7] = [
     ("check", checking),
+    ("labels", labels),
     ("linear", linear),
     ("walk", walking),
     ("write", writing),
@@ -104,6 +106,37 @@ fn check_row(name: &str, image: &[u8]) {
         (image.len(), times.best(0), times.best(1), times.ratio(1));
     println!(
         "| {name} | {bytes} | ({number},{item},{byte}) | {archive:.2} | {oracle:.2} | {ratio:.2} |"
+    );
+}
+
+/// Checks of an image that is nearly all labels, in one round: each takes too short a time by itself.
+const CHECKS: usize = 20;
+
+/// The archive, the library of another commit and the oracle on images that are nearly all labels.
+fn labels() {
+    let Some(before) = Beside::open() else {
+        println!("No table of labels: `host/beside COMMIT` makes the library to compare with.");
+        return;
+    };
+    println!("| check | bytes | archive µs | before µs | ratio | oracle µs | ratio |");
+    println!("|---|--:|--:|--:|--:|--:|--:|");
+    let optional = image_of(&set_with_all_labels(&mut Rng::new(1), 64, 16));
+    labels_row("64 files on 16 reels", &many_files(true), before);
+    labels_row("the same, any a-characters in names", &many_files(false), before);
+    labels_row("64 files, all optional labels", &optional, before);
+}
+
+fn labels_row(name: &str, image: &[u8], before: Beside) {
+    assert!(agreed(image).is_done() && before.check(image) == tardorelga::check(image));
+    let times = Times::of([
+        &mut || (0..CHECKS).for_each(|_| _ = black_box(tardorelga::check(black_box(image)))),
+        &mut || (0..CHECKS).for_each(|_| _ = black_box(before.check(black_box(image)))),
+        &mut || (0..CHECKS).for_each(|_| _ = black_box(oracle::check(black_box(image)))),
+    ]);
+    let [archive, before, oracle] = [0, 1, 2].map(|run| times.best(run) * 1e3 / CHECKS as f64);
+    let (bytes, faster, ratio) = (image.len(), times.ratio(1), times.ratio(2));
+    println!(
+        "| {name} | {bytes} | {archive:.1} | {before:.1} | {faster:.2} | {oracle:.1} | {ratio:.2} |"
     );
 }
 
