@@ -1,4 +1,4 @@
--- Laws of a digit and of the digits of a number. Assumes nothing.
+-- Laws of a range, of a digit and of the digits of a number. Assumes nothing.
 use mathlib.Core.Path.{_≡_, refl, _∙_}
 use mathlib.Core.Bool.{Bool, true, false, _&&_}
 use mathlib.Core.List.{[], _∷_}
@@ -10,16 +10,25 @@ use lib.Dec.{leb}
 use Rattle.base.specs.If.{if-true, and-true, and-left, and-right, and-first, and-second}
 use Rattle.base.specs.Digits.{isDigit, allDigits, digits}
 use Rattle.base.proofs.Numbers.{digits-append}
+use Rattle.charset.specs.Class.{between}
+
+-- ---- a byte of a range lies at its ends or between them
+
+pub between-low : (a z b : ℕ) → between a z b ≡ true → a ≤ b
+between-low a z b h = leb-true a b (and-first (leb a b) (leb b z) h)
+
+pub between-high : (a z b : ℕ) → between a z b ≡ true → b ≤ z
+between-high a z b h = leb-true b z (and-second (leb a b) (leb b z) h)
 
 -- ---- one digit is a byte from 48 to 57
 
 pub digit-low : (b : ℕ) → isDigit b ≡ true → 48 ≤ b
 unfolding isDigit
-digit-low b h = leb-true 48 b (and-first (leb 48 b) (leb b 57) h)
+digit-low b h = between-low 48 57 b h
 
 pub digit-high : (b : ℕ) → isDigit b ≡ true → b ≤ 57
 unfolding isDigit
-digit-high b h = leb-true b 57 (and-second (leb 48 b) (leb b 57) h)
+digit-high b h = between-high 48 57 b h
 
 pub within-digits : (b : ℕ) → 48 ≤ b → b ≤ 57 → isDigit b ≡ true
 unfolding isDigit

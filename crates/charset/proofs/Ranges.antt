@@ -3,14 +3,15 @@ use mathlib.Core.Path.{_≡_, refl, sym, _∙_}
 use mathlib.Core.Bool.{Bool, true, false}
 use mathlib.Core.List.{List}
 use Prim.Native.Nat.{ℕ, _≤_, _<_}
-use borrow.Author.Tests.{le-leb, lt-leb, leb-true, eqb-true}
+use borrow.Author.Tests.{le-leb, lt-leb, eqb-true}
 use borrow.Author.Needs.{needs}
 use lib.Dec.{leb}
 use lib.ListN.{getD}
-use Rattle.base.specs.If.{ifB, if-true, if-false, if-case, and-first, and-second}
+use Rattle.base.specs.If.{ifB, if-true, if-false, if-case}
 use Rattle.base.specs.Digits.{isDigit}
 use Rattle.charset.specs.Class.{between, isA, classOf, inRanges, Right, RightElsewhere}
 use Rattle.charset.proofs.Table.{entries, look-up}
+use Rattle.charset.proofs.Digits.{between-low, between-high}
 use Rattle.charset.proofs.Characters.{digit-character, capital-character, space-character}
 
 pub right-elsewhere : (table : List ℕ) → Right table → RightElsewhere table
@@ -27,12 +28,6 @@ not-below a z b h = rw (le-leb a b h) refl
 
 pub below : (a z b : ℕ) → b < a → leb a b ≡ between a z b
 below a z b h = rw (lt-leb a b h) refl
-
-between-low : (a z b : ℕ) → between a z b ≡ true → a ≤ b
-between-low a z b h = leb-true a b (and-first (leb a b) (leb b z) h)
-
-between-high : (a z b : ℕ) → between a z b ≡ true → b ≤ z
-between-high a z b h = leb-true b z (and-second (leb a b) (leb b z) h)
 
 pub between-digits : (r : Bool) (b : ℕ) → r ≡ between 48 57 b → r ≡ isDigit b
 unfolding isDigit
