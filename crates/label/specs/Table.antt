@@ -94,10 +94,10 @@ trailerFirst =
 abbrev pub trailerSecond : List ℕ
 trailerSecond = 4 ∷ other ∷ 1 ∷ equal ∷ 5 ∷ equal ∷ 5 ∷ equal ∷ 35 ∷ other ∷ 2 ∷ equal ∷ 28 ∷ equal ∷ []
 
--- HDR1 of two sections of a file: BP 5-27 and 32-54 (house)
+-- HDR1 of two sections of a file: BP 5-27, 32-41 and 54 (house); dates belong to a section (8.5.1.10 and 8.5.1.11 of ECMA-13; P2 of document 02)
 abbrev pub sectionFirst : List ℕ
 sectionFirst =
-    4 ∷ other ∷ 17 ∷ equal ∷ 6 ∷ equal ∷ 4 ∷ other ∷ 4 ∷ equal ∷ 4 ∷ equal ∷ 2 ∷ equal ∷ 6 ∷ equal ∷ 6 ∷ equal ∷ 1 ∷ equal ∷ 6 ∷ other ∷ 13 ∷ other ∷ 7 ∷ other ∷ []
+    4 ∷ other ∷ 17 ∷ equal ∷ 6 ∷ equal ∷ 4 ∷ other ∷ 4 ∷ equal ∷ 4 ∷ equal ∷ 2 ∷ equal ∷ 6 ∷ other ∷ 6 ∷ other ∷ 1 ∷ equal ∷ 6 ∷ other ∷ 13 ∷ other ∷ 7 ∷ other ∷ []
 
 -- HDR2 of two sections of a file: BP 5-15 and 51-52 (house)
 abbrev pub sectionSecond : List ℕ

@@ -198,7 +198,7 @@ pub(crate) const TRAILER_SECOND: [u8; 14] = [
     EQUAL,
 ];
 
-// HDR1 of two sections of a file: 5-27 and 32-54.
+// HDR1 of two sections of a file: 5-27, 32-41 and 54.
 pub(crate) const SECTION_FIRST: [u8; 26] = [
     4,
     ANY,
@@ -215,9 +215,9 @@ pub(crate) const SECTION_FIRST: [u8; 26] = [
     2,
     EQUAL,
     6,
-    EQUAL,
+    ANY, // 42-47 creation date
     6,
-    EQUAL,
+    ANY, // 48-53 expiration date
     1,
     EQUAL,
     6,

@@ -61,7 +61,7 @@ unfoldable pub newFilePlace : ℕ → List ℕ → List ℕ → ℕ
 newFilePlace files first l =
     ifB (ifB (eqb files 0) true (same (setOf l) (setOf first))) (ifB (says 1 (sectionOf l)) (ifB (says (files + 1) (sequenceOf l)) 0 32) 28) 22
 
--- HDR1 of a later section: section one higher, and BP 5-27 and 32-54 as in the section before (house)
+-- HDR1 of a later section: section one higher, and BP 5-27, 32-41 and 54 as in the section before (house)
 unfoldable pub laterPlace : List ℕ → List ℕ → ℕ
 laterPlace first l = lower (unequalFrom first l 0 sectionFirst) (ifB (says (valueOf (sectionOf first) + 1) (sectionOf l)) 0 28)
 

@@ -1,5 +1,5 @@
 -- The meaning of a set (a term of document 01): its set identifier and, per file in order, file identifier, generation, version, both dates,
--- format, B, R and the list of records; fields are compared as bytes.
+-- format, B, R and the list of records; fields are compared as bytes. The dates are those of section 0001 (document 02, P2).
 use mathlib.Core.List.{List, [], _∷_, _++_}
 use Prim.Native.Nat.{ℕ, zero, suc}
 use lib.Dec.{eqb, leb}

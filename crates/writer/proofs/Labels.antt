@@ -337,7 +337,7 @@ section-agrees set e a d q =
                 agree hdr1 _ _ 5 refl,
                 (
                   agree hdr1 _ _ 6 refl,
-                  (agree hdr1 _ _ 7 refl, (agree hdr1 _ _ 8 refl, (agree hdr1 _ _ 9 refl, (refl, (refl, (refl, tt)))))),
+                  (refl, (refl, (agree hdr1 _ _ 9 refl, (refl, (refl, (refl, tt)))))),
                 ),
               ),
             ),

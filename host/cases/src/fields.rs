@@ -6,7 +6,7 @@ use crate::{Case, Due, ACCEPTED};
 
 pub fn cases() -> Vec<Case> {
     let all = [volume_labels(), first_labels(), dates(), second_labels(), lengths()];
-    let across = [trailers(), sections(), volumes(), many_files()];
+    let across = [trailers(), sections(), dates_of_sections(), volumes(), many_files()];
     all.into_iter().chain(across).flatten().collect()
 }
 
@@ -143,12 +143,53 @@ fn sections() -> Vec<Case> {
         case("another sequence", 11, 32, "0002", (6, 11, 32), "sequence is the same after EOV"),
         case("another generation", 11, 36, "0002", (6, 11, 36), equal),
         case("another version", 11, 40, "01", (6, 11, 40), equal),
-        case("another creation date", 11, 42, " 85334", (6, 11, 42), equal),
-        case("another expiration date", 11, 48, "000000", (6, 11, 48), equal),
         case("another format", 12, 5, "S", (6, 12, 5), equal),
         case("another B", 12, 6, "00021", (6, 12, 6), equal),
         case("another R", 12, 11, "00011", (6, 12, 11), equal),
         case("another O", 12, 51, "01", (6, 12, 51), equal),
+    ]
+}
+
+/// Both dates of HDR1 and EOV1 of section 0002, then of HDR1 and EOF1 of section 0003: items 11, 15, 21, 25.
+fn dates_of_sections() -> Vec<Case> {
+    // Section 0001 has these; the others are created or expire on another day, or both.
+    const FIRST: &str = " 85335 00000";
+    const CREATED: &str = " 86001 00000";
+    const EXPIRES: &str = " 85335 91001";
+    const BOTH: &str = "000366 91002";
+    let case = |what, [hdr, eov, last_hdr, eof]: [&str; 4], due, reason| {
+        let dates = [(11, 42, hdr), (15, 42, eov), (21, 42, last_hdr), (25, 42, eof)];
+        Case::set(what, with(reels(3, gate), &dates), due, reason)
+    };
+    let own = "each section has dates of its own";
+    let equal = "a trailer equals the header of its own section";
+    let wrong = "a date of a later section is a date too";
+    let bytes = "dates are compared as bytes";
+    vec![
+        case("another creation date", [FIRST, FIRST, CREATED, CREATED], ACCEPTED, own),
+        case("another expiration date", [FIRST, FIRST, EXPIRES, EXPIRES], ACCEPTED, own),
+        case("two other dates", [FIRST, FIRST, BOTH, BOTH], ACCEPTED, own),
+        case("a middle creation date", [CREATED, CREATED, FIRST, FIRST], ACCEPTED, own),
+        case("a middle expiration date", [EXPIRES, EXPIRES, FIRST, FIRST], ACCEPTED, own),
+        case("alike but for section 0001", [BOTH, BOTH, BOTH, BOTH], ACCEPTED, own),
+        case("three creation dates", [CREATED, CREATED, BOTH, BOTH], ACCEPTED, own),
+        case("three expiration dates", [EXPIRES, EXPIRES, BOTH, BOTH], ACCEPTED, own),
+        case("HDR1 alone created", [FIRST, FIRST, CREATED, FIRST], (6, 25, 42), equal),
+        case("HDR1 alone expires", [FIRST, FIRST, EXPIRES, FIRST], (6, 25, 48), equal),
+        case("middle HDR1 alone created", [CREATED, FIRST, FIRST, FIRST], (6, 15, 42), equal),
+        case("middle HDR1 alone expires", [EXPIRES, FIRST, FIRST, FIRST], (6, 15, 48), equal),
+        case("EOV1 alone created", [FIRST, CREATED, FIRST, FIRST], (6, 15, 42), equal),
+        case("EOF1 alone expires", [FIRST, FIRST, FIRST, EXPIRES], (6, 25, 48), equal),
+        case("EOV1 as section 0001", [BOTH, FIRST, BOTH, BOTH], (6, 15, 42), equal),
+        case("EOV1 expires as section 0001", [EXPIRES, FIRST, BOTH, BOTH], (6, 15, 48), equal),
+        case("EOF1 as section 0001", [CREATED, CREATED, BOTH, FIRST], (6, 25, 42), equal),
+        case("EOF1 expires as section 0001", [BOTH, BOTH, EXPIRES, FIRST], (6, 25, 48), equal),
+        case("EOF1 as section 0002", [CREATED, CREATED, BOTH, CREATED], (6, 25, 42), equal),
+        case("EOF1 expires 0, HDR1 SPACE", [BOTH, BOTH, FIRST, " 85335000000"], (6, 25, 48), bytes),
+        case("a wrong creation date", [FIRST, FIRST, " 86367 00000", BOTH], (4, 21, 42), wrong),
+        case("a wrong expiration date", [FIRST, FIRST, " 86001 91000", BOTH], (4, 21, 48), wrong),
+        case("a wrong middle date", ["186001 00000", FIRST, BOTH, BOTH], (4, 11, 42), wrong),
+        case("a wrong date in EOF1", [BOTH, BOTH, BOTH, "000366 91367"], (4, 25, 48), "4 before 6"),
     ]
 }
 

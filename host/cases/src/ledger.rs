@@ -133,9 +133,14 @@ pub fn changed(mut set: Vec<Piece>, item: usize, bp: usize, text: &str) -> Vec<P
     set
 }
 
-/// The base with these changes, each an item, a BP and a text.
+/// The set with these changes, each an item, a BP and a text.
+pub fn with(set: Vec<Piece>, changes: &[(usize, usize, &str)]) -> Vec<Piece> {
+    changes.iter().fold(set, |set, &(item, bp, text)| changed(set, item, bp, text))
+}
+
+/// The base with these changes.
 pub fn base_with(changes: &[(usize, usize, &str)]) -> Vec<Piece> {
-    changes.iter().fold(base(), |set, &(item, bp, text)| changed(set, item, bp, text))
+    with(base(), changes)
 }
 
 /// The set with these items put in before item `at`.

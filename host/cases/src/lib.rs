@@ -3,6 +3,7 @@
 
 pub mod blocks;
 pub mod container;
+pub mod dates;
 pub mod fields;
 pub mod ledger;
 pub mod order;

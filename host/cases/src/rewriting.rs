@@ -17,6 +17,7 @@ pub fn run(rewrite: impl Rewrite) {
     reading_numbers_come_first(&rewrite);
     illegal_reels(&rewrite);
     what_has_no_meaning(&rewrite);
+    dates_of_section_0001(&rewrite);
     the_longest_record(&rewrite);
     a_normal_form_over_the_limit(&rewrite);
 }
@@ -88,6 +89,25 @@ fn what_has_no_meaning(rewrite: &impl Rewrite) {
     let padded = image_of(&set_of("F0002000004", "02", &[b"--ABCD^^", b"??EFGH"]));
     let blocks = data_blocks(&normal(rewrite, &padded, 1, b"OTHER1"));
     assert_eq!(blocks, [b"ABCDEFGH"], "offsets and padding are left out");
+}
+
+/// Every section is written with them, whatever dates the later ones had.
+fn dates_of_section_0001(rewrite: &impl Rewrite) {
+    const DATES: &str = " 86001 91001";
+    let reel = |number, end| {
+        let shape = ("F0001000010", "00");
+        reel(&format!("GATE0{number}"), &[section(number, 1, shape, &[b"0123456789"], end)])
+    };
+    let set = [reel(1, VOLUME), reel(2, FILE)].concat();
+    let normal = |set: &[Piece]| normal(rewrite, &image_of(set), 1, b"GATE01GATE02");
+    assert_eq!(normal(&set), image_of(&set), "it is its own normal form");
+    // HDR1 and its trailer, of section 0001 and of section 0002.
+    let dated = |set: &[Piece], labels: [usize; 2]| {
+        with(set.to_vec(), &labels.map(|item| (item, 42, DATES)))
+    };
+    let (first, later) = (dated(&set, [1, 6]), dated(&set, [12, 17]));
+    assert_eq!(normal(&later), image_of(&set), "those of section 0002 are left out");
+    assert_eq!(normal(&first), image_of(&dated(&first, [12, 17])), "those of section 0001");
 }
 
 /// There is no joining buffer: the longest record goes from segment to segment.

@@ -60,7 +60,7 @@ pub enum Found {
     Refused(Answer),
 }
 
-/// The header labels of a file.
+/// The header labels of a file: those of its section 0001, whose dates are the file's (P2 of document 02).
 #[derive(Clone, Copy)]
 pub struct Head<'a> {
     pub first: &'a Label,

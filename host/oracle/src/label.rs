@@ -80,6 +80,7 @@ pub const GENERATION: Field = field(36, 4);
 pub const VERSION: Field = field(40, 2);
 pub const CREATION: Field = field(42, 6);
 pub const EXPIRATION: Field = field(48, 6);
+pub const DATES: [Field; 2] = [CREATION, EXPIRATION];
 pub const FILE_ACCESS: Field = field(54, 1);
 pub const BLOCK_COUNT: Field = field(55, 6);
 pub const IMPLEMENTATION: Field = field(61, 13);

@@ -42,6 +42,7 @@ struct Set<'a> {
     section: u32,
     /// The next header goes on with the last file.
     goes_on: bool,
+    /// The last headers: a trailer is held against those of its own section.
     header1: &'a Label,
     header2: &'a Label,
     shape: Shape,
@@ -163,6 +164,8 @@ impl<'a> Set<'a> {
             SECTION => field.number(label) == Some(section),
             SEQUENCE => field.number(label) == Some(file),
             SET_ID => self.files == 0 || field.same(label, self.header1),
+            // Each section has dates of its own (P2 of document 02).
+            CREATION | EXPIRATION => true,
             _ => !self.goes_on || field.same(label, self.header1),
         })?;
         if file > MOST_FILES {

@@ -1,16 +1,20 @@
 //! Laws that hold for every set and sheet the generator makes, from fixed seeds.
 
+use cases::dates::{dates, differ, headers, other_dates};
 use cases::tally::Tally;
 use oracle::generate::{
-    damaged, illegal_order, image_of, large, legal_order, many_files, names, set_with_all_labels,
-    whole, whole_pieces, Large, Piece, Rng,
+    damaged, illegal_order, image_of, large, legal_order, many_files, names, redate,
+    set_with_all_labels, whole, whole_pieces, Large, Piece, Rng,
 };
+use oracle::label::{SECTION, SEQUENCE};
 use oracle::*;
+use std::collections::BTreeMap;
 
 #[test]
 fn whole_sets_are_accepted_up_to_every_limit() {
     let rng = &mut Rng::new(11);
     let (mut full, mut many_reels, mut joined_over_reels) = (0, 0, 0);
+    let mut kinds = BTreeMap::new();
     for _ in 0..20_000 {
         let pieces = whole_pieces(rng);
         let image = image_of(&pieces);
@@ -20,17 +24,22 @@ fn whole_sets_are_accepted_up_to_every_limit() {
         full += u32::from(meaning(&image).unwrap().files.len() == 64);
         many_reels += u32::from(ends == 16);
         joined_over_reels += u32::from(ends > 1 && pieces.iter().any(segments));
+        other_dates(&image).into_iter().for_each(|other| *kinds.entry(other).or_insert(0) += 1);
     }
     let seen = (full, many_reels, joined_over_reels);
     assert!(full > 50 && many_reels > 200 && joined_over_reels > 500, "{seen:?}");
+    // Neither date is another, creation, expiration, both.
+    assert_eq!(kinds.len(), 4);
+    assert!(kinds.values().all(|&sections| sections > 1_000), "{kinds:?}");
 }
 
 #[test]
 fn damaged_sets_give_every_number_at_many_places() {
     let rng = &mut Rng::new(12);
     let mut tally = Tally::default();
-    for _ in 0..50_000 {
-        tally.count(check(&damaged(rng)));
+    for _ in 0..100_000 {
+        let image = damaged(rng);
+        tally.count(&image, check(&image));
     }
     tally.assert_complete(100);
 }
@@ -106,6 +115,61 @@ fn rewriting_keeps_the_meaning_and_is_idempotent() {
         assert_eq!(by_sheet.sheet().write(&mut twice), first);
         assert!(normal == &twice[..first.len]);
     }
+}
+
+/// The meaning and the walk of each file of an accepted set have the dates of its section 0001.
+fn assert_dates_of_section_0001(image: &[u8], files: &[File]) {
+    let mut begun = headers(image);
+    begun.retain(|header| SECTION.of(header) == b"0001");
+    assert_eq!(begun.len(), files.len());
+    for (number, (header, file)) in (1..).zip(begun.into_iter().zip(files)) {
+        assert_eq!(dates(header), [file.creation(), file.expiration()]);
+        let first = begin(image, number).expect("the file is there").first;
+        assert_eq!(image[first..first + 80], header[..]);
+    }
+}
+
+/// Every section of a written set has the dates of its file; gives the number of later sections.
+fn later_sections_written(image: &[u8], files: &[File]) -> usize {
+    let headers = headers(image);
+    for header in &headers {
+        let file = &files[SEQUENCE.number(header).expect("digits") as usize - 1];
+        assert_eq!(dates(header), [file.creation(), file.expiration()]);
+    }
+    headers.len() - files.len()
+}
+
+/// Sets that differ only in the dates of later sections have one meaning, one listing and one normal form
+/// (P2 of document 02).
+#[test]
+fn dates_of_later_sections_have_no_meaning() {
+    let rng = &mut Rng::new(18);
+    let (mut one, mut other) = (vec![0; 2_000_000], vec![0; 2_000_000]);
+    let (mut different, mut rewritten, mut later_sections) = (0, 0, 0);
+    for _ in 0..10_000 {
+        let mut pieces = whole_pieces(rng);
+        let image = image_of(&pieces);
+        redate(rng, &mut pieces);
+        let redated = image_of(&pieces);
+        let differs = differ(&image, &redated);
+        assert_eq!(image != redated, differs, "in dates alone");
+        different += u32::from(differs);
+        let Meaning { files, .. } = meaning(&image).expect("accepted");
+        assert_eq!(meaning(&redated), meaning(&image));
+        assert_dates_of_section_0001(&redated, &files);
+        assert_eq!(listing(&redated), listing(&image));
+        let (quota, names) = (rng.between(1, 3) as u64, names(rng, 16));
+        let written = rewrite(&image, quota, &names, &mut one);
+        assert_eq!(rewrite(&redated, quota, &names, &mut other), written);
+        if written.answer.is_done() {
+            let normal = &one[..written.len];
+            assert!(normal == &other[..written.len]);
+            rewritten += u32::from(differs);
+            later_sections += later_sections_written(normal, &files);
+        }
+    }
+    let seen = (different, rewritten, later_sections);
+    assert!(different > 2_000 && rewritten > 2_000 && later_sections > 5_000, "{seen:?}");
 }
 
 #[test]

@@ -60,12 +60,12 @@ impl<'a> File<'a> {
         &self.first[39..41]
     }
 
-    /// The creation date: SPACE or `0`, year and day.
+    /// The creation date, of section 0001: SPACE or `0`, year and day.
     pub fn creation(&self) -> &'a [u8] {
         &self.first[41..47]
     }
 
-    /// The expiration date: SPACE or `0`, year and day.
+    /// The expiration date, of section 0001: SPACE or `0`, year and day.
     pub fn expiration(&self) -> &'a [u8] {
         &self.first[47..53]
     }

@@ -3,7 +3,7 @@
 
 use trials::{compare, images};
 
-/// Every number and every place of 4, 5 and 6 is among the answers.
+/// Every number and every place of 4, 5 and 6 is among the answers; so are sections with other dates.
 #[test]
 fn generated_sets() {
     let tally = compare(images::generated, 1, 100_000);
@@ -18,15 +18,21 @@ fn raw_bytes() {
 
 #[test]
 fn truncations() {
-    println!("truncations: {}", compare(images::truncated, 3, 20_000));
+    let tally = compare(images::truncated, 3, 20_000);
+    println!("truncations: {tally}");
+    tally.assert_dates(1);
 }
 
 #[test]
 fn concatenations() {
-    println!("concatenations: {}", compare(images::concatenated, 4, 20_000));
+    let tally = compare(images::concatenated, 4, 20_000);
+    println!("concatenations: {tally}");
+    tally.assert_dates(1);
 }
 
 #[test]
 fn mutations() {
-    println!("mutations: {}", compare(images::mutated, 5, 20_000));
+    let tally = compare(images::mutated, 5, 20_000);
+    println!("mutations: {tally}");
+    tally.assert_dates(1);
 }

@@ -41,6 +41,13 @@ fn every_byte_of_labels_on_two_reels() {
     agree_on_every_byte(two_reels());
 }
 
+/// Section 0002 has dates of its own.
+#[test]
+fn every_byte_of_labels_on_two_reels_of_two_dates() {
+    let dates = " 86001 91001";
+    agree_on_every_byte(with(two_reels(), &[(12, 42, dates), (16, 42, dates)]));
+}
+
 #[test]
 fn every_byte_of_labels_of_two_files() {
     agree_on_every_byte(files(2));

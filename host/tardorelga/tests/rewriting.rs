@@ -27,9 +27,10 @@ fn whole_sets() {
 /// Two images of one meaning have one normal form, which is its own.
 #[test]
 fn images_of_one_meaning() {
-    let (tally, different) = compare_disguised(53, 3_000);
-    println!("of one meaning: {tally}, {different} pairs of different images");
-    assert!(different > 2_900 && tally.of(0) > 3_000, "{tally}");
+    let disguised = compare_disguised(53, 3_000);
+    println!("of one meaning: {disguised}");
+    assert!(disguised.different > 2_900 && disguised.tally.of(0) > 3_000, "{disguised}");
+    assert!(disguised.redated > 500, "{disguised}");
 }
 
 #[test]

@@ -41,7 +41,8 @@ pub fn compare(maker: fn(&mut Rng) -> Vec<u8>, seed: u64, count: u64) -> Tally {
     let rng = &mut Rng::new(seed);
     let mut tally = Tally::default();
     for _ in 0..count {
-        tally.count(agreed(&maker(rng)));
+        let image = maker(rng);
+        tally.count(&image, agreed(&image));
     }
     tally
 }

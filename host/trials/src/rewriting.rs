@@ -3,11 +3,13 @@
 use crate::archive;
 use crate::shown;
 use crate::writing::{Both, Tally};
+use cases::dates::differ;
 use oracle::block::{Shape, PAD};
-use oracle::generate::{image_of, large, names, whole, Large, Piece, Rng};
+use oracle::generate::{image_of, large, names, redate, whole, Large, Piece, Rng};
 use oracle::label::{kind_of, Field, Kind, Label, FREE, IMPLEMENTATION, VOLUME_ID};
 use oracle::tape::{item_in, Item, HEAD};
 use oracle::{meaning, rewrite, Written};
+use std::fmt;
 
 /// So many images of a maker, on reels that are mostly legal.
 pub fn compare(maker: fn(&mut Rng) -> Vec<u8>, seed: u64, count: u64) -> Tally {
@@ -48,13 +50,30 @@ fn reels(rng: &mut Rng) -> (u64, Vec<u8>) {
     (quota, names)
 }
 
+/// What became of sets and their disguises.
+pub struct Disguised {
+    pub tally: Tally,
+    /// Disguises that differed from their set.
+    pub different: u64,
+    /// Sets that were rewritten, and whose disguise had other dates in a later section.
+    pub redated: u64,
+}
+
+impl fmt::Display for Disguised {
+    fn fmt(&self, f: &mut fmt::Formatter) -> fmt::Result {
+        let Disguised { tally, different, redated } = self;
+        write!(f, "{tally}; {different} pairs of different images, ")?;
+        write!(f, "{redated} of them rewritten from other dates in later sections")
+    }
+}
+
 /// Whole sets and disguises of them, each in another way of the same meaning: the normal form is one, and
-/// it is its own normal form. Gives the tally and how many disguises differed from their set.
-pub fn compare_disguised(seed: u64, count: u64) -> (Tally, u64) {
+/// it is its own normal form.
+pub fn compare_disguised(seed: u64, count: u64) -> Disguised {
     let rng = &mut Rng::new(seed);
     let mut both = Both::new(3_000_000);
     let [mut one, mut other] = [(); 2].map(|()| vec![0; 3_000_000]);
-    let mut different = 0;
+    let (mut different, mut redated) = (0, 0);
     for _ in 0..count {
         let image = whole(rng);
         let disguise = disguised(rng, &image);
@@ -66,6 +85,7 @@ pub fn compare_disguised(seed: u64, count: u64) -> (Tally, u64) {
         if !written.answer.is_done() {
             continue;
         }
+        redated += u64::from(differ(&image, &disguise));
         archive::rewrite(&image, quota, &names, &mut one);
         archive::rewrite(&disguise, quota, &names, &mut other);
         assert!(one[..written.len] == other[..written.len], "one normal form: {}", shown(&image));
@@ -73,7 +93,7 @@ pub fn compare_disguised(seed: u64, count: u64) -> (Tally, u64) {
         assert_eq!(again, written);
         assert!(one[..written.len] == other[..written.len], "its own: {}", shown(&image));
     }
-    (both.tally, different)
+    Disguised { tally: both.tally, different, redated }
 }
 
 /// A set of about so many bytes, whole, on the reels that it needs and on one less.
@@ -90,8 +110,8 @@ pub fn large_sets(kind: Large, size: usize) -> Tally {
     both.tally
 }
 
-/// An accepted set with another look: other reel names, owners and free fields, other offset bytes, more
-/// or less padding, no optional labels.
+/// An accepted set with another look: other reel names, owners and free fields, other dates of later sections,
+/// other offset bytes, more or less padding, no optional labels.
 fn disguised(rng: &mut Rng, image: &[u8]) -> Vec<u8> {
     let bare = rng.one_in(2);
     let mut pieces = Vec::new();
@@ -118,6 +138,7 @@ fn disguised(rng: &mut Rng, image: &[u8]) -> Vec<u8> {
             Item::EndOfReel => pieces.push(Piece::EndOfReel),
         }
     }
+    redate(rng, &mut pieces);
     image_of(&pieces)
 }
 

@@ -1,11 +1,12 @@
 //! Makes damaged sets: most are refused, each number of the reader and many places among the reasons.
 
+use super::dates::date;
 use super::whole::{set_of, whole_pieces};
 use super::{image_of, Piece, Rng};
 use crate::block::PAD;
 use crate::label::{
-    kind_of, Field, Kind, Label, BLOCK_COUNT, BLOCK_LENGTH, FILE_ACCESS, FORMAT, OFFSET_LENGTH,
-    RECORD_LENGTH, SECTION, SEQUENCE, VOLUME_ACCESS, VOLUME_ID,
+    kind_of, Field, Kind, Label, BLOCK_COUNT, BLOCK_LENGTH, DATES, FILE_ACCESS, FORMAT,
+    OFFSET_LENGTH, RECORD_LENGTH, SECTION, SEQUENCE, VOLUME_ACCESS, VOLUME_ID,
 };
 use crate::tape::Tape;
 
@@ -15,7 +16,10 @@ const EDGES: [usize; 26] = [
     80,
 ];
 
-/// The image of a set with one to three damages; one in six turns out to be harmless.
+/// Six bytes that are no date: the first byte, the day or a digit is wrong.
+const WRONG_DATES: [&[u8]; 5] = [b"100001", b" 85000", b" 85367", b"0 0001", b" 8533X"];
+
+/// The image of a set with one to three damages; some turn out to be harmless.
 pub fn damaged(rng: &mut Rng) -> Vec<u8> {
     let (mut pieces, damages) = match rng.below(250) {
         0..=1 => (set_of(rng, 65, 1), rng.below(2)),
@@ -67,10 +71,11 @@ fn damage_length(rng: &mut Rng, image: &mut [u8]) {
 }
 
 fn damage_pieces(rng: &mut Rng, pieces: &mut Vec<Piece>) {
-    match rng.below(20) {
+    match rng.below(23) {
         0..=3 => damage_order(rng, pieces),
         4..=11 => damage_label(rng, pieces),
         12..=14 => damage_section(rng, pieces),
+        15..=17 => damage_dates(rng, pieces),
         _ => damage_block(rng, pieces),
     }
 }
@@ -210,17 +215,23 @@ fn nudge(rng: &mut Rng, label: &mut Label, field: Field) {
     field.put(label, format!("{:0width$}", new % limit, width = field.width).as_bytes());
 }
 
-/// Headers and trailers changed alike, so that only a rule about the whole set can tell.
-fn damage_section(rng: &mut Rng, pieces: &mut [Piece]) {
-    let second = rng.one_in(2);
+/// The places of the headers and trailers with this number.
+fn headers_and_trailers(pieces: &[Piece], number: u8) -> Vec<usize> {
     let wanted = |piece: &Piece| match piece {
         Piece::Label(label) => match kind_of(label) {
-            Some(Kind::Header(n) | Kind::Trailer(_, n)) => n == 1 + u8::from(second),
+            Some(Kind::Header(n) | Kind::Trailer(_, n)) => n == number,
             _ => false,
         },
         _ => false,
     };
-    let labels = places(pieces, wanted);
+    places(pieces, wanted)
+}
+
+/// Headers and trailers changed alike, so that only a rule about the whole set can tell; of dates, which
+/// belong to a section, none can.
+fn damage_section(rng: &mut Rng, pieces: &mut [Piece]) {
+    let second = rng.one_in(2);
+    let labels = headers_and_trailers(pieces, 1 + u8::from(second));
     if labels.len() < 2 {
         return;
     }
@@ -246,6 +257,29 @@ fn damage_section(rng: &mut Rng, pieces: &mut [Piece]) {
             (true, 3) => nudge(same, label, OFFSET_LENGTH),
             _ if label[bp - 1].is_ascii_digit() => label[bp - 1] = same.digit(),
             _ => label[bp - 1] = byte,
+        }
+    }
+}
+
+/// Dates of one header or trailer, of a later section where there is one: those of another label, which may
+/// be of any section, new ones, or wrong ones.
+fn damage_dates(rng: &mut Rng, pieces: &mut [Piece]) {
+    let labels = headers_and_trailers(pieces, 1);
+    let is_later =
+        |&at: &usize| matches!(&pieces[at], Piece::Label(label) if SECTION.of(label) != b"0001");
+    let later: Vec<usize> = labels.iter().copied().filter(is_later).collect();
+    let chosen = if later.is_empty() { &labels } else { &later };
+    if chosen.is_empty() {
+        return;
+    }
+    let Piece::Label(another) = pieces[rng.pick(&labels)] else { return };
+    let Piece::Label(label) = &mut pieces[rng.pick(chosen)] else { return };
+    let way = rng.below(3);
+    for field in rng.pick(&[&DATES[..1], &DATES[1..], &DATES[..]]) {
+        match way {
+            0 => field.put(label, rng.pick(&WRONG_DATES)),
+            1 => field.put(label, &date(rng)),
+            _ => field.put(label, field.of(&another)),
         }
     }
 }

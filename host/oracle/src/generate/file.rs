@@ -1,5 +1,6 @@
 //! Makes the fields and the data blocks of one file.
 
+use super::dates::date;
 use super::Rng;
 use crate::block::{Shape, PAD};
 use crate::content::FACTS;
@@ -44,16 +45,6 @@ pub fn facts(rng: &mut Rng, shape: &Shape) -> [u8; FACTS] {
     facts[36..41].copy_from_slice(format!("{:05}", shape.block).as_bytes());
     facts[41..46].copy_from_slice(format!("{:05}", shape.record).as_bytes());
     facts
-}
-
-fn date(rng: &mut Rng) -> [u8; 6] {
-    let any = rng.between(1, 366);
-    let day = rng.pick(&[1, 365, 366, any, any]);
-    let year = if rng.one_in(3) { 0 } else { rng.below(100) };
-    let text = if rng.one_in(4) { "00000".into() } else { format!("{year:02}{day:03}") };
-    let mut date = [rng.pick(b" 0"); 6];
-    date[1..].copy_from_slice(text.as_bytes());
-    date
 }
 
 /// Bytes of a record: letters, digits, padding bytes or anything.

@@ -1,5 +1,6 @@
 //! Makes whole sets: everything that the rules allow and that has no meaning, too.
 
+use super::dates::redate;
 use super::file::{blocks, facts, shape};
 use super::{image_of, Piece, Rng};
 use crate::label::{
@@ -32,10 +33,13 @@ pub fn set_of(rng: &mut Rng, files: usize, reels: usize) -> Vec<Piece> {
     let volume = rng.below(100_000);
     let optional = if rng.one_in(2) { Optional::Some } else { Optional::None };
     let making = Making { rng, pieces: Vec::new(), set, volume, optional, reels, reel: 0 };
-    making.files(files)
+    let mut pieces = making.files(files);
+    redate(rng, &mut pieces);
+    pieces
 }
 
-/// A set of so many files on up to so many reels, with every optional label that a set may have.
+/// A set of so many files on up to so many reels, with every optional label that a set may have. All sections
+/// of a file have the same dates, so that a library without P2 of document 02 can be timed on it too.
 pub fn set_with_all_labels(rng: &mut Rng, files: usize, reels: usize) -> Vec<Piece> {
     let (set, optional) = (*b"LABELS", Optional::All);
     let making = Making { rng, pieces: Vec::new(), set, volume: 1, optional, reels, reel: 0 };

@@ -29,7 +29,7 @@ fn fuzz(time: Duration, seed: u64) {
             for _ in 0..ROUND {
                 let image = make(rng);
                 bytes += image.len();
-                tally.count(agreed(&image));
+                tally.count(&image, agreed(&image));
             }
         }
     }
