@@ -30,11 +30,11 @@ use Rattle.block.specs.Cut.{Segment, units}
 use Rattle.block.specs.Turn.{blockOutcome}
 use Rattle.volume.specs.State.{State, start}
 use Rattle.volume.specs.Fault.{valueOf, secondHeaderFault, outcomeIn, blockFault, contextFault, itemFault}
-use Rattle.volume.specs.Step.{Event, begins, holds, Next, kindIn, bytesIn, segmentsOf, segmentsIn, goesOnAfter, firstAfter, secondAfter, pendingAfter, stateAfter, eventsOf}
+use Rattle.volume.specs.Step.{Event, begins, holds, kindIn, bytesIn, segmentsOf, segmentsIn, goesOnAfter, firstAfter, secondAfter, pendingAfter, stateAfter, eventsOf}
 use Rattle.volume.specs.Run.{Run, ended, stopped, further, next, runs, imageVerdict}
 use Rattle.volume.specs.Meaning.{File, joined, collect, setFrom, fieldsFrom, meaningOf, handedOut, content}
 use Rattle.volume.specs.Accepted.{Faultless, All, MayEnd, behind}
-use Rattle.volume.proofs.Accepted.{Ends, faultless-go, all-ends, accepted-iff}
+use Rattle.volume.proofs.Accepted.{Ends, faultless-runs, all-ends, accepted-iff}
 use Rattle.sheet.proofs.Moves.{Stage, stage, before, within, fileOver, reelOver, Numbered, Quiet, Move, stays, nextReel, header1, nextFile as newFile, header2, datum, eof1, eov1, finish, due-goes}
 use Rattle.sheet.proofs.Stages.{View, view, Holds, isOpen, second-same, end-idle}
 use Rattle.sheet.proofs.Steps.{view-quiet, events-quiet, label-none, context-none}
@@ -428,9 +428,8 @@ handed-further es (stopped k i b) h = absurd h
 
 handed-more : (t : State) (x : Item) (xs : List Item) (q : Phase) → Faultless t x q → All MayEnd (behind t x q) xs
     → handedOut (runs t (x ∷ xs)) ≡ eventsOf t (kindIn (t .phase) x) (bytesIn x) ++ handedOut (runs (behind t x q) xs)
-unfolding runs next
 handed-more t x xs q f all =
-    ap (λ (r : Next). handedOut (next r (λ u. runs u xs))) (faultless-go t x q f)
+    ap handedOut (faultless-runs t x xs q f)
     ∙ handed-further (eventsOf t (kindIn (t .phase) x) (bytesIn x)) (runs (behind t x q) xs) (all-ends (behind t x q) xs all)
 
 handed-none : (t : State) → MayEnd t → handedOut (runs t []) ≡ []

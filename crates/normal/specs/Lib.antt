@@ -1,3 +1,5 @@
 pub mod Normal
 pub mod Examples
+pub mod NewYear
 pub mod Demands
+pub mod Requests

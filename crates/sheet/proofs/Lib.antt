@@ -12,3 +12,4 @@ pub mod Moves
 pub mod Stages
 pub mod Steps
 pub mod Legality
+pub mod Dates

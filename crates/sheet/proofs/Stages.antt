@@ -119,12 +119,12 @@ pub record Promise (ongoing : Bool) (v : View) (es : List Event) : Type 0 where
 abbrev pub Promised : Stage → View → List Event → Type 0
 Promised a v es = Promise (isOpen a (v .goesOn)) v es
 
-crossed-none : (bp : ℕ) → crossed bp .number ≡ 0 → bp ≡ 0
+pub crossed-none : (bp : ℕ) → crossed bp .number ≡ 0 → bp ≡ 0
 unfolding crossed fault
 crossed-none bp =
     if-case (λ (f : Fault). f .number ≡ 0 → bp ≡ 0) (eqb bp 0) (fault 0 0) (fault 6 bp) (λ e _. eqb-true bp 0 e) (λ _ q. absurd (eqb-false 6 0 refl q))
 
-lower-first : (a b : ℕ) → lower a b ≡ 0 → a ≡ 0
+pub lower-first : (a b : ℕ) → lower a b ≡ 0 → a ≡ 0
 unfolding lower
 lower-first a b =
     if-case (λ (n : ℕ). n ≡ 0 → a ≡ 0) (eqb a 0) b _ (λ e _. eqb-true a 0 e)

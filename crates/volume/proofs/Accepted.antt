@@ -35,6 +35,12 @@ faultless-go s x p h =
     ap (ordered s (kindIn (s .phase) x) (bytesIn x)) (h .due)
     ∙ if-true _ _ _ (eq-eqb (itemFault s (kindIn (s .phase) x) (bytesIn x) .number) 0 (h .sound))
 
+-- and reading goes on behind it
+pub faultless-runs : (s : State) (x : Item) (xs : List Item) (p : Phase) → Faultless s x p
+    → runs s (x ∷ xs) ≡ further (eventsOf s (kindIn (s .phase) x) (bytesIn x)) (runs (behind s x p) xs)
+unfolding runs next
+faultless-runs s x xs p h = ap (λ (r : Next). next r (λ t. runs t xs)) (faultless-go s x p h)
+
 -- what holds where an item is without fault, and where it is refused with a number that is not 0, holds of its step
 pub by-step {ℓ} : (P : Next → Type ℓ) (s : State) (x : Item)
     → ((p : Phase) → Faultless s x p → P (go (behind s x p) (eventsOf s (kindIn (s .phase) x) (bytesIn x))))

@@ -4,6 +4,7 @@ pub mod Step
 pub mod Run
 pub mod Meaning
 pub mod Accepted
+pub mod Dates
 pub mod Place
 pub mod Body
 pub mod Walk
