@@ -6,7 +6,7 @@ use common::{fed, folder, names_in, root, run, shell};
 use std::fs;
 use std::path::Path;
 
-const ACCEPTED: [&str; 3] = ["ledger", "messages", "options"];
+const ACCEPTED: [&str; 4] = ["ledger", "messages", "new-year", "options"];
 
 fn sample(name: &str) -> String {
     format!("samples/{name}.tgi")
@@ -50,6 +50,15 @@ fn sets_that_differ_beside_their_meaning_have_one_normal_form() {
     other[owner..owner + 4].copy_from_slice(b"RIVE");
     let words = ["rewrite", "-", "--quota", "9", "--reels", "GATE01", "-o", "-"];
     assert_eq!(fed(&words, &other).done().out, fed(&words, &image).done().out);
+}
+
+/// In the three headers and the three trailers, whatever dates the later sections had.
+#[test]
+fn every_section_is_written_with_the_dates_of_the_first() {
+    let normal = rewritten("samples/new-year.tgi", "1", "PAY001,PAY002,PAY003");
+    let text = String::from_utf8_lossy(&normal);
+    assert_eq!(text.matches(" 85365 86365").count(), 6);
+    assert!(!text.contains(" 86001") && !text.contains(" 86002"));
 }
 
 #[test]
