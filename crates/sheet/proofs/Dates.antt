@@ -23,10 +23,10 @@ use Rattle.order.specs.declared.Due.the-variants.{To}
 use Rattle.charset.specs.Number.{numberIn}
 use Rattle.label.specs.Field.{setOf, sectionOf, sequenceOf}
 use Rattle.label.specs.Judged.{firstBad, agreeAt, unequalFrom}
-use Rattle.label.specs.Name.{required, optional, orElse as orNamed, named as namedKind, kindOf}
+use Rattle.label.specs.Name.{named as namedKind, kindOf}
 use Rattle.label.specs.Table.{equal, sectionFirst, trailerFirst}
 use Rattle.volume.specs.State.{State, start}
-use Rattle.volume.specs.Fault.{says, valueOf, lower, crossed, newFilePlace, laterPlace, fileFault, firstHeaderFault, firstTrailerFault}
+use Rattle.volume.specs.Fault.{crossed, newFilePlace, laterPlace, fileFault, firstHeaderFault, firstTrailerFault}
 use Rattle.volume.specs.Step.{Event, begins, holds, Next, kindIn, bytesIn, isDue, stateAfter, namesAfter, filesAfter, goesOnAfter, firstAfter, secondAfter, countAfter, pendingAfter, segmentsIn, eventsOf}
 use Rattle.volume.specs.Run.{Run, further, runs, imageVerdict}
 use Rattle.volume.specs.Meaning.{meaningOf, handedOut, content}
@@ -70,12 +70,11 @@ back-part l m e a w h = sym (of l) ∙ ap (part (a - 53) w) e ∙ of m
 named-front : (l m : List ℕ) → part 0 41 l ≡ part 0 41 m → namedKind l ≡ namedKind m
 unfolding namedKind
 named-front l m e =
-    ap (λ (x : List ℕ). orNamed (required x) (optional (part 0 3 l) (getD l 3 0))) (front-part l m e 0 4 (omega arith))
-    ∙ ap (λ (x : List ℕ). orNamed (required (part 0 4 m)) (optional x (getD l 3 0))) (front-part l m e 0 3 (omega arith))
-    ∙ ap (λ (x : ℕ). orNamed (required (part 0 4 m)) (optional (part 0 3 m) x)) fourth
-  where
-    fourth : getD l 3 0 ≡ getD m 3 0
-    fourth = byte-part 3 l ∙ ap (λ (x : List ℕ). getD x 0 0) (front-part l m e 3 1 (omega arith)) ∙ sym (byte-part 3 m)
+    let four : part 0 4 l ≡ part 0 4 m = front-part l m e 0 4 (omega arith) in
+    let three : part 0 3 l ≡ part 0 3 m = front-part l m e 0 3 (omega arith) in
+    let fourth : getD l 3 0 ≡ getD m 3 0
+    = byte-part 3 l ∙ ap (λ (x : List ℕ). getD x 0 0) (front-part l m e 3 1 (omega arith)) ∙ sym (byte-part 3 m) in
+    cc
 
 kind-undated : (l : List ℕ) → isDated (kindOf l) ≡ true → kindOf (undated l) ≡ kindOf l
 unfolding kindOf isDated isKind
@@ -87,11 +86,15 @@ kind-undated l =
 
 -- ---- where dates are compared
 
--- of the fields that are to be equal, by a table, none has a byte of the dates
+-- the w bytes at a place have none of the dates
+abbrev beside : ℕ → ℕ → Bool
+beside at w = ifB (leb (at + w) 41) true (leb 53 at)
+
+-- that holds of all fields that are to be equal by a table
 unfoldable undatedRows : ℕ → List ℕ → Bool
 undatedRows at [] = true
 undatedRows at (w ∷ []) = true
-undatedRows at (w ∷ r ∷ rows) = ifB (eqb r equal) (ifB (leb (at + w) 41) true (leb 53 at)) true && undatedRows (at + w) rows
+undatedRows at (w ∷ r ∷ rows) = ifB (eqb r equal) (beside at w) true && undatedRows (at + w) rows
 
 row-same : (t outside x y : Bool) → (outside ≡ true → x ≡ y) → ifB t outside true ≡ true → ifB t x true ≡ ifB t y true
 unfolding ifB
@@ -105,7 +108,7 @@ module _ (l m : List ℕ) (long-l : length l ≡ 80) (long-m : length m ≡ 80) 
   behind-dates : (a w : ℕ) → 53 ≤ a → part a w l ≡ part a w m
   behind-dates = back-part l m (sym (undated-back l long-l) ∙ ap (drop 53) e ∙ undated-back m long-m)
 
-  beside-dates : (a w : ℕ) → ifB (leb (a + w) 41) true (leb 53 a) ≡ true → part a w l ≡ part a w m
+  beside-dates : (a w : ℕ) → beside a w ≡ true → part a w l ≡ part a w m
   beside-dates a w =
       if-case (λ (t : Bool). t ≡ true → part a w l ≡ part a w m) (leb (a + w) 41) true (leb 53 a)
       (λ h _. before-dates a w (leb-true (a + w) 41 h)) (λ _ h. behind-dates a w (leb-true 53 a h))
@@ -115,27 +118,37 @@ module _ (l m : List ℕ) (long-l : length l ≡ 80) (long-m : length m ≡ 80) 
   unequal-same f at [] h = refl
   unequal-same f at (w ∷ []) h = refl
   unequal-same f at (w ∷ r ∷ rows) h =
-      let outside : Bool = ifB (leb (at + w) 41) true (leb 53 at) in
-      let row : Bool = ifB (eqb r equal) outside true in
+      let row : Bool = ifB (eqb r equal) (beside at w) true in
       let rest : Bool = undatedRows (at + w) rows in
       ap₂ (λ (t : Bool) (n : ℕ). ifB t n (at + 1))
-      (row-same (eqb r equal) outside _ _ (λ o. ap (same (part at w f)) (beside-dates at w o)) (and-first row rest h)) (unequal-same f (at + w) rows (and-second row rest h))
+      (row-same (eqb r equal) (beside at w) _ _ (λ o. ap (same (part at w f)) (beside-dates at w o)) (and-first row rest h)) (unequal-same f (at + w) rows (and-second row rest h))
+
+  set-same : setOf l ≡ setOf m
+  unfolding setOf
+  set-same = before-dates 21 6 (omega arith)
+
+  section-same : sectionOf l ≡ sectionOf m
+  unfolding sectionOf
+  section-same = ap numberIn (before-dates 27 4 (omega arith))
+
+  sequence-same : sequenceOf l ≡ sequenceOf m
+  unfolding sequenceOf
+  sequence-same = ap numberIn (before-dates 31 4 (omega arith))
 
   later-same : (f : List ℕ) → laterPlace f l ≡ laterPlace f m
-  unfolding laterPlace sectionOf undatedRows ifB
+  unfolding laterPlace undatedRows ifB
   later-same f =
-      ap₂ (λ (n : ℕ) (x : List ℕ). lower n (ifB (says (valueOf (sectionOf f) + 1) (numberIn x)) 0 28))
-      (unequal-same f 0 sectionFirst refl) (before-dates 27 4 (omega arith))
+      let fields : unequalFrom f l 0 sectionFirst ≡ unequalFrom f m 0 sectionFirst = unequal-same f 0 sectionFirst refl in
+      let section : sectionOf l ≡ sectionOf m = section-same in
+      cc
 
   new-same : (files : ℕ) (f : List ℕ) → newFilePlace files f l ≡ newFilePlace files f m
-  unfolding newFilePlace setOf sectionOf sequenceOf
+  unfolding newFilePlace
   new-same files f =
-      ap (λ (x : List ℕ). place x (part 27 4 l) (part 31 4 l)) (before-dates 21 6 (omega arith))
-      ∙ ap₂ (place (part 21 6 m)) (before-dates 27 4 (omega arith)) (before-dates 31 4 (omega arith))
-    where
-      place : List ℕ → List ℕ → List ℕ → ℕ
-      place set section sequence =
-          ifB (ifB (eqb files 0) true (same set (setOf f))) (ifB (says 1 (numberIn section)) (ifB (says (files + 1) (numberIn sequence)) 0 32) 28) 22
+      let set : setOf l ≡ setOf m = set-same in
+      let section : sectionOf l ≡ sectionOf m = section-same in
+      let sequence : sequenceOf l ≡ sequenceOf m = sequence-same in
+      cc
 
   -- against what was read before it, HDR1 is the same with other dates
   pub header-same : (goesOn : Bool) (files : ℕ) (first : List ℕ) → firstHeaderFault goesOn files first l ≡ firstHeaderFault goesOn files first m
@@ -201,7 +214,7 @@ withFirst s f =
       pending = s .pending;
     }
 
--- and not even there where a new file's HDR1 is yet to be handed out, with its HDR2
+-- it is the same HDR1 where a new file's is yet to be handed out, with its HDR2
 abbrev Begun : Stage → Bool → List ℕ → List ℕ → Type 0
 Begun a g f h = a ≡ named → g ≡ false → f ≡ h
 
