@@ -86,6 +86,26 @@ put-put old at xs ys h =
     ∙ ap (λ (l : List ℕ). take at old ++ xs ++ ys ++ l) rest
     ∙ ap (λ (l : List ℕ). l ++ drop (at + length (xs ++ ys)) old) (append-assoc (take at old) xs ys)
 
+-- nothing is left of a put below a longer one
+pub put-again : (old : List ℕ) (at : ℕ) (xs ys : List ℕ) → length xs ≤ length ys → at + length ys ≤ length old → putAt (putAt old at xs) at ys ≡ putAt old at ys
+unfolding putAt
+put-again old at xs ys h k =
+    let more : ℕ = length ys - length xs in
+    let place : at + length xs + more ≡ at + length ys = omega arith in
+    let behind : drop (at + length ys) (putAt old at xs) ≡ drop (at + length ys) old
+    = ap (λ (n : ℕ). drop n (putAt old at xs)) (sym place)
+    ∙ sym (drop-drop more (at + length xs) (putAt old at xs))
+    ∙ ap (drop more) (drop-put old at xs (omega arith))
+    ∙ drop-drop more (at + length xs) old
+    ∙ ap (λ (n : ℕ). drop n old) place in
+    ap (λ (l : List ℕ). l ++ ys ++ drop (at + length ys) (putAt old at xs)) (take-put old at xs (omega arith))
+    ∙ ap (λ (l : List ℕ). take at old ++ ys ++ l) behind
+
+-- at the front
+pub put-first-of-all : (old bs : List ℕ) → putAt old 0 bs ≡ bs ++ drop (length bs) old
+unfolding putAt
+put-first-of-all old bs = let e : 0 + length bs ≡ length bs = omega arith in ap (λ (k : ℕ). bs ++ drop k old) e
+
 -- two puts, the second right before the first, are one
 pub put-before : (old : List ℕ) (at : ℕ) (xs ys : List ℕ) → at + length xs ≤ length old
     → putAt (putAt old (at + length xs) ys) at xs ≡ putAt old at (xs ++ ys)

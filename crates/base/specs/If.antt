@@ -34,6 +34,12 @@ unfolding ifB
 if-same true a = refl
 if-same false a = refl
 
+-- a test that decides by itself
+pub if-itself : (t : Bool) → ifB t true false ≡ t
+unfolding ifB
+if-itself true = refl
+if-itself false = refl
+
 -- a call returned p, which its contract equates with x: what the code tested of p holds of x
 pub so-true : (p x : Bool) → p ≡ x → p ≡ true → x ≡ true
 so-true p x e h = sym e ∙ h

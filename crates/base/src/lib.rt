@@ -1,7 +1,9 @@
-// What every layer answers with, and the two questions that every layer asks of byte strings.
+// What every layer answers with, the two questions that every layer asks of byte strings, and whether numbers that a caller gave add up.
 // It knows no rule of a label, a block or an image.
 ghost use mathlib.Core.Path.{_≡_};
+ghost use lib.Dec.{eqb};
 ghost use Rattle.base.specs.Part.{part, same};
+ghost use Rattle.base.specs.Sum.{sum};
 
 // The record formats, as HDR2 has them.
 pub const FIXED: u8 = b'F';
@@ -53,4 +55,20 @@ pub fn equal(a: &[u8], b: &[u8]) -> bool
         i += 1;
     }
     true
+}
+
+// Whether numbers add up to a total: each is taken from what is left over of it, so that nothing can overflow.
+pub fn add_up_to(numbers: &[u64], total: usize) -> bool
+    ensures { λ r. ⌜ r ≡ eqb (sum (now (numbers .entry))) total ⌝ }
+{
+    let mut left = total as u64;
+    let mut i: usize = 0;
+    while i < numbers.len() {
+        if left < numbers[i] {
+            return false;
+        }
+        left -= numbers[i];
+        i += 1;
+    }
+    left == 0
 }

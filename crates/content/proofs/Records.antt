@@ -12,7 +12,7 @@ use lib.ListN.{length, length-append}
 use Rattle.base.specs.If.{if-true, if-case}
 use Rattle.base.specs.Part.{part}
 use Rattle.base.proofs.Parts.{length-part}
-use Rattle.sheet.specs.Flat.{sum}
+use Rattle.base.specs.Sum.{sum}
 use Rattle.content.specs.Walk.{Inside, isInside, unitNext, unitFrom, firstSegment, nextSegment, Rest, ends, fails, before, restBy, restF, restAt, Record, whole, split, nothing, splitBy, begunBy, recordAt}
 use Rattle.content.specs.Measure.{isEnded, bytesBehind, measuredBy, recordBytes}
 use Rattle.content.specs.Walked.{handed, Walks, alongBy, alongF, along, lastOf, endOf}

@@ -3,7 +3,7 @@
 use mathlib.Core.List.{List, [], _∷_, map}
 use Prim.Native.Nat.{ℕ}
 use lib.ListN.{length}
-use Rattle.sheet.specs.Flat.{sum}
+use Rattle.base.specs.Sum.{sum}
 use Rattle.content.specs.Walked.{along, lastOf}
 use Rattle.content.specs.declared.Walk.{Walk}
 use Rattle.content.specs.declared.counting.Facts.{Facts}

@@ -12,6 +12,7 @@ use Rattle.base.specs.If.{if-case}
 use Rattle.base.specs.Part.{part}
 use Rattle.base.specs.Digits.{digits}
 use Rattle.base.proofs.Parts.{length-part, put-none}
+use Rattle.base.specs.Sum.{sum}
 use Rattle.output.proofs.Writing.{wrote-wrote, wrote-same}
 use Rattle.image.specs.Item.{Item}
 use Rattle.image.specs.Framing.{items}
@@ -23,7 +24,6 @@ use Rattle.order.specs.Due.{dueAfter}
 use Rattle.volume.specs.Step.{kindIn, bytesIn}
 use Rattle.volume.specs.Run.{imageVerdict}
 use Rattle.volume.specs.Meaning.{File, content}
-use Rattle.sheet.specs.Flat.{sum}
 use Rattle.sheet.proofs.Entries.{entry-name, entry-second}
 use Rattle.content.specs.Section.{placeBehind}
 use Rattle.content.specs.File.{headerFrom, beginsFile, goesOnBehind, firstBehind, onward, firstFile, nextFile, fileBehind}

@@ -7,6 +7,7 @@ use Rattle.base.specs.If.{ifB}
 use Rattle.base.specs.Part.{part, same, allAre}
 use Rattle.base.specs.Digits.{isDigit, allDigits, value, digits}
 use Rattle.base.specs.Answer.{fault, verdict, orElse}
+use Rattle.base.specs.Sum.{sum}
 use Rattle.charset.specs.Class.{isA, classOf, allA}
 use Rattle.charset.specs.Date.{isCentury, isYearDay, isDate}
 use Rattle.charset.specs.Number.{numberIn}
@@ -27,7 +28,6 @@ use Rattle.volume.specs.Meaning.{onFirst, joined, fieldsFrom, collect, setFrom,
 use Rattle.volume.specs.Run.{further, next, runs, answerOf, imageVerdict}
 use Rattle.volume.specs.State.{start}
 use Rattle.volume.specs.Step.{isDue, kindIn, bytesIn, namesAfter, filesAfter, goesOnAfter, firstAfter, secondAfter, countAfter, pendingAfter, stateAfter, segmentsOf, segmentsIn, eventsOf, judged, ordered, step}
-use Rattle.sheet.specs.Flat.{sum}
 use Rattle.listing.specs.Decimal.{decimalF, decimal}
 use Rattle.listing.specs.Text.{newline, heading, named, counted, described, line, lines, listingOf, placed, refusalLine, textOf}
 

@@ -10,11 +10,11 @@ use Rattle.base.specs.If.{ifB}
 use Rattle.base.specs.Part.{part}
 use Rattle.base.specs.Digits.{digits}
 use Rattle.base.specs.declared.Verdict.{Verdict}
+use Rattle.base.specs.Sum.{sum}
 use Rattle.output.specs.Output.{Written, fitted}
 use Rattle.output.specs.Text.{bytes}
 use Rattle.volume.specs.Run.{imageVerdict}
 use Rattle.volume.specs.Meaning.{File, Meaning, content}
-use Rattle.sheet.specs.Flat.{sum}
 use Rattle.listing.specs.Decimal.{decimal}
 
 abbrev pub newline : List ℕ

@@ -11,13 +11,14 @@ use lib.ListN.{length, take, drop, getD, length-drop, drop-of-length-le, List·g
 use lib.Seq.{drop-cons}
 use Rattle.base.specs.If.{ifB, if-true, if-false}
 use Rattle.base.specs.Part.{part}
+use Rattle.base.specs.Sum.{sum, cutBy}
 use Rattle.charset.specs.Number.{numberIn}
 use Rattle.charset.specs.declared.Number.{Number}
 use Rattle.charset.specs.declared.Number.the-variants.{Value, Wrong}
 use Rattle.volume.specs.Fault.{valueOf}
 use Rattle.volume.specs.Meaning.{File}
 use Rattle.sheet.specs.Legal.{formatFrom, recordLengthFrom, legalEntry, legalRecords, legalFile, legalFiles}
-use Rattle.sheet.specs.Flat.{sum, inParts, cutBy, filesFrom}
+use Rattle.sheet.specs.Flat.{inParts, filesFrom}
 use Rattle.sheet.specs.Passing.{Behind}
 use Rattle.sheet.specs.declared.file.Passed.{Passed}
 use Rattle.sheet.proofs.Cutting.{drop-past, take-past, parts-none, parts-some}

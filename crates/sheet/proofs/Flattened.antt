@@ -1,8 +1,8 @@
 -- Every legal meaning can be put on a sheet: slices that say just it, and that add up. Assumes nothing.
 use mathlib.Core.Path.{_≡_, refl, sym, ap, _∙_}
 use mathlib.Core.Bool.{Bool, true, false, false≢true}
-use mathlib.Core.List.{List, [], _∷_, _++_, append-assoc, map, flatten as endToEnd}
-use Prim.Native.Nat.{ℕ, suc, _+_, _*_, _/_, _%_, _<_}
+use mathlib.Core.List.{List, [], _∷_, _++_, map, flatten as endToEnd}
+use Prim.Native.Nat.{ℕ, _+_, _*_, _/_, _%_, _<_}
 use native.Mathlib.Nat.{suc-mul}
 use native.Mathlib.Omega.{arith}
 use borrow.Author.Tests.{eq-eqb, eqb-true, leb-true, le-ltb}
@@ -10,12 +10,13 @@ use lib.Dec.{eqb, leb}
 use lib.ListN.{length, take, drop, length-append}
 use lib.Seq.{take-at, drop-at}
 use Rattle.base.specs.If.{ifB, if-true, if-false, if-case}
+use Rattle.base.specs.Sum.{sum, cutBy}
+use Rattle.base.proofs.Sums.{sum-append, length-map, sum-lengths, cut-back}
 use Rattle.volume.specs.Fault.{isAmong}
 use Rattle.volume.specs.Meaning.{File, Meaning}
 use Rattle.sheet.specs.Legal.{Sheet, legalEntry, legalFile, legalFiles, legalMeaning, legalName, freshNames, legalNames, legalQuota, legalSheet}
-use Rattle.sheet.specs.Flat.{sum, inParts, cutBy, filesFrom, addsUp, sheetOf, sheetNumber, allLong, flatten}
+use Rattle.sheet.specs.Flat.{inParts, filesFrom, addsUp, sheetOf, sheetNumber, allLong, flatten}
 use Rattle.sheet.proofs.Cutting.{parts-none, parts-cons}
-use Rattle.sheet.proofs.Sums.{sum-append}
 use Rattle.sheet.proofs.Names.{legal-long}
 
 -- both tests of a choice with `false` passed
@@ -23,10 +24,6 @@ both : (a b : Bool) → ifB a b false ≡ true → (a ≡ true) × (b ≡ true)
 unfolding ifB
 both true b h = (refl, h)
 both false b h = absurd (false≢true h)
-
-length-map : {A B : Type 0} (f : A → B) (xs : List A) → length (map f xs) ≡ length xs
-length-map f [] = refl
-length-map f (x ∷ xs) = ap suc (length-map f xs)
 
 -- ---- parts of one length, laid end to end and cut again
 
@@ -46,23 +43,6 @@ length-parts-of w (x ∷ xs) h =
     let l = length-parts-of w xs (t .1) in
     let m = suc-mul (length xs) w in
     length-append x (endToEnd xs) ∙ omega arith
-
--- ---- records
-
-sum-lengths : (xs : List (List ℕ)) → sum (map length xs) ≡ length (endToEnd xs)
-unfolding sum endToEnd
-sum-lengths [] = refl
-sum-lengths (x ∷ xs) = ap (λ (n : ℕ). length x + n) (sum-lengths xs) ∙ sym (length-append x (endToEnd xs))
-
-cut-back : (xs : List (List ℕ)) (s : List ℕ) → cutBy (map length xs) (endToEnd xs ++ s) ≡ xs
-unfolding cutBy endToEnd
-cut-back [] s = refl
-cut-back (x ∷ xs) s =
-    let e : (x ++ endToEnd xs) ++ s ≡ x ++ (endToEnd xs ++ s) = append-assoc x (endToEnd xs) s in
-    ap (λ (l : List ℕ). take (length x) l ∷ cutBy (map length xs) (drop (length x) l)) e
-    ∙ ap (λ (l : List ℕ). l ∷ cutBy (map length xs) (drop (length x) (x ++ (endToEnd xs ++ s)))) (take-at x (endToEnd xs ++ s) (length x) refl)
-    ∙ ap (λ (l : List ℕ). x ∷ cutBy (map length xs) l) (drop-at x (endToEnd xs ++ s) (length x) refl)
-    ∙ ap (λ (r : List (List ℕ)). x ∷ r) (cut-back xs s)
 
 -- ---- files
 

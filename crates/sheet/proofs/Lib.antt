@@ -1,6 +1,5 @@
 mod Composed
 pub mod Cutting
-pub mod Sums
 pub mod Records
 pub mod Files
 pub mod Names

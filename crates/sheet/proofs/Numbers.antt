@@ -10,9 +10,10 @@ use borrow.Author.Tests.{eq-eqb, ne-eqb, le-leb, lt-leb, lt-ltb, le-ltb, eqb-tru
 use lib.Dec.{eqb, ltb}
 use lib.ListN.{length}
 use Rattle.base.specs.If.{ifB, if-true, if-false, if-case, if-same}
+use Rattle.base.specs.Sum.{sum}
 use Rattle.volume.specs.Meaning.{Meaning}
 use Rattle.sheet.specs.Legal.{legalFiles, legalMeaning, freshNames, legalNames, legalQuota, legalSheet}
-use Rattle.sheet.specs.Flat.{Flat, sum, inParts, filesFrom, addsUp, sheetOf, sheetNumber, reelsNumber}
+use Rattle.sheet.specs.Flat.{Flat, inParts, filesFrom, addsUp, sheetOf, sheetNumber, reelsNumber}
 use Rattle.sheet.specs.Passing.{saysFiles}
 use Rattle.sheet.proofs.Cutting.{length-parts}
 

@@ -15,10 +15,10 @@ use lib.Seq.{drop-cons, drop-drop}
 use Rattle.base.specs.If.{ifB, if-true, if-false, if-case}
 use Rattle.base.specs.Part.{part, allAre}
 use Rattle.sheet.specs.Legal.{legalRecord, legalRecords}
-use Rattle.sheet.specs.Flat.{sum, cutBy}
 use Rattle.sheet.specs.Passing.{Behind}
 use Rattle.sheet.proofs.Cutting.{drop-min, drop-past}
-use Rattle.sheet.proofs.Sums.{sum-at}
+use Rattle.base.specs.Sum.{sum, cutBy}
+use Rattle.base.proofs.Sums.{sum-at}
 
 -- ---- one record
 

@@ -2,10 +2,11 @@
 -- record; the records' bytes one behind the other; the quota; 6 bytes a reel name.
 use mathlib.Core.Bool.{Bool, true, false}
 use mathlib.Core.List.{List, [], _∷_, map, flatten as endToEnd}
-use Prim.Native.Nat.{ℕ, zero, suc, _+_, _*_, _-_, _/_, _%_}
+use Prim.Native.Nat.{ℕ, zero, suc, _*_, _/_, _%_}
 use lib.Dec.{eqb, ltb}
 use lib.ListN.{length, take, drop}
 use Rattle.base.specs.If.{ifB}
+use Rattle.base.specs.Sum.{sum, cutBy}
 use Rattle.image.specs.Framing.{mostReels}
 use Rattle.volume.specs.Fault.{mostFiles}
 use Rattle.volume.specs.Meaning.{File, Meaning}
@@ -20,10 +21,6 @@ pub record Flat : Type 0 where
   pub quota : ℕ
   pub names : List ℕ
 
-unfoldable pub sum : List ℕ → ℕ
-sum [] = 0
-sum (n ∷ ns) = n + sum ns
-
 -- a list cut into parts of w elements, a shorter one last: `inParts` counts down the length
 unfoldable pub inPartsF : ℕ → ℕ → List ℕ → List (List ℕ)
 inPartsF zero w s = []
@@ -32,11 +29,6 @@ inPartsF (suc k) w (x ∷ xs) = take w (x ∷ xs) ∷ inPartsF k w (drop w (x �
 
 unfoldable pub inParts : ℕ → List ℕ → List (List ℕ)
 inParts w s = inPartsF (length s) w s
-
--- bytes cut by a list of lengths
-unfoldable pub cutBy : List ℕ → List ℕ → List (List ℕ)
-cutBy [] s = []
-cutBy (n ∷ ns) s = take n s ∷ cutBy ns (drop n s)
 
 -- files from their entries, counts, lengths and bytes
 unfoldable pub filesFrom : List (List ℕ) → List ℕ → List ℕ → List ℕ → List File

@@ -6,8 +6,9 @@ use Prim.Native.Nat.{ℕ, _/_, _%_}
 use lib.Dec.{eqb}
 use lib.ListN.{length, drop}
 use Rattle.base.specs.If.{ifB}
+use Rattle.base.specs.Sum.{sum}
 use Rattle.sheet.specs.Legal.{legalFiles}
-use Rattle.sheet.specs.Flat.{sum, inParts, filesFrom}
+use Rattle.sheet.specs.Flat.{inParts, filesFrom}
 use Rattle.sheet.specs.declared.file.Passed.{Passed}
 
 -- the answer b on records of lengths ls that stand in s from a place on; where it is yes, the place behind them

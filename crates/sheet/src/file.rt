@@ -1,12 +1,13 @@
 // The files on a sheet: their entries of 46 bytes and their records. It knows nothing of reels.
 ghost use mathlib.Core.Path.{_≡_};
 ghost use lib.ListN.{drop};
+ghost use Rattle.base.specs.Sum.{cutBy};
 ghost use Rattle.order.specs.Kind.{hdr};
 ghost use Rattle.label.specs.Name.{HDR1, HDR2};
 ghost use Rattle.label.specs.Judged.{labelFault};
 ghost use Rattle.label.specs.Made.{madeFirst, madeSecond};
 ghost use Rattle.sheet.specs.Legal.{isSound, formatFrom, recordLengthFrom, legalEntry, legalRecord, legalRecords, legalFile, legalFiles};
-ghost use Rattle.sheet.specs.Flat.{inParts, cutBy, filesFrom};
+ghost use Rattle.sheet.specs.Flat.{inParts, filesFrom};
 ghost use Rattle.sheet.specs.Passing.{Behind};
 use crate::sum::past;
 use base::FIXED;

@@ -2,18 +2,18 @@
 // It knows what may stand on a sheet, and nothing of the blocks and reels that are made of it.
 mod file; // file.rt: the files, their entries and records
 mod reels; // reels.rt: the quota and the names
-mod sum; // sum.rt: sums of numbers that a caller gave
+mod sum; // sum.rt: a number that a caller gave, added to a place
 
 pub use file::format_in;
 ghost use mathlib.Core.Path.{_≡_};
 ghost use Rattle.sheet.specs.Flat.{reelsNumber, sheetNumber};
 ghost use Rattle.sheet.specs.Passing.{saysFiles};
+use base::add_up_to;
 use file::ENTRY;
 use file::are_legal;
 use reels::NAME;
 use reels::are_fresh;
 use reels::is_legal_quota;
-use sum::add_up_to;
 
 // The most files and reels of a set.
 const FILES: usize = 64;

@@ -15,9 +15,10 @@ use lib.Seq.{drop-drop, drop-cons}
 use Rattle.base.specs.If.{if-true, if-false, if-case}
 use Rattle.base.specs.Part.{part}
 use Rattle.sheet.specs.Legal.{formatFrom, blockLengthFrom, legalFiles, legalSheet}
-use Rattle.sheet.specs.Flat.{Flat, sum, inParts, cutBy, filesFrom, addsUp, sheetOf, sheetNumber}
+use Rattle.sheet.specs.Flat.{Flat, inParts, filesFrom, addsUp, sheetOf, sheetNumber}
 use Rattle.sheet.proofs.Cutting.{parts-some}
-use Rattle.sheet.proofs.Sums.{sum-at, sum-append}
+use Rattle.base.specs.Sum.{sum, cutBy}
+use Rattle.base.proofs.Sums.{sum-at, sum-append}
 use Rattle.content.specs.Walked.{endOf}
 use Rattle.content.specs.declared.Walk.{Walk}
 use Rattle.content.specs.declared.FileAt.{FileAt}

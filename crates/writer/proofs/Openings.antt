@@ -16,7 +16,7 @@ use Rattle.base.specs.If.{if-true, if-false}
 use Rattle.base.specs.Format.{S}
 use Rattle.base.specs.Part.{part}
 use Rattle.base.proofs.Parts.{length-part}
-use Rattle.sheet.specs.Flat.{sum, cutBy}
+use Rattle.base.specs.Sum.{sum, cutBy}
 use Rattle.content.specs.Whole.{atBlock, wholeAt}
 use Rattle.content.specs.Walk.{moved as movedTo, firstSegment, recordAt}
 use Rattle.block.specs.Unit.{wordOf}

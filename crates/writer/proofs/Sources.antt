@@ -12,7 +12,7 @@ use lib.Seq.{drop-drop, take-take, take-all, take-at, take-add, take-append-le, 
 use Rattle.base.specs.If.{ifB, if-true, if-false}
 use Rattle.base.specs.Part.{part}
 use Rattle.base.proofs.Parts.{length-part, drop-take}
-use Rattle.sheet.specs.Flat.{sum, cutBy}
+use Rattle.base.specs.Sum.{sum, cutBy}
 use Rattle.content.specs.Walk.{nextSegment}
 use Rattle.content.specs.Measure.{bytesBehind}
 use Rattle.content.specs.Walked.{endOf}

@@ -8,11 +8,12 @@ use lib.Dec.{ltb}
 use lib.ListN.{length, drop}
 use Rattle.base.specs.If.{ifB}
 use Rattle.base.specs.Part.{part}
+use Rattle.base.specs.Sum.{sum, cutBy}
 use Rattle.image.specs.Item.{Item, mark, reelEnd, encode}
 use Rattle.image.specs.Framing.{head}
 use Rattle.volume.specs.Meaning.{File, content}
 use Rattle.sheet.specs.Legal.{Sheet, legalFiles}
-use Rattle.sheet.specs.Flat.{Flat, sum, inParts, cutBy, filesFrom}
+use Rattle.sheet.specs.Flat.{Flat, inParts, filesFrom}
 use Rattle.content.specs.File.{nextFile, fileBehind}
 use Rattle.content.specs.Walked.{endOf, Filed as Met}
 use Rattle.content.specs.Records.{recordsAt}

@@ -11,7 +11,7 @@ use lib.ListN.{length, take, drop}
 use Rattle.base.specs.If.{ifB}
 use Rattle.base.specs.Format.{S}
 use Rattle.base.specs.Part.{part}
-use Rattle.sheet.specs.Flat.{sum, cutBy}
+use Rattle.base.specs.Sum.{sum, cutBy}
 use Rattle.content.specs.Measure.{GoesOn, bytesBehind}
 use Rattle.content.specs.Walked.{endOf}
 use Rattle.content.specs.Records.{recordsAt}

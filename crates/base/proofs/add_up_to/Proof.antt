@@ -1,8 +1,8 @@
 use Prim.Native.Nat.{_-_}
 use lib.ListN.{length}
-use Rattle.sheet.proofs.Sums.{Taken, pieces}
-use Rattle.sheet.proofs.sum.add_up_to.Statement.{statement}
-use Rattle.sheet.proofs.sum.add_up_to.Tie as tie
+use Rattle.base.proofs.Sums.{Taken, pieces}
+use Rattle.base.proofs.add_up_to.Statement.{statement}
+use Rattle.base.proofs.add_up_to.Tie as tie
 
 abbrev Inv-loop : tie.InvT-loop
 Inv-loop numbers total left₀ i₀ left i = Taken numbers total i left
