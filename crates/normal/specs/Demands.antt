@@ -7,6 +7,7 @@ use lib.ListN.{length, take}
 use Rattle.base.specs.Answer.{verdict}
 use Rattle.base.specs.declared.Verdict.{Verdict}
 use Rattle.image.specs.Framing.{framing, items}
+use Rattle.output.specs.Output.{imageIn}
 use Rattle.volume.specs.State.{start}
 use Rattle.volume.specs.Run.{imageVerdict}
 use Rattle.volume.specs.Accepted.{Accepted, FirstWrong}
@@ -27,7 +28,7 @@ use Rattle.content.proofs.Handed.{record-asked, record-none}
 use Rattle.sheet.specs.Flat.{Flat, sheetOf}
 use Rattle.writer.specs.Write.{write}
 use Rattle.writer.proofs.RoundTrip.{Means, write-reads-back}
-use Rattle.writer.specs.Rewrite.{rewrite, imageIn}
+use Rattle.writer.specs.Rewrite.{rewrite}
 use Rattle.normal.specs.Normal.{Given, Enough, Kept, write-kept, rewrite-kept, rewrite-normal, normal-same, normal-twice}
 
 -- "1. Any bytes, any numbers: every operation ends and answers by itself, without asking the caller to have checked anything. Each refusal has its

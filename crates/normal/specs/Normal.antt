@@ -13,16 +13,16 @@ use Rattle.base.specs.Answer.{verdict}
 use Rattle.base.specs.declared.Verdict.{Verdict}
 use Rattle.image.specs.Item.{Item, encode}
 use Rattle.image.specs.Framing.{head, mostImage}
+use Rattle.output.specs.Output.{Written, refused, Result, placed, refusedWith, imageIn}
 use Rattle.volume.specs.Run.{imageVerdict}
 use Rattle.volume.specs.Meaning.{Meaning, content}
 use Rattle.sheet.specs.Legal.{Sheet}
 use Rattle.sheet.specs.Flat.{Flat, inParts, reelsNumber, sheetOf, sheetNumber}
 use Rattle.writer.specs.Lay.{Laid, laid, short, lay}
-use Rattle.output.specs.Output.{Written, refused}
 use Rattle.writer.specs.Write.{stored, storedLaid, writeSheet, write}
 use Rattle.writer.proofs.RoundTrip.{Means, image-means}
 use Rattle.writer.proofs.FromImage.{image-legal}
-use Rattle.writer.specs.Rewrite.{Rewritten, placed, refusedWith, sheetFrom, rewrite, imageIn}
+use Rattle.writer.specs.Rewrite.{sheetFrom, rewrite}
 
 -- reels and room are enough, and the image is not over the limit: the answer is not 10, 12 or 14
 pub record Enough (number : ℕ) : Type 0 where
@@ -109,7 +109,7 @@ rewrite-normal s quota names out g h =
     let w : Whole sheet out (writeSheet sheet out) = write-whole sheet out enough in
     let i : imageIn (rewrite s quota names out) ≡ head ++ encode (w .items) = ap imageIn writes ∙ front w in
     record {
-      done = ap (λ (r : Rewritten). r .verdict) writes ∙ ap (λ (n : ℕ). verdict n 0 0) (w .done);
+      done = ap (λ (r : Result). r .verdict) writes ∙ ap (λ (n : ℕ). verdict n 0 0) (w .done);
       whole = w;
       image = i;
       means = subst (λ (x : List ℕ). Means x (content s)) (sym i) (meant w);
@@ -122,7 +122,7 @@ rewrite-normal s quota names out g h =
     writes = rewrite-writes s quota names out g
 
     enough : Enough (writeSheet sheet out .number)
-    enough = subst (λ (r : Rewritten). Enough (r .verdict .number)) writes h
+    enough = subst (λ (r : Result). Enough (r .verdict .number)) writes h
 
     front : (w : Whole sheet out (writeSheet sheet out)) → imageIn (placed (writeSheet sheet out)) ≡ head ++ encode (w .items)
     front w = w .front
@@ -153,7 +153,7 @@ pub normal-again : (s : List ℕ) (quota : ℕ) (names out other : List ℕ) →
 unfolding verdict placed
 normal-again s quota names out other g n room =
     rewrite-normal image quota names other given
-    (subst (λ (r : Rewritten). Enough (r .verdict .number)) (sym (rewrite-writes image quota names other given))
+    (subst (λ (r : Result). Enough (r .verdict .number)) (sym (rewrite-writes image quota names other given))
     (write-again (sheetFrom image quota names) (n .whole .items) other
     (ap lay (sheet-same image s quota names (n .means .meaning)) ∙ n .whole .laying) (n .whole .small) (subst (λ (x : List ℕ). length x ≤ length other) (n .image) room)))
   where
@@ -203,7 +203,7 @@ rewrite-kept s quota names out =
     (λ _. if-case By (eqb (reelsNumber quota names) 0) _ _ (λ _. laid-kept (lay (sheetFrom s quota names)) out)
     (λ _. record { none = λ _. refl; kept = λ _. refl })) (λ _. record { none = λ _. refl; kept = λ _. refl })
   where
-    By : Rewritten → Type 0
+    By : Result → Type 0
     By r = Kept (r .verdict .number) (r .len) out (r .out)
 
 -- rewriting the normal set gives it again

@@ -9,12 +9,13 @@ use Rattle.base.proofs.Faults.{or-first}
 use Rattle.image.specs.Framing.{items}
 use Rattle.order.specs.Kind.{hdr, eov, eof, isKind}
 use Rattle.order.specs.declared.Kind.{Kind}
+use Rattle.output.specs.Output.{imageIn}
 use Rattle.volume.specs.State.{State, start}
 use Rattle.volume.specs.Step.{firstAfter}
 use Rattle.volume.specs.Fault.{firstTrailerFault, openFault, fileEndFault, contextFault}
 use Rattle.volume.specs.Dates.{undated, undatedFrom, SameDates}
 use Rattle.sheet.proofs.Dates.{header-same, trailer-dates, later-dates}
-use Rattle.writer.specs.Rewrite.{rewrite, imageIn}
+use Rattle.writer.specs.Rewrite.{rewrite}
 use Rattle.normal.specs.Normal.{Given, Enough}
 use Rattle.normal.specs.Demands.{equal-exactly}
 

@@ -1,17 +1,19 @@
 -- Writes into a lent buffer, one after the other. Assumes nothing.
-use mathlib.Core.Path.{_≡_, refl, sym, ap, _∙_, subst}
+use mathlib.Core.Path.{_≡_, refl, sym, ap, ap₂, _∙_, subst}
 use mathlib.Core.List.{List, [], _∷_, _++_}
 use Prim.Native.Nat.{ℕ, zero, suc, _+_, _-_, _*_, _/_, _%_, _≤_, _<_, min}
 use native.Mathlib.Omega.{arith}
 use native.Mathlib.Numerals.{add-one}
 use borrow.Author.Needs.{needs}
-use lib.ListN.{length, take, drop, getD, set, length-append, length-set, drop-of-length-le}
-use lib.Seq.{drop-cons}
-use Rattle.base.specs.Part.{putAt}
+use borrow.Author.Tests.{le-leb, lt-leb}
+use lib.ListN.{length, take, drop, getD, set, length-append, length-take, length-drop, length-set, take-append-drop, drop-of-length-le}
+use lib.Seq.{drop-cons, getD-drop, length-take-le, take-all, take-take}
+use Rattle.base.specs.If.{if-true, if-false}
+use Rattle.base.specs.Part.{part, putAt}
 use Rattle.base.specs.Digits.{digits}
-use Rattle.base.proofs.Parts.{length-put, put-none, put-put}
+use Rattle.base.proofs.Parts.{drop-take, length-put, put-none, put-put, put-again}
 use Rattle.label.proofs.Put.{put-first}
-use Rattle.output.specs.Output.{Wrote, Written, refused, refusalOf, Answers}
+use Rattle.output.specs.Output.{Wrote, Short, putIn, Written, refused, refusalOf, Answers}
 
 -- ---- copying: what is left to put from here makes the whole
 
@@ -81,6 +83,104 @@ pub has-room : {most : ℕ} (o : List ℕ) (a : ℕ) (bs : List ℕ) (r : ℕ) �
 has-room o a bs r e l h = omega arith
 
 pub ruleset writing = (wrote-over, wrote-short, wrote-put, has-room, needs)
+
+-- ---- few bytes, the first eight and the last eight
+
+first-eight : (t : List ℕ) → 8 ≤ length t
+    → getD t 0 0 ∷ getD t 1 0 ∷ getD t 2 0 ∷ getD t 3 0 ∷ getD t 4 0 ∷ getD t 5 0 ∷ getD t 6 0 ∷ getD t 7 0 ∷ [] ≡ take 8 t
+first-eight [] h = absurd (omega arith)
+first-eight (a ∷ []) h = absurd (omega arith)
+first-eight (a ∷ b ∷ []) h = absurd (omega arith)
+first-eight (a ∷ b ∷ c ∷ []) h = absurd (omega arith)
+first-eight (a ∷ b ∷ c ∷ d ∷ []) h = absurd (omega arith)
+first-eight (a ∷ b ∷ c ∷ d ∷ e ∷ []) h = absurd (omega arith)
+first-eight (a ∷ b ∷ c ∷ d ∷ e ∷ f ∷ []) h = absurd (omega arith)
+first-eight (a ∷ b ∷ c ∷ d ∷ e ∷ f ∷ g ∷ []) h = absurd (omega arith)
+first-eight (a ∷ b ∷ c ∷ d ∷ e ∷ f ∷ g ∷ i ∷ t) h = refl
+
+pub eight-read : (s : List ℕ) (a : ℕ) → a + 8 ≤ length s
+    → getD s a 0 ∷ getD s (a + 1) 0 ∷ getD s (a + 2) 0 ∷ getD s (a + 3) 0 ∷ getD s (a + 4) 0 ∷ getD s (a + 5) 0 ∷ getD s (a + 6) 0 ∷ getD s (a + 7) 0 ∷ []
+    ≡ part a 8 s
+unfolding part
+eight-read s a h =
+    let here : a + 0 ≡ a = omega arith in
+    let e0 : getD (drop a s) 0 0 ≡ getD s a 0 = getD-drop a s 0 0 ∙ ap (λ (k : ℕ). getD s k 0) here in
+    let e1 : getD (drop a s) 1 0 ≡ getD s (a + 1) 0 = getD-drop a s 1 0 in
+    let e2 : getD (drop a s) 2 0 ≡ getD s (a + 2) 0 = getD-drop a s 2 0 in
+    let e3 : getD (drop a s) 3 0 ≡ getD s (a + 3) 0 = getD-drop a s 3 0 in
+    let e4 : getD (drop a s) 4 0 ≡ getD s (a + 4) 0 = getD-drop a s 4 0 in
+    let e5 : getD (drop a s) 5 0 ≡ getD s (a + 5) 0 = getD-drop a s 5 0 in
+    let e6 : getD (drop a s) 6 0 ≡ getD s (a + 6) 0 = getD-drop a s 6 0 in
+    let e7 : getD (drop a s) 7 0 ≡ getD s (a + 7) 0 = getD-drop a s 7 0 in
+    let all = first-eight (drop a s) (simp length-drop (omega arith)) in
+    cc
+
+-- two of eight, which may meet, are all of it
+pub put-ends : (o s : List ℕ) (at : ℕ) (x y p q : List ℕ) → Short (length s) → at + length s ≤ length o → x ≡ part 0 8 s → y ≡ part (length s - 8) 8 s
+    → p ≡ putAt o at x → q ≡ putAt p (at + (length s - 8)) y → q ≡ putAt o at s
+unfolding part
+put-ends o s at x y p q w h i j e f =
+    let m : ℕ = length s - 8 in
+    let front : List ℕ = take m s in
+    let middle : List ℕ = take (8 - m) (drop m s) in
+    let least : 8 ≤ length s = w .least in
+    let most : length s ≤ 16 = w .most in
+    let wide : length front ≡ m = length-take-le m s (omega arith) in
+    let rest : length (drop m s) ≡ 8 = simp length-drop (omega arith) in
+    let short : length middle ≤ length (drop m s) = simp length-take (omega arith) in
+    let split : take 8 s ≡ front ++ middle
+    = sym (take-append-drop m (take 8 s)) ∙ ap₂ _++_ (take-take m 8 s (omega arith)) (drop-take m 8 s) in
+    let last : take 8 (drop m s) ≡ drop m s = take-all 8 (drop m s) (omega arith) in
+    let place : at + m ≡ at + length front = omega arith in
+    let size : length (putAt o at front) ≡ length o = length-put o at front (omega arith) in
+    let first : p ≡ putAt (putAt o at front) (at + length front) middle
+    = e ∙ ap (putAt o at) (i ∙ split) ∙ sym (put-put o at front middle (omega arith)) in
+    f
+    ∙ ap₂ (λ (l : List ℕ) (k : ℕ). putAt l k y) first place
+    ∙ ap (putAt (putAt (putAt o at front) (at + length front) middle) (at + length front)) (j ∙ last)
+    ∙ put-again (putAt o at front) (at + length front) middle (drop m s) short (omega arith)
+    ∙ put-put o at front (drop m s) (omega arith)
+    ∙ ap (putAt o at) (take-append-drop m s)
+
+pub ends-behind : (n : ℕ) → Short n → n - 8 + 8 ≤ n
+ends-behind n w = omega (arith, w .least)
+
+pub ends-room : (o s : List ℕ) (at : ℕ) → Short (length s) → at + length s ≤ length o → at + 8 ≤ length o
+ends-room o s at w h = omega (arith, w .least)
+
+pub ends-last : (o s : List ℕ) (at : ℕ) → Short (length s) → at + length s ≤ length o → at + (length s - 8) + 8 ≤ length o
+ends-last o s at w h = omega (arith, w .least)
+
+pub is-short : (s : List ℕ) → 8 ≤ length s → length s ≤ 16 → Short (length s)
+is-short s h k = record { least = h; most = k }
+
+pub ruleset ends = (eight-read, put-ends, ends-behind, ends-room, ends-last, is-short, needs)
+
+-- ---- a write that has room, or is not made
+
+pub put-past : (o : List ℕ) (a : ℕ) (bs : List ℕ) → length o < a → o ≡ putIn o a bs
+unfolding putIn
+put-past o a bs h = sym (if-false _ _ _ (lt-leb (a + length bs) (length o) (omega arith)))
+
+pub put-over : (o : List ℕ) (a : ℕ) (bs : List ℕ) → a ≤ length o → length o - a < length bs → o ≡ putIn o a bs
+unfolding putIn
+put-over o a bs h k = sym (if-false _ _ _ (lt-leb (a + length bs) (length o) (omega arith)))
+
+pub put-right : (o : List ℕ) (a : ℕ) (bs p : List ℕ) → a ≤ length o → length bs ≤ length o - a → p ≡ putAt o a bs → p ≡ putIn o a bs
+unfolding putIn
+put-right o a bs p h k e = e ∙ sym (if-true _ _ _ (le-leb (a + length bs) (length o) (omega arith)))
+
+pub room-left : (o : List ℕ) (a : ℕ) (bs : List ℕ) → a ≤ length o → length bs ≤ length o - a → a + length bs ≤ length o
+room-left o a bs h k = omega arith
+
+-- where it is known to have room
+pub put-in : (o : List ℕ) (a : ℕ) (bs : List ℕ) → a + length bs ≤ length o → putIn o a bs ≡ putAt o a bs
+unfolding putIn
+put-in o a bs h = if-true _ _ _ (le-leb (a + length bs) (length o) h)
+
+pub ruleset roomy = (put-past, put-over, put-right, room-left, needs)
+
+-- ---- writes one behind the other
 
 -- two writes, the second right behind the first, are one
 pub wrote-wrote : {most : ℕ} (o : List ℕ) (a : ℕ) (xs p : List ℕ) (r : ℕ) (ys q : List ℕ) (s : ℕ) → Wrote most o a xs p r → Wrote most p r ys q s → Wrote most o a (xs ++ ys) q s

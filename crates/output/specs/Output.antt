@@ -5,10 +5,11 @@ use mathlib.Core.Path.{_≡_}
 use mathlib.Core.List.{List, _++_}
 use Prim.Native.Nat.{ℕ, _+_, _≤_, _<_, min}
 use lib.Dec.{leb}
-use lib.ListN.{length, drop}
+use lib.ListN.{length, take, drop}
 use Rattle.base.specs.If.{ifB}
 use Rattle.base.specs.Part.{putAt}
 use Rattle.base.specs.Answer.{verdict}
+use Rattle.base.specs.declared.Verdict.{Verdict}
 use Rattle.output.specs.declared.Written.{Written as Answer}
 
 -- buffer o with bs written at place a became p, and r is the place behind, or `most`
@@ -16,6 +17,15 @@ pub record Wrote (most : ℕ) (o : List ℕ) (a : ℕ) (bs p : List ℕ) (r : �
   pub kept : length p ≡ length o
   pub place : r ≡ min (a + length bs) most
   pub done : r < most → r ≤ length o → p ≡ putAt o a bs
+
+-- buffer o with bs at place a, if all of it has room there
+unfoldable pub putIn : List ℕ → ℕ → List ℕ → List ℕ
+putIn o a bs = ifB (leb (a + length bs) (length o)) (putAt o a bs) o
+
+-- 8 to 16 bytes
+pub record Short (n : ℕ) : Type 0 where
+  pub least : 8 ≤ n
+  pub most : n ≤ 16
 
 -- what writing gives: the number, the length of what was written (0 with a refusal), and what the lent buffer then holds
 pub record Written : Type 0 where
@@ -30,6 +40,25 @@ refused n out = record { number = n; len = 0; out = out }
 abbrev pub fitted : List ℕ → List ℕ → Written
 fitted s out = ifB (leb (length s) (length out)) (record { number = 0; len = length s; out = s ++ drop (length s) out }) (refused 10 out)
 
+-- ---- where a refusal may have a place: in the image that is rewritten, in the tape that is converted
+
+-- the answer, the length of what was written (0 with a refusal), and what the lent buffer then holds
+pub record Result : Type 0 where
+  pub verdict : Verdict
+  pub len : ℕ
+  pub out : List ℕ
+
+unfoldable pub refusedWith : Verdict → List ℕ → Result
+refusedWith v out = record { verdict = v; len = 0; out = out }
+
+-- what writing gives has place 0
+unfoldable pub placed : Written → Result
+placed w = record { verdict = verdict (w .number) 0 0; len = w .len; out = w .out }
+
+-- the image that was written
+unfoldable pub imageIn : Result → List ℕ
+imageIn r = take (r .len) (r .out)
+
 -- ---- the answer of the code
 
 -- a refusal, and so many bytes written
@@ -42,5 +71,10 @@ writtenOf n = record { verdict = verdict 0 0 0; len = n }
 -- what the code answers, and the buffer behind it, are what writing gives
 pub record Answers (w : Written) (r : Answer) (p : List ℕ) : Type 0 where
   pub said : r .verdict ≡ verdict (w .number) 0 0
+  pub len : r .len ≡ w .len
+  pub out : p ≡ w .out
+
+pub record AnswersAt (w : Result) (r : Answer) (p : List ℕ) : Type 0 where
+  pub said : r .verdict ≡ w .verdict
   pub len : r .len ≡ w .len
   pub out : p ≡ w .out

@@ -2,9 +2,9 @@
 ghost use mathlib.Core.Path.{_≡_};
 ghost use Prim.Native.Nat.{_+_, _≤_, min};
 ghost use lib.ListN.{length};
-ghost use Rattle.base.specs.Part.{putAt};
+ghost use Rattle.base.specs.Part.{part, putAt};
 ghost use Rattle.base.specs.Digits.{digits};
-ghost use Rattle.output.specs.Output.{Wrote, refusalOf, writtenOf};
+ghost use Rattle.output.specs.Output.{Wrote, Short, putIn, refusalOf, writtenOf};
 use base::Verdict;
 
 // What writing answers: the number given back, with its place, and the length of what was written, 0 with a refusal.
@@ -80,6 +80,64 @@ pub fn put_bytes(out: &mut [u8], at: usize, s: &[u8], most: usize) -> usize
     }
     copy_to(out, at, s);
     end
+}
+
+// Eight bytes of s from a place on; the compiler takes them as one word.
+fn eight_of(s: &[u8], from: usize) -> [u8; 8]
+    requires { ⌜ from + 8 ≤ length (now s) ⌝ }
+    ensures { λ r. ⌜ r ≡ part from 8 (now (s .entry)) ⌝ }
+{
+    [
+        s[from],
+        s[from + 1],
+        s[from + 2],
+        s[from + 3],
+        s[from + 4],
+        s[from + 5],
+        s[from + 6],
+        s[from + 7],
+    ]
+}
+
+// Writes 8 to 16 bytes at a place where they have room: the first eight and the last eight, which may meet.
+fn copy_ends(out: &mut [u8], at: usize, s: &[u8])
+    requires { ⌜ Short (length (now s)) ⌝ }
+    requires { ⌜ at + length (now s) ≤ length (now out) ⌝ }
+    ensures { λ _. ⌜ now (out .exit) ≡ putAt (now (out .entry)) at (now (s .entry)) ⌝ }
+{
+    let behind = s.len() - 8;
+    let first = eight_of(s, 0);
+    let last = eight_of(s, behind);
+    copy_to(out, at, &first);
+    copy_to(out, at + behind, &last);
+}
+
+// Writes s at a place where it has room. Blocks of a dozen bytes come by the million, and a loop over so few takes longer than two words.
+fn copy(out: &mut [u8], at: usize, s: &[u8])
+    requires { ⌜ at + length (now s) ≤ length (now out) ⌝ }
+    ensures { λ _. ⌜ now (out .exit) ≡ putAt (now (out .entry)) at (now (s .entry)) ⌝ }
+{
+    if s.len() < 8 {
+        copy_to(out, at, s);
+        return;
+    }
+    if s.len() <= 16 {
+        copy_ends(out, at, s);
+        return;
+    }
+    copy_to(out, at, s);
+}
+
+// Writes s at a place if all of it has room there.
+pub fn put_in(out: &mut [u8], at: usize, s: &[u8])
+    ensures { λ _. ⌜ now (out .exit) ≡ putIn (now (out .entry)) at (now (s .entry)) ⌝ }
+{
+    if out.len() < at {
+        return;
+    }
+    if s.len() <= out.len() - at {
+        copy(out, at, s);
+    }
 }
 
 // The last four digits of a number. They are found in 32 bits, one from the other, since a control word is written for each of millions of records.

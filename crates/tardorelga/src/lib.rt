@@ -2,7 +2,7 @@
 ghost use mathlib.Core.Path.{_≡_};
 ghost use lib.ListN.{length};
 ghost use Rattle.base.specs.Answer.{verdict};
-ghost use Rattle.output.specs.Output.{Answers, fitted};
+ghost use Rattle.output.specs.Output.{Answers, AnswersAt, fitted};
 ghost use Rattle.volume.specs.Run.{imageVerdict};
 ghost use Rattle.content.specs.File.{begunAt};
 ghost use Rattle.content.specs.Records.{recordsAt, factsOf};
@@ -11,7 +11,7 @@ ghost use Rattle.content.specs.Walk.{stepAt, joinAt};
 ghost use Rattle.listing.specs.Text.{textOf};
 ghost use Rattle.writer.specs.Write.{write};
 ghost use Rattle.writer.specs.Sets.{flat};
-ghost use Rattle.writer.specs.Rewrite.{rewrite, Rewrites};
+ghost use Rattle.writer.specs.Rewrite.{rewrite};
 ghost use Rattle.tardorelga.specs.Numbers.{recordOf, beginningOf, steppedOf};
 use base::Verdict;
 use content::Begun;
@@ -219,7 +219,7 @@ pub extern "C" fn tardorelga_rewrite(
     names: &[u8],
     out: &mut [u8],
 ) -> Written
-    ensures { λ r. ⌜ Rewrites (rewrite (now (image .entry)) quota (now (names .entry)) (now (out .entry))) r (now (out .exit)) ⌝ }
+    ensures { λ r. ⌜ AnswersAt (rewrite (now (image .entry)) quota (now (names .entry)) (now (out .entry))) r (now (out .exit)) ⌝ }
 {
     normal::rewrite(image, quota, names, out)
 }

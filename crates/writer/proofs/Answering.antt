@@ -17,12 +17,12 @@ use Rattle.volume.specs.Run.{imageVerdict}
 use Rattle.sheet.specs.Legal.{Sheet}
 use Rattle.sheet.specs.Flat.{Flat, sheetNumber, sheetOf, reelsNumber}
 use Rattle.output.specs.declared.Written.{Written as Answer}
-use Rattle.output.specs.Output.{Written, refusalOf, writtenOf, Answers}
 use Rattle.output.proofs.Writing.{answers-refused}
+use Rattle.output.specs.Output.{Written, Result, refusedWith, placed, refusalOf, writtenOf, Answers, AnswersAt}
 use Rattle.writer.specs.Lay.{Laid, laid, short, lay}
 use Rattle.writer.specs.Write.{stored, storedLaid, writeSheet, write}
 use Rattle.writer.specs.Output.{overLong}
-use Rattle.writer.specs.Rewrite.{Rewritten, refusedWith, placed, sheetFrom, rewrite, Rewrites}
+use Rattle.writer.specs.Rewrite.{sheetFrom, rewrite}
 use Rattle.writer.specs.Sets.{Sheeted}
 
 -- ---- a refusal, and an image written
@@ -129,29 +129,29 @@ module _ (s : List ℕ) (quota : ℕ) (names out : List ℕ) (v : Verdict) (e : 
   pub verdict-zero : v .number ≡ 0 → imageVerdict s .number ≡ 0
   verdict-zero z = ap (λ (w : Verdict). w .number) (sym e) ∙ z
 
-  pub rewrite-refused : (v .number ≡ 0 → ⊥) → Rewrites (rewrite s quota names out) (record { verdict = v; len = 0 }) out
+  pub rewrite-refused : (v .number ≡ 0 → ⊥) → AnswersAt (rewrite s quota names out) (record { verdict = v; len = 0 }) out
   unfolding rewrite refusedWith
   rewrite-refused d =
       let other : imageVerdict s .number ≡ 0 → ⊥ = λ z. d (ap (λ (w : Verdict). w .number) e ∙ z) in
-      subst (λ (w : Rewritten). Rewrites w (record { verdict = v; len = 0 }) out) (sym (if-false _ _ _ (ne-eqb _ 0 other)))
+      subst (λ (w : Result). AnswersAt w (record { verdict = v; len = 0 }) out) (sym (if-false _ _ _ (ne-eqb _ 0 other)))
       (record { said = e; len = refl; out = refl })
 
   module _ (z : v .number ≡ 0) (n : ℕ) (r : n ≡ reelsNumber quota names) where
     accepted : imageVerdict s .number ≡ 0
     accepted = verdict-zero z
 
-    pub rewrite-illegal : (a : Answer) → (n ≡ 0 → ⊥) → a ≡ refusalOf n → Rewrites (rewrite s quota names out) a out
+    pub rewrite-illegal : (a : Answer) → (n ≡ 0 → ⊥) → a ≡ refusalOf n → AnswersAt (rewrite s quota names out) a out
     unfolding rewrite refusedWith refusalOf
     rewrite-illegal a d h =
         let other : reelsNumber quota names ≡ 0 → ⊥ = λ y. d (r ∙ y) in
-        subst (λ (b : Answer). Rewrites (rewrite s quota names out) b out) (sym (h ∙ ap refusalOf r))
-        (subst (λ (w : Rewritten). Rewrites w (refusalOf (reelsNumber quota names)) out)
+        subst (λ (b : Answer). AnswersAt (rewrite s quota names out) b out) (sym (h ∙ ap refusalOf r))
+        (subst (λ (w : Result). AnswersAt w (refusalOf (reelsNumber quota names)) out)
         (sym (if-true _ _ _ (eq-eqb _ 0 accepted) ∙ if-false _ _ _ (ne-eqb _ 0 other))) (record { said = refl; len = refl; out = refl }))
 
-    pub rewrite-right : (a : Answer) (p : List ℕ) → n ≡ 0 → Answers (writeSheet (sheetFrom s quota names) out) a p → Rewrites (rewrite s quota names out) a p
+    pub rewrite-right : (a : Answer) (p : List ℕ) → n ≡ 0 → Answers (writeSheet (sheetFrom s quota names) out) a p → AnswersAt (rewrite s quota names out) a p
     unfolding rewrite placed
     rewrite-right a p y m =
-        subst (λ (w : Rewritten). Rewrites w a p) (sym (if-true _ _ _ (eq-eqb _ 0 accepted) ∙ if-true _ _ _ (eq-eqb _ 0 (sym r ∙ y))))
+        subst (λ (w : Result). AnswersAt w a p) (sym (if-true _ _ _ (eq-eqb _ 0 accepted) ∙ if-true _ _ _ (eq-eqb _ 0 (sym r ∙ y))))
         (record { said = m .said; len = m .len; out = m .out })
 
     pub reels-zero : n ≡ 0 → reelsNumber quota names ≡ 0

@@ -11,13 +11,13 @@ mod unit; // unit.rt: units and control words
 mod whole; // whole.rt: blocks of whole records
 
 ghost use mathlib.Core.Path.{_≡_};
+ghost use Rattle.output.specs.Output.{Answers, AnswersAt};
 ghost use Rattle.volume.specs.Run.{imageVerdict};
 ghost use Rattle.sheet.specs.Flat.{sheetNumber, sheetOf, reelsNumber};
 ghost use Rattle.content.specs.File.{firstFile};
 ghost use Rattle.content.specs.declared.NextFile.the-variants.{At};
 ghost use Rattle.writer.specs.Write.{writeSheet, write as writing};
-ghost use Rattle.writer.specs.Rewrite.{sheetFrom, rewrite as rewriting, Rewrites};
-ghost use Rattle.output.specs.Output.{Answers};
+ghost use Rattle.writer.specs.Rewrite.{sheetFrom, rewrite as rewriting};
 ghost use Rattle.writer.specs.Sets.{flat, originOf, sheetAt, Writable};
 use base::part_of;
 use content::FileAt;
@@ -200,7 +200,7 @@ fn rewrite_accepted(image: &[u8], quota: u64, names: &[u8], out: &mut [u8]) -> W
 // Rewrites an accepted image into a lent buffer with a quota and reel names: the image's own answer, then 9, 11, 12, 14 or 10 with place 0, all of
 // which change no byte of the buffer, or 0 and the length of the image written.
 pub fn rewrite(image: &[u8], quota: u64, names: &[u8], out: &mut [u8]) -> Written
-    ensures { λ r. ⌜ Rewrites (rewriting (now (image .entry)) quota (now (names .entry)) (now (out .entry))) r (now (out .exit)) ⌝ }
+    ensures { λ r. ⌜ AnswersAt (rewriting (now (image .entry)) quota (now (names .entry)) (now (out .entry))) r (now (out .exit)) ⌝ }
 {
     let verdict = check(image);
     if verdict.number != 0 {
