@@ -12,12 +12,13 @@ use borrow.Author.Tests.{eq-eqb, ne-eqb, eqb-true}
 use lib.Dec.{eqb}
 use lib.ListN.{length, take, drop, length-take, length-drop}
 use lib.Seq.{drop-length}
-use Rattle.base.specs.If.{ifB, if-true, if-false, if-case, and-first}
+use Rattle.base.specs.If.{ifB, if-true, if-false, and-first}
 use Rattle.base.specs.Part.{part}
 use Rattle.base.specs.Answer.{fault, verdict}
 use Rattle.image.specs.Item.{Item, block, mark, reelEnd, broken, decode, isItem, allItems}
 use Rattle.image.specs.Framing.{items}
 use Rattle.image.proofs.Frames.{framing-items}
+use Rattle.image.proofs.Coding.{all-first, all-rest}
 use Rattle.order.specs.Kind.{hdr, eof, eov, dataBlock, tapeMark, endOfReel, endOfImage, isKind}
 use Rattle.order.specs.Due.{dueAfter}
 use Rattle.order.specs.declared.Kind.{Kind}
@@ -59,14 +60,6 @@ use Rattle.content.proofs.Blocks.{Hands, block-hands, next-walks}
 use Rattle.content.proofs.Phases.{labels, second-behind, block-data, mark-data, label-labels, block-no-mark, record-some}
 
 -- ---- a whole image in order
-
-all-first : (x : Item) (xs : List Item) → allItems (x ∷ xs) ≡ true → isItem x ≡ true
-unfolding allItems
-all-first x xs = if-case (λ (b : Bool). b ≡ true → isItem x ≡ true) (isItem x) (allItems xs) false (λ e _. e) (λ _ q. absurd (false≢true q))
-
-all-rest : (x : Item) (xs : List Item) → allItems (x ∷ xs) ≡ true → allItems xs ≡ true
-unfolding allItems
-all-rest x xs = if-case (λ (b : Bool). b ≡ true → allItems xs ≡ true) (isItem x) (allItems xs) false (λ _ q. q) (λ _ q. absurd (false≢true q))
 
 -- every item of an accepted image is due where it stands
 in-order : (s : List ℕ) (xs : List Item) (t : State) (at : ℕ) → All MayEnd t xs → decode (drop at s) ≡ xs → allItems xs ≡ true → InOrder s (t .phase) at xs

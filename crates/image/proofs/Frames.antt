@@ -111,7 +111,7 @@ pub ruleset walks = (walked-none, walked-block, walked-mark, walked-reel-end, wa
 -- ---- what number 0 says: no item is broken
 
 -- an item as `decode` makes it: a block has a legal length
-Sound : Item → Type 0
+unfoldable pub Sound : Item → Type 0
 Sound (block bs) = isItem (block bs) ≡ true
 Sound mark = Unit {0}
 Sound reelEnd = Unit {0}
@@ -179,6 +179,9 @@ unfolding opens
 opens-right s =
     if-case (λ (b : Bool). b ≡ true → Opened s) (ltb mostImage (length s)) false (same (take 5 s) head) (λ _ q. absurd (false≢true q))
     (λ l q. record { small = ltb-false mostImage (length s) l; headed = same-true (take 5 s) head q })
+
+pub opens-small : (s : List ℕ) (b : Bool) → b ≡ opens s → b ≡ true → length s ≤ mostImage
+opens-small s b e h = opens-right s (sym e ∙ h) .small
 
 -- its framing is that of its items; that of any other is a refusal
 pub framing-opened : (s : List ℕ) → opens s ≡ true → framing s ≡ framedFrom 0 0 false (items s)

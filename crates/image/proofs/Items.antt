@@ -3,7 +3,7 @@
 use mathlib.Core.Path.{_≡_, refl, sym, ap, ap₂, _∙_, subst}
 use mathlib.Core.Bool.{true, false}
 use mathlib.Core.List.{List, [], _∷_}
-use Prim.Native.Nat.{ℕ, zero, suc, _+_, _*_, _-_, _^_, _≤_, _<_}
+use Prim.Native.Nat.{ℕ, _+_, _*_, _-_, _^_, _≤_, _<_}
 use mir.Syntax.{w64}
 use mir.Val.{Fits}
 use native.Mathlib.Omega.{arith}
@@ -17,7 +17,8 @@ use Rattle.base.specs.Part.{part}
 use Rattle.base.proofs.Parts.{part-drop}
 use Rattle.image.specs.declared.Shape.{Shape}
 use Rattle.image.specs.declared.Shape.the-variants.{Block, Mark, ReelEnd, Broken}
-use Rattle.image.specs.Item.{Item, block, mark, reelEnd, broken, mostBytes, reelEndWord, word, ledBy, shape, itemOf, behind, decodeF, decode}
+use Rattle.image.specs.Item.{Item, block, mark, reelEnd, broken, mostBytes, reelEndWord, word, ledBy, shape, itemOf, behind, itemIn, leftOf, decode}
+use Rattle.image.proofs.Coding.{Less, read-none, read-more, by-read}
 
 -- ---- the equations of `decode`
 
@@ -29,41 +30,20 @@ behind-less Mark x xs = simp length-drop (omega arith)
 behind-less ReelEnd x xs = simp length-drop (omega arith)
 behind-less Broken x xs = omega arith
 
--- any number that is large enough gives the same items
-enough : (f g : ℕ) (s : List ℕ) → length s ≤ f → length s ≤ g → decodeF f s ≡ decodeF g s
-unfolding decodeF
-enough zero zero s h k = refl
-enough zero (suc g) [] h k = refl
-enough zero (suc g) (x ∷ xs) h k = absurd (omega arith)
-enough (suc f) zero [] h k = refl
-enough (suc f) zero (x ∷ xs) h k = absurd (omega arith)
-enough (suc f) (suc g) [] h k = refl
-enough (suc f) (suc g) (x ∷ xs) h k =
-    let less : length (behind (shape (x ∷ xs)) (x ∷ xs)) ≤ length xs = behind-less (shape (x ∷ xs)) x xs in
-    ap (λ (l : List Item). itemOf (shape (x ∷ xs)) (x ∷ xs) ∷ l) (enough f g (behind (shape (x ∷ xs)) (x ∷ xs)) (omega arith) (omega arith))
+pub left-less : Less leftOf
+left-less x xs = behind-less (shape (x ∷ xs)) x xs
 
 pub decode-none : decode [] ≡ []
-unfolding decode decodeF
-decode-none = refl
+unfolding decode
+decode-none = read-none itemIn leftOf
 
 pub decode-more : (s : List ℕ) → 0 < length s → decode s ≡ itemOf (shape s) s ∷ decode (behind (shape s) s)
-unfolding decode decodeF
-decode-more [] h = absurd (omega arith)
-decode-more (x ∷ xs) h =
-    ap (λ (l : List Item). itemOf (shape (x ∷ xs)) (x ∷ xs) ∷ l)
-    (enough (length xs) (length (behind (shape (x ∷ xs)) (x ∷ xs))) (behind (shape (x ∷ xs)) (x ∷ xs)) (behind-less (shape (x ∷ xs)) x xs) (omega arith))
+unfolding decode
+decode-more s h = read-more itemIn leftOf left-less s h
 
-by-fuel : (P : List ℕ → Type 0) → P [] → ((s : List ℕ) → 0 < length s → P (behind (shape s) s) → P s) → (f : ℕ) (s : List ℕ) → length s ≤ f → P s
-by-fuel P none more zero [] h = none
-by-fuel P none more zero (x ∷ xs) h = absurd (omega arith)
-by-fuel P none more (suc f) [] h = none
-by-fuel P none more (suc f) (x ∷ xs) h =
-    let less : length (behind (shape (x ∷ xs)) (x ∷ xs)) ≤ length xs = behind-less (shape (x ∷ xs)) x xs in
-    more (x ∷ xs) (omega arith) (by-fuel P none more f (behind (shape (x ∷ xs)) (x ∷ xs)) (omega arith))
-
--- induction over the items: what holds of no bytes, and of some bytes where it holds of what is left behind their first item, holds of any
+-- induction over the items
 pub by-items : (P : List ℕ → Type 0) → P [] → ((s : List ℕ) → 0 < length s → P (behind (shape s) s) → P s) → (s : List ℕ) → P s
-by-items P none more s = by-fuel P none more (length s) s (omega arith)
+by-items = by-read itemIn leftOf left-less
 
 -- ---- what stands at a place
 

@@ -1,3 +1,4 @@
+pub mod Coding
 pub mod Items
 pub mod Frames
 pub mod RoundTrip

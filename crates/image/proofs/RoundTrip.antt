@@ -1,9 +1,9 @@
 -- The two round trips of the container: items that can stand in an image are read again from their bytes, and an image in which no item is
 -- broken is written again from its items. Assumes nothing.
 use mathlib.Core.Path.{_≡_, refl, sym, ap, ap₂, _∙_, subst}
-use mathlib.Core.Bool.{Bool, true, false, false≢true, _&&_}
-use mathlib.Core.List.{List, [], _∷_, _++_, append-assoc, append-nil}
-use Prim.Native.Nat.{ℕ, suc, _+_, _*_, _/_, _%_, _≤_, _<_}
+use mathlib.Core.Bool.{true, false, false≢true}
+use mathlib.Core.List.{List, [], _∷_, _++_, append-assoc}
+use Prim.Native.Nat.{ℕ, zero, suc, _+_, _*_, _/_, _%_, _≤_, _<_}
 use native.Mathlib.Omega.{arith}
 use mir.Syntax.{w8}
 use mir.Val.{Fits}
@@ -11,17 +11,18 @@ use borrow.Author.Tests.{ne-eqb, le-leb, le-ltb, leb-true}
 use lib.Dec.{leb}
 use lib.ListN.{length, take, drop, getD, length-append, take-append-drop}
 use lib.Seq.{drop-drop, getD-drop, take-append-seam, drop-append-seam}
-use Rattle.base.specs.If.{if-true, if-false, if-case, and-first, and-second}
+use Rattle.base.specs.If.{if-true, if-false, and-first, and-second}
 use Rattle.base.specs.Part.{part}
 use Rattle.base.proofs.Parts.{length-part}
 use Rattle.base.proofs.Bytes.{same-refl}
 use Rattle.image.specs.declared.Shape.{Shape}
 use Rattle.image.specs.declared.Shape.the-variants.{Block, Mark, ReelEnd, Broken}
-use Rattle.image.specs.Item.{Item, block, mark, reelEnd, broken, mostBytes, reelEndWord, word, ledBy, shape, itemOf, behind, decode, three, bytesOf, encode, isItem, allItems}
+use Rattle.image.specs.Item.{Item, block, mark, reelEnd, broken, mostBytes, reelEndWord, word, ledBy, shape, itemOf, behind, itemIn, leftOf, decode, three, bytesOf, encode, isItem, allItems}
 use Rattle.image.specs.Byte.{Bytes}
 use Rattle.image.specs.Framing.{mostImage, head, framedFrom, items, framing}
+use Rattle.image.proofs.Coding.{by-append, items-again, bytes-again}
 use Rattle.image.proofs.Frames.{framing-zero, framing-items}
-use Rattle.image.proofs.Items.{decode-none, decode-more, by-items, BlockAt, WordAt, block-at, mark-at, reel-end-at}
+use Rattle.image.proofs.Items.{left-less, decode-more, BlockAt, WordAt, block-at, mark-at, reel-end-at}
 
 -- ---- lists of bytes
 
@@ -32,25 +33,17 @@ bytes-given s f = λ i. f i .fits
 pub bytes-drop : (n : ℕ) (s : List ℕ) → Bytes s → Bytes (drop n s)
 bytes-drop n s b i = subst (λ (k : ℕ). k < 256) (sym (getD-drop n s i 0)) (b (n + i))
 
--- ---- all of some items can stand in an image
+pub bytes-take : (n : ℕ) (s : List ℕ) → Bytes s → Bytes (take n s)
+bytes-take zero s b i = omega arith
+bytes-take (suc n) [] b i = omega arith
+bytes-take (suc n) (x ∷ s) b zero = b zero
+bytes-take (suc n) (x ∷ s) b (suc i) = bytes-take n s (λ j. b (suc j)) i
 
-pub all-first : (x : Item) (xs : List Item) → allItems (x ∷ xs) ≡ true → isItem x ≡ true
-unfolding allItems
-all-first x xs h = if-case (λ (b : Bool). b ≡ true → isItem x ≡ true) (isItem x) (allItems xs) false (λ e _. e) (λ _ q. absurd (false≢true q)) h
-
-pub all-rest : (x : Item) (xs : List Item) → allItems (x ∷ xs) ≡ true → allItems xs ≡ true
-unfolding allItems
-all-rest x xs h = if-case (λ (b : Bool). b ≡ true → allItems xs ≡ true) (isItem x) (allItems xs) false (λ _ q. q) (λ _ q. absurd (false≢true q)) h
-
-pub all-append : (xs ys : List Item) → allItems xs ≡ true → allItems ys ≡ true → allItems (xs ++ ys) ≡ true
-unfolding allItems
-all-append [] ys h k = k
-all-append (x ∷ xs) ys h k = if-true _ _ _ (all-first x xs h) ∙ all-append xs ys (all-rest x xs h) k
+-- ---- items one behind the other
 
 pub encode-append : (xs ys : List Item) → encode (xs ++ ys) ≡ encode xs ++ encode ys
 unfolding encode
-encode-append [] ys = refl
-encode-append (x ∷ xs) ys = ap (λ (l : List ℕ). bytesOf x ++ l) (encode-append xs ys) ∙ sym (append-assoc (bytesOf x) (encode xs) (encode ys))
+encode-append = by-append bytesOf
 
 -- ---- items, their bytes, the items again
 
@@ -111,18 +104,9 @@ decode-item mark t h = mark-again t
 decode-item reelEnd t h = reel-end-again t
 decode-item broken t h = absurd (false≢true h)
 
--- items and what follows them, as a writer puts them one behind the other
-pub decode-encode-append : (xs : List Item) (t : List ℕ) → allItems xs ≡ true → decode (encode xs ++ t) ≡ xs ++ decode t
-unfolding encode
-decode-encode-append [] t h = refl
-decode-encode-append (x ∷ xs) t h =
-    ap decode (append-assoc (bytesOf x) (encode xs) t)
-    ∙ decode-item x (encode xs ++ t) (all-first x xs h)
-    ∙ ap (λ (l : List Item). x ∷ l) (decode-encode-append xs t (all-rest x xs h))
-
 pub decode-encode : (xs : List Item) → allItems xs ≡ true → decode (encode xs) ≡ xs
-decode-encode xs h =
-    ap decode (sym (append-nil (encode xs))) ∙ decode-encode-append xs [] h ∙ ap (λ (l : List Item). xs ++ l) decode-none ∙ append-nil xs
+unfolding decode encode
+decode-encode = items-again itemIn leftOf bytesOf decode-item
 
 -- ---- bytes, their items, the bytes again
 
@@ -171,14 +155,9 @@ bytes-behind ReelEnd s b = bytes-drop 3 s b
 bytes-behind Broken s b = λ i. omega arith
 
 pub encode-decode : (s : List ℕ) → Bytes s → allItems (decode s) ≡ true → encode (decode s) ≡ s
-unfolding encode
+unfolding decode encode
 encode-decode =
-    by-items (λ (s : List ℕ). Bytes s → allItems (decode s) ≡ true → encode (decode s) ≡ s) (λ _ _. ap encode decode-none)
-    (λ s h again b all.
-    let good : allItems (itemOf (shape s) s ∷ decode (behind (shape s) s)) ≡ true = ap allItems (sym (decode-more s h)) ∙ all in
-    ap encode (decode-more s h)
-    ∙ ap (λ (l : List ℕ). bytesOf (itemOf (shape s) s) ++ l) (again (bytes-behind (shape s) s b) (all-rest _ _ good))
-    ∙ item-again (shape s) s refl b (all-first _ _ good))
+    bytes-again itemIn leftOf left-less bytesOf (λ s b h. item-again (shape s) s refl b h) (λ s b. bytes-behind (shape s) s b)
 
 -- ---- whole images
 

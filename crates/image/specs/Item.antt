@@ -56,14 +56,24 @@ behind Mark s = drop 3 s
 behind ReelEnd s = drop 3 s
 behind Broken s = []
 
--- `decode` counts down a number that is large enough, the length
-unfoldable pub decodeF : ℕ → List ℕ → List Item
-decodeF zero s = []
-decodeF (suc f) [] = []
-decodeF (suc f) (x ∷ xs) = itemOf (shape (x ∷ xs)) (x ∷ xs) ∷ decodeF f (behind (shape (x ∷ xs)) (x ∷ xs))
+-- items one behind the other, in any container: which item stands at the head of some bytes, and what is left behind it; this counts down a number that
+-- is large enough, the length
+unfoldable pub decodeF : (List ℕ → Item) → (List ℕ → List ℕ) → ℕ → List ℕ → List Item
+decodeF item rest zero s = []
+decodeF item rest (suc f) [] = []
+decodeF item rest (suc f) (x ∷ xs) = item (x ∷ xs) ∷ decodeF item rest f (rest (x ∷ xs))
+
+abbrev pub decodeBy : (List ℕ → Item) → (List ℕ → List ℕ) → List ℕ → List Item
+decodeBy item rest s = decodeF item rest (length s) s
+
+abbrev pub itemIn : List ℕ → Item
+itemIn s = itemOf (shape s) s
+
+abbrev pub leftOf : List ℕ → List ℕ
+leftOf s = behind (shape s) s
 
 unfoldable pub decode : List ℕ → List Item
-decode s = decodeF (length s) s
+decode s = decodeBy itemIn leftOf s
 
 -- ---- bytes from items
 
@@ -77,9 +87,13 @@ bytesOf mark = three 0
 bytesOf reelEnd = three reelEndWord
 bytesOf broken = []
 
+-- the bytes of items one behind the other, in any container
+unfoldable pub encodeBy : (Item → List ℕ) → List Item → List ℕ
+encodeBy bytes [] = []
+encodeBy bytes (x ∷ xs) = bytes x ++ encodeBy bytes xs
+
 unfoldable pub encode : List Item → List ℕ
-encode [] = []
-encode (x ∷ xs) = bytesOf x ++ encode xs
+encode xs = encodeBy bytesOf xs
 
 -- an item that can stand in an image
 unfoldable pub isItem : Item → Bool

@@ -10,14 +10,14 @@ ghost use Rattle.image.specs.Item.{ledBy, shape};
 ghost use Rattle.image.specs.Framing.{mostImage, head, framedFrom, items, opens, framing};
 
 // The most bytes of a block, and the length word that ends a reel.
-const MOST_BYTES: usize = 99999;
+pub const MOST_BYTES: usize = 99999;
 
-const REEL_END_WORD: usize = 16777215;
+pub const REEL_END_WORD: usize = 16777215;
 
 // An image is at most so many bytes and has at most so many reels.
 const MOST_IMAGE: usize = 16777215;
 
-const MOST_REELS: usize = 16;
+pub const MOST_REELS: usize = 16;
 
 // What stands at a place of the image: a block and its length, a tape mark, the end of a reel, or a wrong length or an item cut short.
 pub enum Shape {
@@ -28,7 +28,7 @@ pub enum Shape {
 }
 
 // A byte as a number.
-fn wide(b: u8) -> usize
+pub fn wide(b: u8) -> usize
     ensures { λ r. ⌜ (r ≡ b) × (r < 256) ⌝ }
 {
     b as usize

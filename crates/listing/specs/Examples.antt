@@ -12,7 +12,7 @@ use Rattle.charset.specs.Class.{isA, classOf, allA}
 use Rattle.charset.specs.Date.{isCentury, isYearDay, isDate}
 use Rattle.charset.specs.Number.{numberIn}
 use Rattle.image.specs.Framing.{head, framedFrom, items, framing}
-use Rattle.image.specs.Item.{block, mark, reelEnd, word, ledBy, shape, itemOf, behind, decodeF, decode, three, bytesOf, encode}
+use Rattle.image.specs.Item.{block, mark, reelEnd, word, ledBy, shape, itemOf, behind, decodeF, decode, three, bytesOf, encodeBy, encode}
 use Rattle.order.specs.Due.{upToNine, dues, choose, dueAfter}
 use Rattle.order.specs.Kind.{isKind}
 use Rattle.label.specs.Field.{volumeOf, setOf, sectionOf, sequenceOf, countOf, formatOf, blockLengthOf, recordLengthOf, offsetOf, leastRecord, suits, suitsBoth, isLength, isRecordLength, isPositive, isFormat, hasRecordLength, good}
@@ -51,5 +51,5 @@ ledger count =
 
 pub ledger-texts : (textOf (ledger "000001") ≡ bytes "SEQ FILE              FMT RECORDS BYTES" ++ newline ++ bytes "0001 LEDGER            F 1 10" ++ newline)
     × (textOf (ledger "000002") ≡ bytes "refused 6 at item 6 byte 55" ++ newline)
-unfolding ledger ifB part same allAre isDigit allDigits value digits fault verdict orElse isA classOf allA isCentury isYearDay isDate numberIn framedFrom items framing word ledBy shape itemOf behind decodeF decode three bytesOf encode upToNine dues choose dueAfter isKind volumeOf setOf sectionOf sequenceOf countOf formatOf blockLengthOf recordLengthOf offsetOf leastRecord suits suitsBoth isLength isRecordLength isPositive isFormat hasRecordLength good firstBad goodAt agreeAt accessOf accessAt fieldFault labelFault required family numbered optional orNamed namedBy kindOf fieldsOf bytes onto cutOne cutF cut someUnits units outcome isTurn openAfter turnsFrom turned blockOutcome fixed measured variable segment unitOf lengthOf says valueOf lower crossed isAmong volumeFault newFilePlace laterPlace fileFault firstHeaderFault secondHeaderFault firstTrailerFault openFault fileEndFault secondTrailerFault outcomeIn blockFault contextFault itemFault onFirst joined fieldsFrom collect setFrom meaningOf handedOut content further next runs answerOf imageVerdict start isDue kindIn bytesIn namesAfter filesAfter goesOnAfter firstAfter secondAfter countAfter pendingAfter stateAfter segmentsOf segmentsIn eventsOf judged ordered step sum decimalF decimal heading named counted described line lines listingOf placed refusalLine textOf
+unfolding ledger ifB part same allAre isDigit allDigits value digits fault verdict orElse isA classOf allA isCentury isYearDay isDate numberIn framedFrom items framing word ledBy shape itemOf behind decodeF decode three bytesOf encodeBy encode upToNine dues choose dueAfter isKind volumeOf setOf sectionOf sequenceOf countOf formatOf blockLengthOf recordLengthOf offsetOf leastRecord suits suitsBoth isLength isRecordLength isPositive isFormat hasRecordLength good firstBad goodAt agreeAt accessOf accessAt fieldFault labelFault required family numbered optional orNamed namedBy kindOf fieldsOf bytes onto cutOne cutF cut someUnits units outcome isTurn openAfter turnsFrom turned blockOutcome fixed measured variable segment unitOf lengthOf says valueOf lower crossed isAmong volumeFault newFilePlace laterPlace fileFault firstHeaderFault secondHeaderFault firstTrailerFault openFault fileEndFault secondTrailerFault outcomeIn blockFault contextFault itemFault onFirst joined fieldsFrom collect setFrom meaningOf handedOut content further next runs answerOf imageVerdict start isDue kindIn bytesIn namesAfter filesAfter goesOnAfter firstAfter secondAfter countAfter pendingAfter stateAfter segmentsOf segmentsIn eventsOf judged ordered step sum decimalF decimal heading named counted described line lines listingOf placed refusalLine textOf
 ledger-texts = (refl, refl)

@@ -11,7 +11,7 @@ use Rattle.charset.specs.Class.{isA, classOf, allA}
 use Rattle.charset.specs.Date.{isCentury, isYearDay, isDate}
 use Rattle.charset.specs.Number.{numberIn}
 use Rattle.image.specs.Framing.{head, framedFrom, items, framing}
-use Rattle.image.specs.Item.{Item, block, mark, reelEnd, word, ledBy, shape, itemOf, behind, decodeF, decode, three, bytesOf, encode}
+use Rattle.image.specs.Item.{Item, block, mark, reelEnd, word, ledBy, shape, itemOf, behind, decodeF, decode, three, bytesOf, encodeBy, encode}
 use Rattle.order.specs.Due.{upToNine, dues, choose, dueAfter}
 use Rattle.order.specs.Kind.{isKind}
 use Rattle.label.specs.Field.{volumeOf, setOf, sectionOf, sequenceOf, countOf, formatOf, blockLengthOf, recordLengthOf, offsetOf, leastRecord, suits, suitsBoth, isLength, isRecordLength, isPositive, isFormat, hasRecordLength, good}
@@ -88,5 +88,5 @@ pub new-year :
     -- a trailer with section 0001's date below a header with another
     × (imageVerdict (imageOf (ledger " 86001 86365" " 85365 86365" " 85365 86365")) ≡ verdict 6 17 42)
     × (imageVerdict (imageOf (ledger " 85365 87001" " 85365 86365" " 85365 86365")) ≡ verdict 6 17 48)
-unfolding first reel ledger newYear oldYear imageOf ifB part same allAre isDigit allDigits value digits fault verdict orElse isA classOf allA isCentury isYearDay isDate numberIn framedFrom items framing word ledBy shape itemOf behind decodeF decode three bytesOf encode upToNine dues choose dueAfter isKind volumeOf setOf sectionOf sequenceOf countOf formatOf blockLengthOf recordLengthOf offsetOf leastRecord suits suitsBoth isLength isRecordLength isPositive isFormat hasRecordLength good firstBad goodAt agreeAt accessOf accessAt fieldFault labelFault required family numbered optional orNamed namedBy kindOf fieldsOf bytes onto cutOne cutF cut someUnits units outcome isTurn openAfter turnsFrom turned blockOutcome fixed measured variable segment unitOf lengthOf says valueOf lower crossed isAmong volumeFault newFilePlace laterPlace fileFault firstHeaderFault secondHeaderFault firstTrailerFault openFault fileEndFault secondTrailerFault outcomeIn blockFault contextFault itemFault onFirst joined fieldsFrom collect setFrom meaningOf handedOut content further next runs answerOf imageVerdict start isDue kindIn bytesIn namesAfter filesAfter goesOnAfter firstAfter secondAfter countAfter pendingAfter stateAfter segmentsOf segmentsIn eventsOf judged ordered step putAt isDated undated undatedIn undatedBehind undatedFrom fitted filled madeVolume madeFirst madeSecond formatFrom blockLengthFrom inPartsF inParts enters taken indicatorOf controlWord startOf unitIn fill after weights weight blocksF blocksLeft blocksOf put headers fileEnd volumeEnd rest layFiles layOn lay sheetFrom wordOf
+unfolding first reel ledger newYear oldYear imageOf ifB part same allAre isDigit allDigits value digits fault verdict orElse isA classOf allA isCentury isYearDay isDate numberIn framedFrom items framing word ledBy shape itemOf behind decodeF decode three bytesOf encodeBy encode upToNine dues choose dueAfter isKind volumeOf setOf sectionOf sequenceOf countOf formatOf blockLengthOf recordLengthOf offsetOf leastRecord suits suitsBoth isLength isRecordLength isPositive isFormat hasRecordLength good firstBad goodAt agreeAt accessOf accessAt fieldFault labelFault required family numbered optional orNamed namedBy kindOf fieldsOf bytes onto cutOne cutF cut someUnits units outcome isTurn openAfter turnsFrom turned blockOutcome fixed measured variable segment unitOf lengthOf says valueOf lower crossed isAmong volumeFault newFilePlace laterPlace fileFault firstHeaderFault secondHeaderFault firstTrailerFault openFault fileEndFault secondTrailerFault outcomeIn blockFault contextFault itemFault onFirst joined fieldsFrom collect setFrom meaningOf handedOut content further next runs answerOf imageVerdict start isDue kindIn bytesIn namesAfter filesAfter goesOnAfter firstAfter secondAfter countAfter pendingAfter stateAfter segmentsOf segmentsIn eventsOf judged ordered step putAt isDated undated undatedIn undatedBehind undatedFrom fitted filled madeVolume madeFirst madeSecond formatFrom blockLengthFrom inPartsF inParts enters taken indicatorOf controlWord startOf unitIn fill after weights weight blocksF blocksLeft blocksOf put headers fileEnd volumeEnd rest layFiles layOn lay sheetFrom wordOf
 new-year = (refl, refl, refl, refl, refl, refl, refl, refl)

@@ -12,7 +12,7 @@ use lib.Dec.{eqb}
 use lib.ListN.{length, take, drop, length-take}
 use lib.Seq.{drop-length}
 use Rattle.image.specs.Framing.{mostImage, head, opens, framing, items as allItems}
-use Rattle.image.proofs.Frames.{opens-right, framing-opened, framing-shut}
+use Rattle.image.proofs.Frames.{opens-right, framing-opened, framing-shut, opens-small}
 use Rattle.order.specs.declared.Phase.the-variants.{Data, Reel}
 use Rattle.base.specs.If.{ifB, if-true, if-false, if-case, so-true}
 use Rattle.base.specs.Part.{part}
@@ -364,9 +364,6 @@ opened-long s b e h =
     let five : length (take 5 s) ≡ 5 = ap length headed in
     omega (arith, length-take 5 s)
 
-pub opened-short : (s : List ℕ) (b : Bool) → b ≡ opens s → b ≡ true → length s ≤ mostImage
-opened-short s b e h = opens-right s (sym e ∙ h) .small
-
 pub verdict-shut : (s : List ℕ) (b : Bool) (f : Verdict) → b ≡ opens s → b ≡ false → f ≡ framing s → f ≡ imageVerdict s
 unfolding imageVerdict
 verdict-shut s b f e h q = q ∙ sym (if-false _ _ _ (ne-eqb (framing s .number) 0 (framing-shut s (sym e ∙ h))))
@@ -387,4 +384,4 @@ pub verdict-items : (s : List ℕ) (f r : Verdict) → f ≡ framing s → f .nu
 unfolding imageVerdict
 verdict-items s f r e z q = q ∙ sym (if-true _ _ _ (eq-eqb (framing s .number) 0 (ap (λ (v : Verdict). v .number) (sym e) ∙ z)))
 
-pub ruleset verdicts = (opened-long, opened-short, verdict-shut, verdict-none, verdict-framing, verdict-items, so-true, needs)
+pub ruleset verdicts = (opened-long, opens-small, verdict-shut, verdict-none, verdict-framing, verdict-items, so-true, needs)

@@ -12,7 +12,7 @@ use lib.ListN.{length, drop, length-append}
 use Rattle.base.specs.If.{ifB, if-true, if-false, so-true}
 use Rattle.base.specs.Part.{putAt}
 use Rattle.base.proofs.Parts.{put-none, put-before}
-use Rattle.image.specs.Item.{block, three, bytesOf, encode}
+use Rattle.image.specs.Item.{block, three, bytesOf, encodeBy, encode}
 use Rattle.writer.specs.declared.source.Cursor.{Cursor}
 use Rattle.writer.specs.declared.source.Moved.{Moved}
 use Rattle.writer.specs.declared.fill.Turn.{Turn}
@@ -316,7 +316,7 @@ unfolding three
 length-three n = refl
 
 one-block : (bs : List ℕ) → encode (block bs ∷ []) ≡ three (length bs) ++ bs
-unfolding encode bytesOf
+unfolding encode encodeBy bytesOf
 one-block bs = append-nil (three (length bs) ++ bs)
 
 module _ (f b : ℕ) (lengths bytes : List ℕ) (c : Cursor) (o : List ℕ) (at start : ℕ) (q : List ℕ) (m : Moved) (e : start ≡ min (at + 3) overLong)

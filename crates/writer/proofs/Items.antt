@@ -6,7 +6,7 @@ use native.Mathlib.Omega.{arith}
 use native.Mathlib.Numerals.{add-one}
 use borrow.Author.Needs.{needs}
 use lib.ListN.{length}
-use Rattle.image.specs.Item.{Item, block, mark, reelEnd, three, bytesOf, encode}
+use Rattle.image.specs.Item.{Item, block, mark, reelEnd, three, bytesOf, encodeBy, encode}
 use Rattle.image.proofs.RoundTrip.{encode-append}
 use Rattle.label.specs.Name.{HDR1, HDR2, EOV1, EOV2, EOF1, EOF2}
 use Rattle.label.specs.Made.{madeVolume, madeFirst, madeSecond}
@@ -20,15 +20,15 @@ wrote-items o a xs p r ys q s w v = wrote-same o a _ _ q s (sym (encode-append x
 
 pub wrote-block : (o : List ℕ) (a : ℕ) (bs p : List ℕ) (r : ℕ) (q : List ℕ) (s : ℕ) → Wrote o a (three (length bs)) p r → Wrote p r bs q s
     → Wrote o a (encode (block bs ∷ [])) q s
-unfolding encode bytesOf
+unfolding encode encodeBy bytesOf
 wrote-block o a bs p r q s w v = wrote-same o a _ _ q s (sym (append-nil (three (length bs) ++ bs))) (wrote-wrote o a _ p r _ q s w v)
 
 pub wrote-mark : (o : List ℕ) (a : ℕ) (p : List ℕ) (r : ℕ) → Wrote o a (three 0) p r → Wrote o a (encode (mark ∷ [])) p r
-unfolding encode bytesOf
+unfolding encode encodeBy bytesOf
 wrote-mark o a p r w = wrote-same o a _ _ p r (sym (append-nil (three 0))) w
 
 wrote-last : (o : List ℕ) (a : ℕ) (p : List ℕ) (r : ℕ) → Wrote o a (three 16777215) p r → Wrote o a (encode (reelEnd ∷ [])) p r
-unfolding encode bytesOf
+unfolding encode encodeBy bytesOf
 wrote-last o a p r w = wrote-same o a _ _ p r (sym (append-nil (three 16777215))) w
 
 pub wrote-end : (o : List ℕ) (a : ℕ) (p : List ℕ) (r : ℕ) (q : List ℕ) (s : ℕ) → Wrote o a (encode (mark ∷ [])) p r → Wrote p r (three 16777215) q s
