@@ -1,5 +1,6 @@
 pub mod Normal
 pub mod Examples
 pub mod NewYear
+pub mod Tapes
 pub mod Demands
 pub mod Requests

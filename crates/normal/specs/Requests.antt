@@ -2,11 +2,13 @@
 use mathlib.Core.Path.{_≡_, refl}
 use mathlib.Core.Bool.{false}
 use mathlib.Core.List.{List}
-use Prim.Native.Nat.{ℕ}
+use Prim.Native.Nat.{ℕ, _+_, _*_, _/_, _≤_}
 use lib.ListN.{length}
 use Rattle.base.specs.If.{ifB, if-false}
+use Rattle.base.specs.Answer.{verdict}
 use Rattle.base.proofs.Faults.{or-first}
-use Rattle.image.specs.Framing.{items}
+use Rattle.image.specs.Byte.{Bytes}
+use Rattle.image.specs.Framing.{mostImage, items, framing}
 use Rattle.order.specs.Kind.{hdr, eov, eof, isKind}
 use Rattle.order.specs.declared.Kind.{Kind}
 use Rattle.output.specs.Output.{imageIn}
@@ -16,8 +18,37 @@ use Rattle.volume.specs.Fault.{firstTrailerFault, openFault, fileEndFault, cont
 use Rattle.volume.specs.Dates.{undated, undatedFrom, SameDates}
 use Rattle.sheet.proofs.Dates.{header-same, trailer-dates, later-dates}
 use Rattle.writer.specs.Rewrite.{rewrite}
+use Rattle.simh.specs.Set.{tapeVerdict, imageOf, fromSimh, toSimh, tapeIn, lengthsIn}
+use Rattle.simh.proofs.Inverse.{ours-again, theirs-again, room-in, room-out}
 use Rattle.normal.specs.Normal.{Given, Enough}
 use Rattle.normal.specs.Demands.{equal-exactly}
+
+-- ---- P1
+
+-- "Our image to theirs and back must give our bytes again;" for every image that is converted, whatever `check` says of it, and whatever the lent buffers held before.
+-- `Bytes` holds of every slice of bytes. Ruled out: a converter that loses the block before a pad byte, or what stands behind two tape marks.
+pub our-bytes-again : (s out lens other : List ℕ) → Bytes s → toSimh s out lens .verdict .number ≡ 0 → length s ≤ length other
+    → (fromSimh (tapeIn (toSimh s out lens)) (lengthsIn (toSimh s out lens)) other .verdict ≡ verdict 0 0 0)
+    × (imageIn (fromSimh (tapeIn (toSimh s out lens)) (lengthsIn (toSimh s out lens)) other) ≡ s)
+our-bytes-again = ours-again
+
+-- "theirs to ours and back must give theirs": the bytes and the lengths. Ruled out: a reader that lets a gap or a wrong second length pass.
+pub their-bytes-again : (tape lengths out other list : List ℕ) → Bytes tape → fromSimh tape lengths out .verdict .number ≡ 0 → length tape ≤ length other
+    → length lengths ≤ length list
+    → (toSimh (imageIn (fromSimh tape lengths out)) other list .verdict ≡ verdict 0 0 0)
+    × (tapeIn (toSimh (imageIn (fromSimh tape lengths out)) other list) ≡ tape)
+    × (lengthsIn (toSimh (imageIn (fromSimh tape lengths out)) other list) ≡ lengths)
+their-bytes-again = theirs-again
+
+-- Buffers that are always long enough, so that number 10 need not be met: an image has at most 5 bytes more than its files, these at most 5 bytes for 2 of the image, and 16
+-- lengths are those of any set.
+pub import-room : (tape lengths out : List ℕ) → Bytes tape → tapeVerdict tape lengths .number ≡ 0 → length (imageOf tape lengths) ≤ mostImage
+    → 5 + length tape ≤ length out → fromSimh tape lengths out .verdict ≡ verdict 0 0 0
+import-room = room-in
+
+pub export-room : (s out lens : List ℕ) → Bytes s → framing s .number ≡ 0 → 5 * length s / 2 ≤ length out → 16 ≤ length lens
+    → toSimh s out lens .verdict ≡ verdict 0 0 0
+export-room = room-out
 
 -- ---- P2
 

@@ -3,6 +3,7 @@ ghost use mathlib.Core.Path.{_≡_};
 ghost use lib.ListN.{length};
 ghost use Rattle.base.specs.Answer.{verdict};
 ghost use Rattle.output.specs.Output.{Answers, AnswersAt, fitted};
+ghost use Rattle.simh.specs.Set.{fromSimh, toSimh, Converts};
 ghost use Rattle.volume.specs.Run.{imageVerdict};
 ghost use Rattle.content.specs.File.{begunAt};
 ghost use Rattle.content.specs.Records.{recordsAt, factsOf};
@@ -23,6 +24,7 @@ use content::begin;
 use content::file_facts;
 use content::record;
 use output::Written;
+use simh::Tapes;
 
 // Where a record is: with `joined` 0 that part of the image, with 1 the front of the joining buffer.
 #[repr(C)]
@@ -222,4 +224,20 @@ pub extern "C" fn tardorelga_rewrite(
     ensures { λ r. ⌜ AnswersAt (rewrite (now (image .entry)) quota (now (names .entry)) (now (out .entry))) r (now (out .exit)) ⌝ }
 {
     normal::rewrite(image, quota, names, out)
+}
+
+// Converts a set of SIMH files, one a reel, which stand end to end and have these lengths, into an image in a lent buffer.
+#[no_mangle]
+pub extern "C" fn tardorelga_from_simh(tape: &[u8], lengths: &[u64], out: &mut [u8]) -> Written
+    ensures { λ r. ⌜ AnswersAt (fromSimh (now (tape .entry)) (now (lengths .entry)) (now (out .entry))) r (now (out .exit)) ⌝ }
+{
+    simh::from_simh(tape, lengths, out)
+}
+
+// Converts an image with a good framing into SIMH files, one a reel, end to end in a lent buffer, and their lengths in a lent list.
+#[no_mangle]
+pub extern "C" fn tardorelga_to_simh(image: &[u8], out: &mut [u8], lengths: &mut [u64]) -> Tapes
+    ensures { λ r. ⌜ Converts (toSimh (now (image .entry)) (now (out .entry)) (now (lengths .entry))) r (now (out .exit)) (now (lengths .exit)) ⌝ }
+{
+    simh::to_simh(image, out, lengths)
 }

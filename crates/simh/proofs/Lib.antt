@@ -1,0 +1,13 @@
+pub mod Words
+pub mod Files
+pub mod Sizes
+pub mod Reels
+pub mod Scanning
+pub mod Measuring
+pub mod Storing
+pub mod Answering
+pub mod Lengths
+pub mod Sizing
+pub mod Laying
+pub mod RoundTrip
+pub mod Inverse

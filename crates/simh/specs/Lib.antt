@@ -1,0 +1,4 @@
+pub mod Tape
+pub mod Set
+pub mod Passes
+pub mod Examples
