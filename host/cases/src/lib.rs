@@ -1,5 +1,6 @@
 //! Sets whose answers are known from the papers, each with its reason: tables that every reader of
-//! document 01 is run on. The sets are made by hand, from the LEDGER set of document 01 ([`ledger`]).
+//! document 01 is run on. The sets are made by hand, from the LEDGER set of document 01 ([`ledger`]);
+//! so are the tape files ([`simh`]).
 
 pub mod blocks;
 pub mod container;
@@ -8,6 +9,7 @@ pub mod fields;
 pub mod ledger;
 pub mod order;
 pub mod rewriting;
+pub mod simh;
 pub mod tally;
 pub mod walks;
 pub mod writing;

@@ -1,14 +1,17 @@
-//! Makes sets and order sheets from a seed, whole and damaged, small for tests and large for benchmarks.
+//! Makes sets, order sheets and tape files from a seed, whole and damaged, small for tests and large for
+//! benchmarks.
 
 mod damage;
 mod dates;
 mod file;
 mod order;
+mod simh;
 mod whole;
 
 pub use damage::damaged;
 pub use dates::redate;
 pub use order::{illegal_order, large, large_order, legal_order, many_files, names, Large};
+pub use simh::{any_pieces, damaged_simh, whole_simh, Damage, Simh};
 pub use whole::{set_with_all_labels, whole, whole_pieces};
 
 use crate::label::Label;

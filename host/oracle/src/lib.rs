@@ -1,10 +1,10 @@
 //! A second, independent reading of the rules for labelled tape sets (ECMA-13, 4th edition, as cut
-//! down in document 01, with P2 of document 02): the oracle of differential tests and the yardstick of
-//! benchmarks.
+//! down in document 01, with P1 and P2 of document 02): the oracle of differential tests and the yardstick
+//! of benchmarks.
 //!
 //! The layers, from the bytes of an image upward: [`chars`], [`tape`], [`label`], [`order`],
-//! [`block`], [`set`], [`content`], [`walk`], [`records`], [`sheet`], [`writer`], [`listing`]; and
-//! [`generate`] for tests.
+//! [`block`], [`set`], [`content`], [`walk`], [`records`], [`sheet`], [`writer`], [`listing`]; [`simh`]
+//! beside them, on [`tape`] alone; and [`generate`] for tests.
 
 pub mod block;
 pub mod chars;
@@ -16,6 +16,7 @@ pub mod order;
 pub mod records;
 pub mod set;
 pub mod sheet;
+pub mod simh;
 pub mod tape;
 pub mod walk;
 pub mod writer;
@@ -28,6 +29,7 @@ pub use listing::{listing, listing_of_input};
 pub use records::Records;
 pub use set::check;
 pub use sheet::{Order, Sheet};
+pub use simh::{from_simh, to_simh, Tapes};
 pub use tape::framing;
 pub use walk::{begin, Begun, Walk};
 pub use writer::{rewrite, write, Written};

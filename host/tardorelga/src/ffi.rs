@@ -48,6 +48,14 @@ pub struct Written {
     pub len: u64,
 }
 
+#[repr(C)]
+#[derive(Clone, Copy, Debug, PartialEq, Eq)]
+pub struct Tapes {
+    pub verdict: Verdict,
+    pub len: u64,
+    pub files: u64,
+}
+
 extern "C" {
     pub fn tardorelga_check(image: *const u8, image_len: usize) -> Verdict;
     pub fn tardorelga_record(
@@ -99,4 +107,20 @@ extern "C" {
         out: *mut u8,
         out_len: usize,
     ) -> Written;
+    pub fn tardorelga_from_simh(
+        tape: *const u8,
+        tape_len: usize,
+        lengths: *const u64,
+        lengths_len: usize,
+        out: *mut u8,
+        out_len: usize,
+    ) -> Written;
+    pub fn tardorelga_to_simh(
+        image: *const u8,
+        image_len: usize,
+        out: *mut u8,
+        out_len: usize,
+        lengths: *mut u64,
+        lengths_len: usize,
+    ) -> Tapes;
 }

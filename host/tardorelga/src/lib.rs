@@ -1,5 +1,6 @@
 //! Labelled magnetic tape sets (ECMA-13, 4th edition, Label Standard Version 4): checked, read,
-//! written and put into normal form by a library whose answers are proved equal to their definition.
+//! written, put into normal form and into SIMH tape files and back, by a library whose answers are
+//! proved equal to their definition.
 //!
 //! ```
 //! let verdict = tardorelga::check(b"TGI\x00\x01\xFF\xFF\xFF");
@@ -20,11 +21,12 @@
 //! | 7 | a data block can't be cut into units, or is too long |
 //! | 8 | segments out of turn, a record of segments that is too long, or one that is never ended |
 //! | 9 | an image over 16,777,215 bytes, a 65th file, more than 16 reel names |
-//! | 10 | a lent buffer is too short |
+//! | 10 | a lent buffer or list is too short |
 //! | 11 | an illegal order sheet |
 //! | 12 | too few reel names |
 //! | 13 | no such file or record, or no further step of a walk |
 //! | 14 | the written image would pass 16,777,215 bytes |
+//! | 15 | a SIMH tape file that is torn, or lengths that don't add up |
 //!
 //! # Lent buffers
 //!
@@ -38,6 +40,7 @@ mod listing;
 mod records;
 mod rewrite;
 mod sheet;
+mod simh;
 mod verdict;
 
 pub use file::{file, File};
@@ -45,4 +48,5 @@ pub use listing::listing;
 pub use records::{begin, place, record, records, Facts, Place, Records, Walk};
 pub use rewrite::rewrite;
 pub use sheet::{write, Sheet};
+pub use simh::{from_simh, to_simh, Tapes};
 pub use verdict::{check, Verdict};

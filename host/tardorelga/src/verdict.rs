@@ -17,7 +17,9 @@ pub struct Verdict {
     /// 0, or why it is refused.
     pub number: u32,
     /// For 2 to 9 on an image: the number of the item at fault, from 0 over the whole image, tape
-    /// marks and ends of reels counted too. Else 0, and for an image that is too long.
+    /// marks and ends of reels counted too. For 15: the number that what is wrong or missing would have
+    /// in the image, or 4,294,967,295 where it would have a higher one. Else 0, and for an image that is too
+    /// long or lengths that don't add up.
     pub item: u32,
     /// For 4, 5 and 6: the byte position, from 1, at which the lowest wrong field begins. Else 0.
     pub byte: u32,

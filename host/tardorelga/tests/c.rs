@@ -45,6 +45,13 @@ const TOO_SHORT: &str = "listing 0 refused 10 at item 0 byte 0";
 const WRITTEN: &str =
     "written 0 refused 10 at item 0 byte 0\nwritten 448 accepted\nread back accepted\n";
 
+/// What is said of an image of so many bytes that makes one tape file of so many; `end` is its last item.
+fn converted(image: usize, tape: usize, end: u32) -> String {
+    let short = "tapes 0 0 refused 10 at item 0 byte 0";
+    let back = format!("back {image} same accepted\nback 0 refused 15 at item {end} byte 0");
+    format!("{short}\n{short}\ntapes {tape} 1 accepted\n{back}")
+}
+
 #[track_caller]
 fn says(program: &Path, image: &[u8], lines: &[&str], status: i32) {
     let lines: String = lines.iter().map(|line| format!("{line}\n")).collect();
@@ -52,16 +59,26 @@ fn says(program: &Path, image: &[u8], lines: &[&str], status: i32) {
 }
 
 fn says_what_is_due(program: &Path) {
+    says_of_ledger(program);
+    says_of_joined(program);
+    says_of_refused(program);
+}
+
+fn says_of_ledger(program: &Path) {
     let one = ["image 0123456789", "record 2 refused 13 at item 0 byte 0"];
+    let tape = converted(448, 478, 10);
     let ledger = [
         &["accepted"][..],
         &one,
         &one,
         &["image 0123456789", "step 13", "file LEDGER F holds 1 10"],
-        &[TOO_SHORT, HEADING, "0001 LEDGER            F 1 10", "rewritten 448 accepted"],
+        &[TOO_SHORT, HEADING, "0001 LEDGER            F 1 10", "rewritten 448 accepted", &tape],
     ]
     .concat();
     says(program, &image_of(&base()), &ledger, 0);
+}
+
+fn says_of_joined(program: &Path) {
     let joined = [
         "accepted",
         "record 1 refused 10 at item 0 byte 0",
@@ -78,19 +95,28 @@ fn says_what_is_due(program: &Path) {
         HEADING,
         "0001 LEDGER            S 2 3",
         "rewritten 451 accepted",
+        &converted(459, 496, 11),
     ];
     let blocks: [&[u8]; 2] = [b"10007AB", b"30006C00005"];
     says(program, &image_of(&set_of("S0002000010", "00", &blocks)), &joined, 0);
-    says_refusal(program, &image_of(&base_with(&[(6, 55, "000002")])), "6 at item 6 byte 55");
-    says_refusal(program, b"", "1 at item 0 byte 0");
+}
+
+fn says_of_refused(program: &Path) {
+    // A tape file needs good framing and no more.
+    let miscounted = image_of(&base_with(&[(6, 55, "000002")]));
+    says_refusal(program, &miscounted, "6 at item 6 byte 55", &converted(448, 478, 10));
+    let none = "tapes 0 0 refused 1 at item 0 byte 0\n".repeat(3);
+    let back = "back 0 same refused 2 at item 0 byte 0";
+    says_refusal(program, b"", "1 at item 0 byte 0", &(none + back));
 }
 
 #[track_caller]
-fn says_refusal(program: &Path, image: &[u8], what: &str) {
+fn says_refusal(program: &Path, image: &[u8], what: &str, tape: &str) {
     let refused = format!("refused {what}");
     let (record, walk) = (format!("record 1 {refused}"), format!("walk {refused}"));
     let rewritten = format!("rewritten 0 {refused}");
-    let lines = [&refused, &record, &record, &walk, "holds 0 0", TOO_SHORT, &refused, &rewritten];
+    let lines =
+        [&refused, &record, &record, &walk, "holds 0 0", TOO_SHORT, &refused, &rewritten, tape];
     says(program, image, &lines, 1);
 }
 

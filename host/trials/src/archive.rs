@@ -1,7 +1,7 @@
 //! The archive's answers in the oracle's words. Every number of an answer is looked at, those too that
 //! the safe library has no use for.
 
-use oracle::{Answer, Begun, Found, Sheet, Walk, Written};
+use oracle::{Answer, Begun, Found, Sheet, Tapes, Walk, Written};
 use tardorelga::{ffi, Verdict};
 
 pub fn check(image: &[u8]) -> Answer {
@@ -131,4 +131,33 @@ pub fn rewrite(image: &[u8], quota: u64, names: &[u8], out: &mut [u8]) -> Writte
             out.len(),
         )
     })
+}
+
+pub fn from_simh(tape: &[u8], lengths: &[u64], out: &mut [u8]) -> Written {
+    // SAFETY: slices, lent for the call.
+    in_words(unsafe {
+        ffi::tardorelga_from_simh(
+            tape.as_ptr(),
+            tape.len(),
+            lengths.as_ptr(),
+            lengths.len(),
+            out.as_mut_ptr(),
+            out.len(),
+        )
+    })
+}
+
+pub fn to_simh(image: &[u8], out: &mut [u8], lengths: &mut [u64]) -> Tapes {
+    // SAFETY: slices, lent for the call.
+    let ffi::Tapes { verdict, len, files } = unsafe {
+        ffi::tardorelga_to_simh(
+            image.as_ptr(),
+            image.len(),
+            out.as_mut_ptr(),
+            out.len(),
+            lengths.as_mut_ptr(),
+            lengths.len(),
+        )
+    };
+    Tapes { answer: answer(verdict), len: len as usize, files: files as usize }
 }

@@ -6,6 +6,7 @@ pub mod images;
 pub mod listing;
 pub mod records;
 pub mod rewriting;
+pub mod simh;
 pub mod states;
 pub mod twins;
 pub mod writing;

@@ -128,7 +128,8 @@ fn change_sums(rng: &mut Rng, order: &mut Order) {
     }
 }
 
-fn add(numbers: &mut [u64], at: usize, more: u64) {
+/// A number made greater, where there is one.
+pub fn add(numbers: &mut [u64], at: usize, more: u64) {
     if let Some(number) = numbers.get_mut(at) {
         *number = number.wrapping_add(more);
     }

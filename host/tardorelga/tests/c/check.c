@@ -1,11 +1,14 @@
 /* Says of the image on standard input what each function of the library answers. */
 #include <inttypes.h>
 #include <stdio.h>
+#include <string.h>
 
 #include "tardorelga.h"
 
 static uint8_t image[8192];
 static uint8_t buffer[8192];
+static uint8_t again[8192];
+static uint64_t lengths[16];
 
 static void say_verdict(tardorelga_verdict verdict)
 {
@@ -88,6 +91,32 @@ static void say_rewritten(size_t image_len)
     say_verdict(written.verdict);
 }
 
+/* The image as SIMH tape files, in so many bytes and so many lengths. */
+static tardorelga_tapes say_tapes(size_t image_len, size_t out_len, size_t lengths_len)
+{
+    tardorelga_tapes tapes =
+        tardorelga_to_simh(image, image_len, buffer, out_len, lengths, lengths_len);
+    printf("tapes %" PRIu64 " %" PRIu64 " ", tapes.len, tapes.files);
+    say_verdict(tapes.verdict);
+    return tapes;
+}
+
+/* The tape files as an image again: these, and these but for the last byte. */
+static void say_back(size_t image_len, tardorelga_tapes tapes)
+{
+    tardorelga_written back =
+        tardorelga_from_simh(buffer, tapes.len, lengths, tapes.files, again, sizeof again);
+    int same = back.len == image_len && memcmp(again, image, image_len) == 0;
+    printf("back %" PRIu64 " %s ", back.len, same ? "same" : "other");
+    say_verdict(back.verdict);
+    if (tapes.files == 0)
+        return;
+    lengths[tapes.files - 1]--;
+    back = tardorelga_from_simh(buffer, tapes.len - 1, lengths, tapes.files, again, sizeof again);
+    printf("back %" PRIu64 " ", back.len);
+    say_verdict(back.verdict);
+}
+
 /* The set of one file and one record, written into a buffer of so many bytes. */
 static void say_written(size_t out_len)
 {
@@ -116,6 +145,9 @@ int main(void)
     say_file(image_len);
     say_listing(image_len);
     say_rewritten(image_len);
+    say_tapes(image_len, 9, 16);
+    say_tapes(image_len, sizeof buffer, 0);
+    say_back(image_len, say_tapes(image_len, sizeof buffer, 16));
     say_written(447);
     say_written(448);
     return verdict.number != 0;

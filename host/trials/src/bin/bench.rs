@@ -1,9 +1,9 @@
 //! `bench`: the times of the archive against the oracle's and a copy of the same bytes, as tables for
 //! docs/PERFORMANCE.md. `bench WHAT..` makes only the tables named: check, labels, linear, walk, write,
-//! rewrite, list.
+//! rewrite, list, simh.
 
 use oracle::generate::{image_of, large, large_order, many_files, set_with_all_labels, Large, Rng};
-use oracle::tape::Tape;
+use oracle::tape::{Tape, END_OF_REEL, HEAD};
 use oracle::{Answer, Found, Records};
 use std::hint::black_box;
 use std::time::Instant;
@@ -16,7 +16,7 @@ const SIZES: [usize; 3] = [1_000_000, 4_000_000, 16_000_000];
 
 type Table = (&'static str, fn());
 
-const TABLES: [Table; 7] = [
+const TABLES: [Table; 8] = [
     ("check", checking),
     ("labels", labels),
     ("linear", linear),
@@ -24,6 +24,7 @@ const TABLES: [Table; 7] = [
     ("write", writing),
     ("rewrite", rewriting),
     ("list", listing),
+    ("simh", converting),
 ];
 
 fn main() {
@@ -289,6 +290,69 @@ fn listing() {
         ]);
         row(name(kind), records, image.len(), times);
     }
+}
+
+/// Lengths of blocks: long ones, even and odd, and short ones.
+const BLOCKS: [usize; 5] = [32_760, 32_761, 4_096, 10, 1];
+
+/// Tape files of the SIMH magtape form into an image, and an image into tape files.
+fn converting() {
+    println!(
+        "| SIMH | blocks of | bytes | archive ms | oracle ms | ratio | copy ms | ratio to copy |"
+    );
+    println!("|---|--:|--:|--:|--:|--:|--:|--:|");
+    for length in BLOCKS {
+        let image = image_of_blocks(length);
+        let (mut tape, mut lengths) = (vec![0; image.len() * 5 / 2], [0]);
+        let tapes = oracle::to_simh(&image, &mut tape, &mut lengths);
+        tape.truncate(tapes.len);
+        from_simh_row(length, &tape, &lengths, &image);
+        to_simh_row(length, &image, &tape);
+    }
+}
+
+/// An image of one reel, nearly all blocks of this length.
+fn image_of_blocks(length: usize) -> Vec<u8> {
+    let block = [&(length as u32).to_be_bytes()[1..], &vec![b'B'; length]].concat();
+    [&HEAD[..], &block.repeat(SIZE / block.len()), &END_OF_REEL].concat()
+}
+
+fn from_simh_row(length: usize, tape: &[u8], lengths: &[u64], image: &[u8]) {
+    let mut outs = [(); 3].map(|()| vec![0; image.len()]);
+    let [one, other, copied] = &mut outs;
+    let written = archive::from_simh(tape, lengths, one);
+    assert_eq!(written, oracle::from_simh(tape, lengths, other));
+    assert!(one == image && other == image, "both write the image");
+    let times = Times::of([
+        &mut || _ = black_box(archive::from_simh(black_box(tape), lengths, one)),
+        &mut || _ = black_box(oracle::from_simh(black_box(tape), lengths, other)),
+        &mut || copied.copy_from_slice(black_box(image)),
+    ]);
+    simh_row("into an image", length, image.len(), times);
+}
+
+fn to_simh_row(length: usize, image: &[u8], tape: &[u8]) {
+    let mut outs = [(); 3].map(|()| vec![0; tape.len()]);
+    let ([one, other, copied], lengths) = (&mut outs, &mut [0]);
+    let tapes = archive::to_simh(image, one, lengths);
+    assert_eq!(tapes, oracle::to_simh(image, other, lengths));
+    assert!(one == tape && other == tape, "both write the tape file");
+    let mut list = *lengths;
+    let times = Times::of([
+        &mut || _ = black_box(archive::to_simh(black_box(image), one, lengths)),
+        &mut || _ = black_box(oracle::to_simh(black_box(image), other, &mut list)),
+        &mut || copied.copy_from_slice(black_box(tape)),
+    ]);
+    simh_row("into a tape file", length, tape.len(), times);
+}
+
+/// The bytes are those written, and copied.
+fn simh_row(what: &str, length: usize, bytes: usize, times: Times<3>) {
+    let [archive, oracle, copy] = [0, 1, 2].map(|run| times.best(run));
+    let (ratio, to_copy) = (times.ratio(1), times.ratio(2));
+    println!(
+        "| {what} | {length} | {bytes} | {archive:.2} | {oracle:.2} | {ratio:.2} | {copy:.2} | {to_copy:.2} |"
+    );
 }
 
 /// EOF1, EOF2, two marks and the end of reel stand last, each behind its length.
