@@ -1,6 +1,6 @@
 /*
- * Labelled magnetic tape sets (ECMA-13, 4th edition, Label Standard Version 4): checked, read, written
- * and put into normal form. Link with libtardorelga.a.
+ * Labelled magnetic tape sets (ECMA-13, 4th edition, Label Standard Version 4): checked, read, written,
+ * put into normal form, and taken from SIMH tape files and back. Link with libtardorelga.a.
  *
  * The functions keep no state and allocate nothing, so that any number of threads may call them at once.
  * Each answers for any bytes and any numbers whatever.
@@ -11,8 +11,9 @@
  *   no alignment; numbers of 64 bits have their own. Through a pointer to const the library only reads,
  *   and nobody may write to such a buffer until the call is back. A buffer to write to may not overlap
  *   any other buffer of the call, and nobody else may use it until the call is back.
- *   With a refusal every byte of every lent buffer is as it was, and places and lengths are 0. Else only
- *   the bytes of the answer change, at the front of the buffer; the bytes behind them stay.
+ *   With a refusal every byte and every number of every lent buffer is as it was, and places, lengths and
+ *   counts are 0. Else only those of the answer change, at the front of the buffer; what is behind them
+ *   stays.
  *
  * Numbers given back
  *    0  done
@@ -25,11 +26,14 @@
  *    7  a data block can't be cut into units, or is too long
  *    8  segments out of turn, a record of segments that is too long, or one that is never ended
  *    9  an image over 16,777,215 bytes, a 65th file, more than 16 reel names
- *   10  a lent buffer is too short
+ *   10  a lent buffer or list is too short
  *   11  an illegal order sheet
  *   12  too few reel names
  *   13  no such file or record, or no further step of a walk
  *   14  the written image would pass 16,777,215 bytes
+ *   15  a torn SIMH tape file: a word or block cut short, a length that is none of a good record, unequal
+ *       lengths of a record, a pad byte that is not 0, no end of the medium or bytes behind it; or lengths
+ *       that don't add up
  */
 #ifndef TARDORELGA_H
 #define TARDORELGA_H
@@ -45,7 +49,9 @@ extern "C" {
  * An answer: a number, and the place of the first fault of an image.
  *
  * item    for 2 to 9 the number of the item at fault, from 0 over the whole image, tape marks and ends of
- *         reels counted too; 0 for 0, 1 and 10 to 14, and for an image that is too long.
+ *         reels counted too; 0 for 0, 1 and 10 to 14, and for an image that is too long. For 15 the number
+ *         that the item would have in the image, or 4,294,967,295 for a higher one; 0 for lengths that
+ *         don't add up. For 2 on tape files 0.
  * byte    for 4, 5 and 6 the byte position, from 1, at which the lowest wrong field begins; else 0.
  */
 typedef struct tardorelga_verdict {
@@ -172,6 +178,36 @@ tardorelga_written tardorelga_write(const uint8_t *set, size_t set_len, const ui
 tardorelga_written tardorelga_rewrite(const uint8_t *image, size_t image_len, uint64_t quota,
                                       const uint8_t *names, size_t names_len, uint8_t *out,
                                       size_t out_len);
+
+/*
+ * Writes the image of SIMH tape files, one a reel: 15 over all files, then 2 for no file or a 17th, 14,
+ * then 10. An image is never longer than 5 + tape_len bytes. Nothing but the items is looked at:
+ * tardorelga_check says of the image whether the set is accepted.
+ *
+ * tape     the bytes of all files, end to end.
+ * lengths  the length of each file.
+ */
+tardorelga_written tardorelga_from_simh(const uint8_t *tape, size_t tape_len,
+                                        const uint64_t *lengths, size_t lengths_len, uint8_t *out,
+                                        size_t out_len);
+
+/*
+ * What was written: len bytes of tape files, end to end, at the front of the buffer, and at the front of
+ * the list the length of each of these files.
+ */
+typedef struct tardorelga_tapes {
+    tardorelga_verdict verdict;
+    uint64_t len;
+    uint64_t files;
+} tardorelga_tapes;
+
+/*
+ * Writes the reels of an image as SIMH tape files: 9, 1, 2, then 10 where the buffer or the list is too
+ * short. The files are never longer than image_len * 5 / 2 bytes, and 16 lengths are enough. Nothing but
+ * the items is looked at: what tardorelga_check refuses with 3 to 8, or for a 65th file, is converted.
+ */
+tardorelga_tapes tardorelga_to_simh(const uint8_t *image, size_t image_len, uint8_t *out,
+                                    size_t out_len, uint64_t *lengths, size_t lengths_len);
 
 #ifdef __cplusplus
 }
