@@ -21,6 +21,8 @@ and, for a set that differs from another one in one thing, after `like NAME`:
     without item 3                      one item less
     bytes 0: TGX                        this text in place of the image's own bytes from there on
     cut 3                               so many bytes less at the end of the image
+
+Of some sets, which the list SIMH below names, it makes the reels too, NAME-1.tap and so on: tape files of that emulator.
 """
 
 import pathlib
@@ -49,6 +51,8 @@ FIELDS.update({name + "1": FIRST for name in ("HDR", "EOV", "EOF")})
 FIELDS.update({name + "2": SECOND for name in ("HDR", "EOV", "EOF")})
 
 MARK, END = b"\x00\x00\x00", b"\xff\xff\xff"
+
+SIMH = ["messages"]
 
 
 class Tape:
@@ -130,6 +134,18 @@ class Tape:
                 image = put(image, int(at), text)
         return image
 
+    def reels(self):
+        """The items once more, as SIMH has them, a file for each reel."""
+        files = [b""]
+        for item in self.items:
+            if item == END:
+                files[-1] += b"\xff\xff\xff\xff"
+                files.append(b"")
+            else:
+                length, block = (len(item) - 3).to_bytes(4, "little"), item[3:]
+                files[-1] += (length + block + bytes(len(block) % 2) + length) if block else length
+        return files[:-1]
+
 
 def put(where, at, text):
     text = text.encode()
@@ -147,19 +163,24 @@ def lines_of(name):
     return [line for line in lines if line and not line.startswith("#")]
 
 
-def image_of(name):
+def files_of(name):
+    """The name and the bytes of each file that is made of a description."""
     tape = Tape()
     tape.lines(lines_of(name))
-    return tape.image()
+    yield f"{name}.tgi", tape.image()
+    if name in SIMH:
+        for number, reel in enumerate(tape.reels(), 1):
+            yield f"{name}-{number}.tap", reel
 
 
 def main():
     names = sorted(path.stem for path in HERE.glob("*.tape"))
+    files = {file: made for name in names for file, made in files_of(name)}
     if sys.argv[1:] == ["--check"]:
-        stale = [name for name in names if (HERE / f"{name}.tgi").read_bytes() != image_of(name)]
+        stale = [file for file, made in files.items() if (HERE / file).read_bytes() != made]
         sys.exit(f"not as described: {', '.join(stale)}" if stale else 0)
-    for name in names:
-        (HERE / f"{name}.tgi").write_bytes(image_of(name))
+    for file, made in files.items():
+        (HERE / file).write_bytes(made)
 
 
 if __name__ == "__main__":
