@@ -1,9 +1,9 @@
-//! `check FILE..`: a line a file.
+//! `check FILE..`: a line a file; `check --simh REEL..`: a line for the set.
 
 use crate::stop::{reason, say, Status, Stop};
 use crate::streams::Out;
 use crate::words::Words;
-use crate::{input, list};
+use crate::{input, list, reels};
 use std::ffi::{OsStr, OsString};
 use std::os::unix::ffi::OsStrExt;
 use tardorelga::Verdict;
@@ -12,11 +12,11 @@ use tardorelga::Verdict;
 pub fn run(words: &Words) -> Result<Status, Stop> {
     let mut out = Out::open()?;
     let mut worst = Status::Done;
-    for file in words.some("file")? {
-        let answer = answer_on(file);
+    for set in sets(words)? {
+        let answer = set.answer()?;
         out.put(&match words.has("--json") {
-            true => json_line(file, &answer),
-            false => line(file, &answer),
+            true => set.json_line(&answer),
+            false => set.line(&answer),
         })?;
         worst = worst.max(answer.status());
     }
@@ -24,7 +24,20 @@ pub fn run(words: &Words) -> Result<Status, Stop> {
     Ok(worst)
 }
 
-/// What is known of one file.
+/// A set by its names.
+enum Named<'a> {
+    Image(&'a OsStr),
+    Reels(&'a [OsString]),
+}
+
+fn sets(words: &Words) -> Result<Vec<Named<'_>>, Stop> {
+    Ok(match words.is_simh() {
+        true => vec![Named::Reels(words.some("reel")?)],
+        false => words.some("file")?.iter().map(|file| Named::Image(file)).collect(),
+    })
+}
+
+/// What is known of one set.
 enum Answer {
     Accepted(Counts),
     Refused(Verdict),
@@ -50,17 +63,33 @@ impl Answer {
 }
 
 /// A file that can't be read is told at once; the others are checked all the same.
-fn answer_on(file: &OsString) -> Answer {
+fn answer_on_file(file: &OsStr) -> Answer {
     match input::read(file) {
-        Ok(image) => match tardorelga::check(&image) {
-            verdict if verdict.is_accepted() => Answer::Accepted(counts(&image)),
-            verdict => Answer::Refused(verdict),
-        },
+        Ok(image) => answer_on(&image),
         Err(error) => {
             let why = reason(&error);
             say(&format!("{}: {why}", input::name(file)));
             Answer::Unread(why)
         }
+    }
+}
+
+/// What keeps reels from being an image is told at once, with the reel that it is.
+fn answer_on_reels(files: &[OsString]) -> Result<Answer, Stop> {
+    let (answer, sentence) = match reels::image(files) {
+        Ok(image) => return Ok(answer_on(&image)),
+        Err(Stop::Refused(verdict, sentence)) => (Answer::Refused(verdict), sentence),
+        Err(Stop::Trouble(sentence)) => (Answer::Unread(sentence.clone()), sentence),
+        Err(stop) => return Err(stop),
+    };
+    say(&sentence);
+    Ok(answer)
+}
+
+fn answer_on(image: &[u8]) -> Answer {
+    match tardorelga::check(image) {
+        verdict if verdict.is_accepted() => Answer::Accepted(counts(image)),
+        verdict => Answer::Refused(verdict),
     }
 }
 
@@ -80,34 +109,55 @@ fn counts(image: &[u8]) -> Counts {
     counts
 }
 
-fn line(file: &OsStr, answer: &Answer) -> Vec<u8> {
-    let rest = match answer {
-        Answer::Accepted(Counts { files, records, bytes }) => {
-            let [files, records, bytes] =
-                [many(*files, "file"), many(*records, "record"), many(*bytes, "byte")];
-            format!(": accepted, {files}, {records}, {bytes}\n")
+impl Named<'_> {
+    fn answer(&self) -> Result<Answer, Stop> {
+        match self {
+            Named::Image(file) => Ok(answer_on_file(file)),
+            Named::Reels(files) => answer_on_reels(files),
         }
-        Answer::Refused(verdict) => format!(": {verdict}\n"),
-        Answer::Unread(_) => return Vec::new(),
-    };
-    [file.as_bytes(), rest.as_bytes()].concat()
+    }
+
+    fn line(&self, answer: &Answer) -> Vec<u8> {
+        let (first, more) = match self {
+            Named::Image(file) => (*file, String::new()),
+            Named::Reels(files) => (files[0].as_os_str(), reels::more(files)),
+        };
+        let rest = match answer {
+            Answer::Accepted(Counts { files, records, bytes }) => {
+                let [files, records, bytes] =
+                    [many(*files, "file"), many(*records, "record"), many(*bytes, "byte")];
+                format!("accepted, {files}, {records}, {bytes}")
+            }
+            Answer::Refused(verdict) => verdict.to_string(),
+            Answer::Unread(_) => return Vec::new(),
+        };
+        [first.as_bytes(), format!("{more}: {rest}\n").as_bytes()].concat()
+    }
+
+    fn json_line(&self, answer: &Answer) -> Vec<u8> {
+        let name = |file: &OsStr| json(&file.to_string_lossy());
+        let names = match self {
+            Named::Image(file) => format!(r#""file":{}"#, name(file)),
+            Named::Reels(files) => {
+                let names: Vec<String> = files.iter().map(|file| name(file)).collect();
+                format!(r#""reels":[{}]"#, names.join(","))
+            }
+        };
+        let rest = match answer {
+            Answer::Accepted(Counts { files, records, bytes }) => {
+                format!(r#""accepted":true,"files":{files},"records":{records},"bytes":{bytes}"#)
+            }
+            Answer::Refused(Verdict { number, item, byte }) => {
+                format!(r#""accepted":false,"number":{number},"item":{item},"byte":{byte}"#)
+            }
+            Answer::Unread(why) => format!(r#""trouble":{}"#, json(why)),
+        };
+        format!("{{{names},{rest}}}\n").into_bytes()
+    }
 }
 
 fn many(count: u64, what: &str) -> String {
     format!("{count} {what}{}", if count == 1 { "" } else { "s" })
-}
-
-fn json_line(file: &OsStr, answer: &Answer) -> Vec<u8> {
-    let rest = match answer {
-        Answer::Accepted(Counts { files, records, bytes }) => {
-            format!(r#""accepted":true,"files":{files},"records":{records},"bytes":{bytes}"#)
-        }
-        Answer::Refused(Verdict { number, item, byte }) => {
-            format!(r#""accepted":false,"number":{number},"item":{item},"byte":{byte}"#)
-        }
-        Answer::Unread(why) => format!(r#""trouble":{}"#, json(why)),
-    };
-    format!("{{\"file\":{},{rest}}}\n", json(&file.to_string_lossy())).into_bytes()
 }
 
 /// A text as JSON has it.

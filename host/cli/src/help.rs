@@ -12,13 +12,16 @@ whose answers are proved. The commands:
     unpack FILE DIR        takes a set apart into files of records and an order sheet
     pack SHEET -o OUT      writes the image of an order sheet
     rewrite FILE ..        writes the normal form of a set
+    import REEL.. -o OUT   writes the image of a set whose reels are tape files of SIMH
+    export FILE -o NAME    writes the reels of a set as tape files of SIMH
 
+Every other command that reads a set takes its reels in SIMH's form too, behind --simh: check --simh REEL..
 tardorelga COMMAND --help tells more of a command, tardorelga --version prints the version.
 A file named - is standard input or output.
 Exit status: 0 accepted or done, 1 refused, 2 trouble with the words, the input or the output.
 ";
 
-pub const CHECK: &str = "usage: tardorelga check [--json] FILE..
+pub const CHECK: &str = "usage: tardorelga check [--json] (FILE.. | --simh REEL..)
 
 Checks the image of a tape set in each FILE, and prints a line a file:
     FILE: accepted, FILES files, RECORDS records, BYTES bytes
@@ -26,32 +29,37 @@ Checks the image of a tape set in each FILE, and prints a line a file:
 Items are counted from 0 over the whole image, bytes of a label from 1.
 
     --json    prints a JSON object a line instead
+    --simh    checks one set, whose reels are the files REEL.. in SIMH's form, in this order
 ";
 
-pub const LIST: &str = "usage: tardorelga list FILE
+pub const LIST: &str = "usage: tardorelga list (FILE | --simh REEL..)
 
 Prints a line for each file of the set in FILE: its number, identifier and format, how many records and how
 many record bytes it has. Of a refused set it prints only the line that says so.
+
+    --simh    the set's reels are the files REEL.. in SIMH's form, in this order
 ";
 
-pub const RECORD: &str = "usage: tardorelga record [--hex | --lines] FILE N R
+pub const RECORD: &str = "usage: tardorelga record [--hex | --lines] (FILE | --simh REEL..) N R
 
 Prints record R of file N of the set in FILE, both counted from 1: its bytes and nothing else.
 
     --hex     prints two hexadecimal digits a byte, and a line feed
     --lines   prints a line feed behind the record
+    --simh    the set's reels are the files REEL.. in SIMH's form, in this order
 ";
 
-pub const RECORDS: &str = "usage: tardorelga records [--hex | --lines] FILE N
+pub const RECORDS: &str = "usage: tardorelga records [--hex | --lines] (FILE | --simh REEL..) N
 
 Prints the records of file N, counted from 1, of the set in FILE: their bytes one behind the other.
 
     --hex     prints a line a record, two hexadecimal digits a byte
     --lines   prints a line feed behind each record
+    --simh    the set's reels are the files REEL.. in SIMH's form, in this order
 ";
 
-pub const UNPACK: &str =
-    "usage: tardorelga unpack [--hex | --lines] [--quota Q] [--reels A,B,..] FILE DIR
+pub const UNPACK: &str = "usage: tardorelga unpack [--hex | --lines] [--quota Q] [--reels A,B,..] \
+    (FILE | --simh REEL..) DIR
 
 Writes the records of each file of the set in FILE into the folder DIR, and an order sheet beside them, of
 which tardorelga pack DIR/sheet makes the set's normal form. DIR is made, or may be there and empty; it
@@ -61,6 +69,7 @@ appears whole or not at all.
     --lines         writes a line a record; no record may hold a line feed then
     --quota Q       the quota on the sheet, else 999999
     --reels A,B,..  the reel names on the sheet, else those of the set
+    --simh          the set's reels are the files REEL.. in SIMH's form, in this order
 ";
 
 pub const PACK: &str = "usage: tardorelga pack SHEET -o OUT
@@ -71,11 +80,31 @@ with its number. Names of files on the sheet are looked up in the folder of the 
     -o OUT    where the image goes; it appears whole or not at all
 ";
 
-pub const REWRITE: &str = "usage: tardorelga rewrite FILE --quota Q --reels A,B,.. -o OUT
+pub const REWRITE: &str =
+    "usage: tardorelga rewrite (FILE | --simh REEL..) --quota Q --reels A,B,.. -o OUT
 
 Writes the normal form of the set in FILE: two sets of one meaning have the same one.
 
     --quota Q       how many data blocks a reel may hold, 1 to 999999
     --reels A,B,..  the names of 1 to 16 reels, of which as many as needed are written
     -o OUT          where the image goes; it appears whole or not at all
+    --simh          the set's reels are the files REEL.. in SIMH's form, in this order
+";
+
+pub const IMPORT: &str = "usage: tardorelga import REEL.. -o OUT
+
+Writes the image of a set whose reels are the files REEL.. in SIMH's form, in this order; docs/FORMAT.md
+tells both forms. Labels are not looked at: check says of the image whether the set is accepted. A file
+that has anything but good records, tape marks and one end of the medium at its end is refused, and named.
+
+    -o OUT    where the image goes; it appears whole or not at all
+";
+
+pub const EXPORT: &str = "usage: tardorelga export FILE -o NAME
+
+Writes the reels of the image in FILE in SIMH's form, a file each: NAME-1.tap, NAME-2.tap and so on. Where
+one of them can't be written, none is left. Labels are not looked at. None of NAME-1.tap to NAME-16.tap may be there already, since the
+reel of another set would be taken for one of this.
+
+    -o NAME   how the names of the files begin; - is standard output, for a set of one reel
 ";

@@ -1,11 +1,13 @@
-//! Images as they are read: from a file, or from standard input as `-`.
+//! Sets as they are read: an image from a file, or reels in SIMH's form; `-` is standard input.
 
 use crate::stop::Stop;
-use crate::streams;
-use std::ffi::OsStr;
+use crate::words::Words;
+use crate::{reels, streams};
+use std::ffi::{OsStr, OsString};
 use std::fs::File;
 use std::io::{self, Read};
 use std::path::Path;
+use tardorelga::Verdict;
 
 /// One byte more than the longest image: more need not be read, since the library refuses this much
 /// whatever follows.
@@ -19,14 +21,40 @@ pub fn name(file: &OsStr) -> String {
     }
 }
 
+/// The image of a set, and what the set is called in a message.
+pub struct Set {
+    pub image: Vec<u8>,
+    name: String,
+}
+
+impl Set {
+    /// Reads the set of these files: one image, or with `--simh` the reels of it.
+    pub fn read(words: &Words, files: &[OsString]) -> Result<Set, Stop> {
+        Ok(match words.is_simh() {
+            true => Set { image: reels::image(files)?, name: reels::name(files) },
+            false => Set { image: image(&files[0])?, name: name(&files[0]) },
+        })
+    }
+
+    pub fn refused(&self, verdict: Verdict) -> Stop {
+        Stop::refused(&self.name, verdict)
+    }
+}
+
 pub fn image(file: &OsStr) -> Result<Vec<u8>, Stop> {
     read(file).map_err(|error| Stop::trouble(name(file), error))
 }
 
-/// As many bytes as there are, up to enough.
+/// As many bytes of an image as there are, up to enough.
 pub fn read(file: &OsStr) -> io::Result<Vec<u8>> {
-    let source = if file == "-" { streams::input()? } else { File::open(file)? };
-    let mut bytes = Vec::with_capacity(source.metadata()?.len().min(ENOUGH) as usize + 1);
-    source.take(ENOUGH).read_to_end(&mut bytes)?;
+    let mut bytes = Vec::new();
+    append(file, ENOUGH, &mut bytes)?;
     Ok(bytes)
+}
+
+/// Puts as many bytes as there are, up to `most`, behind those that were read before.
+pub fn append(file: &OsStr, most: u64, bytes: &mut Vec<u8>) -> io::Result<usize> {
+    let source = if file == "-" { streams::input()? } else { File::open(file)? };
+    bytes.reserve_exact(source.metadata()?.len().min(most) as usize + 1);
+    source.take(most).read_to_end(bytes)
 }

@@ -1,7 +1,7 @@
-//! `list FILE`: the files of a set.
+//! `list FILE` and `list --simh REEL..`: the files of a set.
 
-use crate::input;
-use crate::stop::{Status, Stop};
+use crate::input::Set;
+use crate::stop::{say, Status, Stop};
 use crate::streams::Out;
 use crate::words::Words;
 
@@ -17,13 +17,17 @@ pub fn listing(image: &[u8]) -> Vec<u8> {
 }
 
 pub fn run(words: &Words) -> Result<Status, Stop> {
-    let [file] = words.exactly(["file"])?;
-    let image = input::image(file)?;
+    let (files, []) = words.set_and([])?;
+    let (text, accepted) = match Set::read(words, files) {
+        Ok(set) => (listing(&set.image), tardorelga::check(&set.image).is_accepted()),
+        Err(Stop::Refused(verdict, sentence)) => {
+            say(&sentence);
+            (format!("{verdict}\n").into_bytes(), false)
+        }
+        Err(stop) => return Err(stop),
+    };
     let mut out = Out::open()?;
-    out.put(&listing(&image))?;
+    out.put(&text)?;
     out.end()?;
-    match tardorelga::check(&image).is_accepted() {
-        true => Ok(Status::Done),
-        false => Ok(Status::Refused),
-    }
+    Ok(if accepted { Status::Done } else { Status::Refused })
 }

@@ -8,12 +8,15 @@
 #![no_main]
 
 mod check;
+mod export;
 mod help;
+mod import;
 mod input;
 mod list;
 mod output;
 mod pack;
 mod records;
+mod reels;
 mod rewrite;
 mod sheet;
 mod stop;
@@ -35,27 +38,33 @@ struct Command {
     run: fn(&Words) -> Result<Status, Stop>,
 }
 
-const COMMANDS: [Command; 7] = [
-    Command { name: "check", help: help::CHECK, flags: &["--json"], options: &[], run: check::run },
-    Command { name: "list", help: help::LIST, flags: &[], options: &[], run: list::run },
+const COMMANDS: [Command; 9] = [
+    Command {
+        name: "check",
+        help: help::CHECK,
+        flags: &["--json", "--simh"],
+        options: &[],
+        run: check::run,
+    },
+    Command { name: "list", help: help::LIST, flags: &["--simh"], options: &[], run: list::run },
     Command {
         name: "record",
         help: help::RECORD,
-        flags: &["--hex", "--lines"],
+        flags: &["--hex", "--lines", "--simh"],
         options: &[],
         run: records::one,
     },
     Command {
         name: "records",
         help: help::RECORDS,
-        flags: &["--hex", "--lines"],
+        flags: &["--hex", "--lines", "--simh"],
         options: &[],
         run: records::all,
     },
     Command {
         name: "unpack",
         help: help::UNPACK,
-        flags: &["--hex", "--lines"],
+        flags: &["--hex", "--lines", "--simh"],
         options: &["--quota", "--reels"],
         run: unpack::run,
     },
@@ -63,10 +72,12 @@ const COMMANDS: [Command; 7] = [
     Command {
         name: "rewrite",
         help: help::REWRITE,
-        flags: &[],
+        flags: &["--simh"],
         options: &["--quota", "--reels", "-o"],
         run: rewrite::run,
     },
+    Command { name: "import", help: help::IMPORT, flags: &[], options: &["-o"], run: import::run },
+    Command { name: "export", help: help::EXPORT, flags: &[], options: &["-o"], run: export::run },
 ];
 
 #[no_mangle]

@@ -20,6 +20,56 @@ pub fn write(file: &OsStr, bytes: &[u8]) -> Result<Status, Stop> {
     Ok(Status::Done)
 }
 
+/// Writes new files, all of them or none: each is written beside its place before the first goes there.
+pub fn write_new(files: &[(PathBuf, &[u8])]) -> Result<Status, Stop> {
+    let mut made = Vec::new();
+    let written = put_new(files, &mut made);
+    if written.is_err() {
+        made.iter().for_each(|path| drop(fs::remove_file(path)));
+    }
+    written
+}
+
+/// `made` is what there is so far of each file, beside its place or in it.
+fn put_new(files: &[(PathBuf, &[u8])], made: &mut Vec<PathBuf>) -> Result<Status, Stop> {
+    for (path, bytes) in files {
+        let beside = beside(path).map_err(|error| trouble(path, error))?;
+        let mut file = File::create_new(&beside).map_err(|error| trouble(path, error))?;
+        made.push(beside);
+        file.write_all(bytes)
+            .and_then(|()| file.sync_all())
+            .map_err(|error| trouble(path, error))?;
+    }
+    for ((path, _), made) in files.iter().zip(made) {
+        put_there(made, path).map_err(|error| trouble(path, error))?;
+        made.clone_from(path);
+    }
+    Ok(Status::Done)
+}
+
+fn trouble(path: &Path, error: io::Error) -> Stop {
+    Stop::trouble(path.display(), error)
+}
+
+/// Moves a file to a place where none is. A link is refused where one is, whoever made it and when; a file
+/// system without links is asked right before the renaming.
+fn put_there(made: &Path, path: &Path) -> io::Result<()> {
+    match fs::hard_link(made, path) {
+        Ok(()) => {
+            drop(fs::remove_file(made));
+            Ok(())
+        }
+        Err(error) if error.kind() == io::ErrorKind::AlreadyExists => Err(is_there()),
+        Err(_) if fs::symlink_metadata(path).is_ok() => Err(is_there()),
+        Err(_) => fs::rename(made, path),
+    }
+}
+
+/// Nothing is written over it.
+pub fn is_there() -> io::Error {
+    io::Error::other("is there already; remove it, or choose another name with -o")
+}
+
 /// A link is followed, so that it stays one.
 fn behind_links(path: &Path) -> PathBuf {
     fs::canonicalize(path).unwrap_or_else(|_| path.to_path_buf())

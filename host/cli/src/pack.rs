@@ -24,7 +24,7 @@ pub fn run(words: &Words) -> Result<Status, Stop> {
         Ok(length) => output::write(out, &image[..length]),
         Err(verdict) if verdict.number == ILLEGAL => {
             let (name, why, wrong) = (input::name(sheet), refusal(verdict), order.illegal_line());
-            Err(Stop::Refused(format!("{name}: {why}: {wrong}")))
+            Err(Stop::Refused(verdict, format!("{name}: {why}: {wrong}")))
         }
         Err(verdict) => Err(Stop::refused(input::name(sheet), verdict)),
     }

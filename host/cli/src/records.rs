@@ -1,6 +1,6 @@
 //! `record FILE N R` and `records FILE N`: the bytes of records.
 
-use crate::input;
+use crate::input::Set;
 use crate::stop::{Status, Stop};
 use crate::streams::Out;
 use crate::words::{number, Words};
@@ -50,13 +50,13 @@ fn hex(bytes: &[u8]) -> Vec<u8> {
 }
 
 pub fn one(words: &Words) -> Result<Status, Stop> {
-    let [file, n, r] = words.exactly(["file", "number of a file", "number of a record"])?;
+    let (files, [n, r]) = words.set_and(["number of a file", "number of a record"])?;
     let (n, r) = (number(n, "N")?, number(r, "R")?);
     let form = Form::of(words)?;
-    let image = input::image(file)?;
+    let set = Set::read(words, files)?;
     let mut join = vec![0; LONGEST];
-    let record = tardorelga::record(&image, n, r, &mut join);
-    let record = record.map_err(|verdict| Stop::refused(input::name(file), verdict))?;
+    let record = tardorelga::record(&set.image, n, r, &mut join);
+    let record = record.map_err(|verdict| set.refused(verdict))?;
     let mut out = Out::open()?;
     form.give(record, |bytes| out.put(bytes))?;
     out.end()
@@ -64,12 +64,11 @@ pub fn one(words: &Words) -> Result<Status, Stop> {
 
 /// Each record is written as the walk gets to it.
 pub fn all(words: &Words) -> Result<Status, Stop> {
-    let [file, n] = words.exactly(["file", "number of a file"])?;
+    let (files, [n]) = words.set_and(["number of a file"])?;
     let n = number(n, "N")?;
     let form = Form::of(words)?;
-    let image = input::image(file)?;
-    let records = tardorelga::records(&image, n);
-    let records = records.map_err(|verdict| Stop::refused(input::name(file), verdict))?;
+    let set = Set::read(words, files)?;
+    let records = tardorelga::records(&set.image, n).map_err(|verdict| set.refused(verdict))?;
     let mut out = Out::open()?;
     for record in records {
         form.give(&record, |bytes| out.put(bytes))?;

@@ -20,7 +20,8 @@ pub enum Status {
 pub enum Stop {
     /// The words on the command line, and the command's help where it is known.
     Misused(String, Option<&'static str>),
-    Refused(String),
+    /// The library's refusal, and the sentence on it.
+    Refused(Verdict, String),
     Trouble(String),
     /// Nobody reads the output any more, which needs no sentence.
     Unread,
@@ -44,7 +45,7 @@ impl Stop {
 
     /// The library's refusal of what is in `whose`.
     pub fn refused(whose: impl Display, verdict: Verdict) -> Stop {
-        Stop::Refused(format!("{whose}: {}", refusal(verdict)))
+        Stop::Refused(verdict, format!("{whose}: {}", refusal(verdict)))
     }
 
     /// With the help of the command that found its words wrong.
@@ -62,7 +63,7 @@ impl Stop {
                 let usage = help.and_then(|help| help.lines().next()).unwrap_or("");
                 (Status::Trouble, format!("{what}\n{usage}"))
             }
-            Stop::Refused(what) => (Status::Refused, what),
+            Stop::Refused(_, what) => (Status::Refused, what),
             Stop::Trouble(what) => (Status::Trouble, what),
             Stop::Unread => return Status::Trouble,
         };
@@ -86,7 +87,7 @@ pub fn reason(error: &io::Error) -> String {
 pub fn refusal(verdict: Verdict) -> String {
     let words = in_words(verdict.number);
     match verdict.number {
-        10.. => format!("refused {}: {words}", verdict.number),
+        10..=14 => format!("refused {}: {words}", verdict.number),
         _ => format!("{verdict}: {words}"),
     }
 }
@@ -107,6 +108,9 @@ fn in_words(number: u32) -> &'static str {
         12 => "more reels are needed than are named",
         13 => "there is no such file or record",
         14 => "the image would be longer than 16777215 bytes",
+        15 => {
+            "no good record, tape mark or end of the medium stands there, or bytes follow the end"
+        }
         _ => "an unknown number",
     }
 }

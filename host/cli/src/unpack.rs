@@ -1,9 +1,10 @@
 //! `unpack FILE DIR`: the records of a set as files, and the order sheet that packs them again.
 
+use crate::input::Set;
 use crate::records::Form;
 use crate::stop::{Status, Stop};
 use crate::words::{names, number, Words};
-use crate::{input, output, sheet};
+use crate::{output, sheet};
 use std::fs::{self, File};
 use std::io::{self, BufWriter, Write};
 use std::path::{Path, PathBuf};
@@ -12,18 +13,18 @@ use std::path::{Path, PathBuf};
 const QUOTA: u64 = 999_999;
 
 pub fn run(words: &Words) -> Result<Status, Stop> {
-    let [file, folder] = words.exactly(["file", "folder"])?;
+    let (files, [folder]) = words.set_and(["folder"])?;
     let form = Form::of(words)?;
     let quota = words.value("--quota")?.map(|word| number(word, "Q")).transpose()?;
     let names = words.value("--reels")?.map(names).transpose()?;
-    let image = input::image(file)?;
-    let verdict = tardorelga::check(&image);
+    let set = Set::read(words, files)?;
+    let verdict = tardorelga::check(&set.image);
     if !verdict.is_accepted() {
-        return Err(Stop::refused(input::name(file), verdict));
+        return Err(set.refused(verdict));
     }
-    let head =
-        Head { quota: quota.unwrap_or(QUOTA), names: names.unwrap_or_else(|| reel_names(&image)) };
-    put(&image, &head, form, Path::new(folder))
+    let names = names.unwrap_or_else(|| reel_names(&set.image));
+    let head = Head { quota: quota.unwrap_or(QUOTA), names };
+    put(&set.image, &head, form, Path::new(folder))
         .map_err(|error| Stop::trouble(Path::new(folder).display(), error))?;
     Ok(Status::Done)
 }

@@ -51,23 +51,32 @@ impl Words {
         self.flags.contains(&flag)
     }
 
+    /// Whether sets are named by their reels in SIMH's form, and not by an image.
+    pub fn is_simh(&self) -> bool {
+        self.has("--simh")
+    }
+
     /// All plain words, of which there is one at least.
     pub fn some(&self, what: &str) -> Result<&[OsString], Stop> {
-        match self.plain.is_empty() {
-            true => Err(Stop::words(format!("no {what} is named"))),
-            false => Ok(&self.plain),
-        }
+        some(&self.plain, what)
     }
 
     /// Exactly the plain words that are named here.
     pub fn exactly<const N: usize>(&self, what: [&str; N]) -> Result<[&OsStr; N], Stop> {
-        if let Some(more) = self.plain.get(N) {
-            return Err(Stop::words(format!("one word too many: {more:?}")));
-        }
-        match what.get(self.plain.len()) {
-            Some(missing) => Err(Stop::words(format!("no {missing} is named"))),
-            None => Ok(std::array::from_fn(|i| self.plain[i].as_os_str())),
-        }
+        exactly(&self.plain, what)
+    }
+
+    /// The words of a set, one file or with `--simh` one reel or more, and behind them exactly the
+    /// words that are named here.
+    pub fn set_and<const N: usize>(
+        &self,
+        what: [&str; N],
+    ) -> Result<(&[OsString], [&OsStr; N]), Stop> {
+        let count = self.plain.len();
+        let (first, own) =
+            if self.is_simh() { ("reel", count.saturating_sub(N).max(1)) } else { ("file", 1) };
+        let (set, rest) = self.plain.split_at(own.min(count));
+        Ok((some(set, first)?, exactly(rest, what)?))
     }
 
     /// The value of an option that may be given once.
@@ -86,6 +95,26 @@ impl Words {
     pub fn values(&self, option: &'static str) -> impl Iterator<Item = &OsStr> {
         let of_option = move |&&(name, _): &&(&str, OsString)| name == option;
         self.values.iter().filter(of_option).map(|(_, value)| value.as_os_str())
+    }
+}
+
+fn some<'a>(words: &'a [OsString], what: &str) -> Result<&'a [OsString], Stop> {
+    match words.is_empty() {
+        true => Err(Stop::words(format!("no {what} is named"))),
+        false => Ok(words),
+    }
+}
+
+fn exactly<'a, const N: usize>(
+    words: &'a [OsString],
+    what: [&str; N],
+) -> Result<[&'a OsStr; N], Stop> {
+    if let Some(more) = words.get(N) {
+        return Err(Stop::words(format!("one word too many: {more:?}")));
+    }
+    match what.get(words.len()) {
+        Some(missing) => Err(Stop::words(format!("no {missing} is named"))),
+        None => Ok(std::array::from_fn(|i| words[i].as_os_str())),
     }
 }
 

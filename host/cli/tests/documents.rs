@@ -79,6 +79,11 @@ fn the_examples_of_the_readme_print_what_it_says() {
 }
 
 #[test]
+fn the_examples_on_the_container_print_what_they_say() {
+    assert!(run_document("docs/FORMAT.md") >= 20);
+}
+
+#[test]
 fn the_examples_on_order_sheets_print_what_they_say() {
     assert!(run_document("docs/SHEET.md") >= 5);
 }

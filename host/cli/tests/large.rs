@@ -76,6 +76,21 @@ fn millions_of_records_of_differing_lengths_come_back() {
     shell("$T pack $D/apart/sheet -o - | cmp $D/many.tgi -", &d).done();
 }
 
+/// One-byte blocks grow most; beside the reel there is room for an image and a few megabytes.
+#[test]
+fn the_longest_image_goes_out_as_a_reel_and_comes_back() {
+    let d = folder("longest");
+    let blocks = (LONGEST - 8) / 4;
+    let image = [b"TGI\0\x01", &b"\0\0\x01A".repeat(blocks)[..], &[0xFF; 3]].concat();
+    fs::write(d.join("long.tgi"), &image).unwrap();
+    const MEMORY: &str = "ulimit -v 80000; ";
+    shell(&format!("{MEMORY} $T export $D/long.tgi -o $D/long"), &d).done();
+    let length = fs::metadata(d.join("long-1.tap")).unwrap().len();
+    assert_eq!(length, 10 * blocks as u64 + 4);
+    shell(&format!("{MEMORY} $T import $D/long-1.tap -o $D/same.tgi"), &d).done();
+    assert!(fs::read(d.join("same.tgi")).unwrap() == image);
+}
+
 #[test]
 fn a_longer_image_is_neither_written_nor_read() {
     let d = folder("too-large");

@@ -82,7 +82,7 @@ fn rewriting_is_refused_with_its_number() {
 
 #[test]
 fn rewriting_wants_its_words() {
-    let usage = "usage: tardorelga rewrite FILE --quota Q --reels A,B,.. -o OUT";
+    let usage = "usage: tardorelga rewrite (FILE | --simh REEL..) --quota Q --reels A,B,.. -o OUT";
     run(&["rewrite", "x"]).told(2, &format!("--quota is missing\n{usage}"));
     let number = format!("Q is a number, not \"many\"\n{usage}");
     run(&["rewrite", "x", "--quota", "many", "--reels", "A", "-o", "-"]).told(2, &number);

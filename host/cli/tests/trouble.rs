@@ -94,10 +94,10 @@ fn wrong_words_are_told_with_the_usage() {
     let usage = "usage: tardorelga COMMAND ..";
     run::<&str>(&[]).told(2, &format!("no command\n{usage}"));
     run(&["mend"]).told(2, &format!("no command \"mend\"\n{usage}"));
-    let usage = "usage: tardorelga check [--json] FILE..";
+    let usage = "usage: tardorelga check [--json] (FILE.. | --simh REEL..)";
     run(&["check"]).told(2, &format!("no file is named\n{usage}"));
     run(&["check", "--all", "x"]).told(2, &format!("no option \"--all\" here\n{usage}"));
-    let usage = "usage: tardorelga record [--hex | --lines] FILE N R";
+    let usage = "usage: tardorelga record [--hex | --lines] (FILE | --simh REEL..) N R";
     run(&["record", "x", "1"]).told(2, &format!("no number of a record is named\n{usage}"));
     run(&["record", "x", "one", "1"]).told(2, &format!("N is a number, not \"one\"\n{usage}"));
     run(&["record", "x", "1", "1", "1"]).told(2, &format!("one word too many: \"1\"\n{usage}"));

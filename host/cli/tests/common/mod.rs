@@ -1,6 +1,7 @@
 //! Runs the built program as a user does, from the root of the repository.
 #![allow(dead_code)]
 
+use std::ffi::{OsStr, OsString};
 use std::fs;
 use std::io::Write;
 use std::path::{Path, PathBuf};
@@ -53,11 +54,11 @@ pub fn names_in(folder: &Path) -> Vec<String> {
 }
 
 /// Runs the program with these words and nothing on standard input.
-pub fn run<W: AsRef<std::ffi::OsStr>>(words: &[W]) -> Ran {
+pub fn run<W: AsRef<OsStr>>(words: &[W]) -> Ran {
     fed(words, b"")
 }
 
-pub fn fed<W: AsRef<std::ffi::OsStr>>(words: &[W], input: &[u8]) -> Ran {
+pub fn fed<W: AsRef<OsStr>>(words: &[W], input: &[u8]) -> Ran {
     let mut command = Command::new(env!("CARGO_BIN_EXE_tardorelga"));
     command.args(words);
     ran(command, input)
@@ -91,4 +92,21 @@ pub fn expected() -> Vec<(String, String)> {
     let row =
         |line: &str| line.split_once(' ').map(|(name, answer)| (name.into(), answer.trim().into()));
     rows.map(|line| row(line).expect("a name and an answer")).collect()
+}
+
+/// What the program says of a torn reel.
+pub const TORN: &str =
+    "no good record, tape mark or end of the medium stands there, or bytes follow the end";
+
+/// The files `NAME-1.tap` and so on, as many as there are.
+pub fn reels_named(name: &Path) -> Vec<PathBuf> {
+    let path = |number| PathBuf::from(format!("{}-{number}.tap", name.display()));
+    (1..).map(path).take_while(|path| path.exists()).collect()
+}
+
+/// Imports reels, with the image on standard output.
+pub fn import<R: AsRef<OsStr>>(reels: &[R]) -> Ran {
+    let mut words: Vec<OsString> = vec!["import".into(), "-o".into(), "-".into()];
+    words.extend(reels.iter().map(|reel| reel.as_ref().into()));
+    run(&words)
 }
