@@ -14,10 +14,12 @@ Images and records are bytes. What can't be done raises Refused, with the librar
 import array
 import ctypes
 import dataclasses
+import itertools
 import os
 import typing
 
 LONGEST_IMAGE = 16_777_215
+_MOST_REELS = 16
 # Room for the heading and a line for each of 64 files.
 _LONGEST_LISTING = 4096
 
@@ -113,6 +115,29 @@ def rewrite(image, quota, reels):
     return _written("rewrite", LONGEST_IMAGE, image, len(image), quota, names, len(names))
 
 
+def from_simh(reels):
+    """The image of a set whose reels are tape files of SIMH, each as its bytes. Labels are not looked at."""
+    lengths, tape = array.array("Q"), bytearray()
+    for reel in reels:
+        before = len(tape)
+        tape += reel
+        lengths.append(len(tape) - before)
+    tape = bytes(tape)
+    longest = min(5 + len(tape), LONGEST_IMAGE)
+    return _written("from_simh", longest, tape, len(tape), *_numbers(lengths))
+
+
+def to_simh(image):
+    """The reels of an image as tape files of SIMH: a list of bytes, one for each reel. Labels are not looked at."""
+    image = bytes(image)
+    longest = min(len(image), LONGEST_IMAGE) * 5 // 2
+    out, lengths = ctypes.create_string_buffer(longest or 1), (_u64 * _MOST_REELS)()
+    tapes = _call("to_simh", image, len(image), out, longest, lengths, _MOST_REELS)
+    tapes.verdict.raise_refused()
+    ends = [*itertools.accumulate(lengths[: tapes.files])]
+    return [out[end - length : end] for end, length in zip(ends, lengths)]
+
+
 # ---- the library's own structs and functions, as include/tardorelga.h has them
 
 
@@ -143,6 +168,10 @@ class _Written(ctypes.Structure):
     _fields_ = [("verdict", _Verdict), ("len", _u64)]
 
 
+class _Tapes(ctypes.Structure):
+    _fields_ = [("verdict", _Verdict), ("len", _u64), ("files", _u64)]
+
+
 _slice, _out = (_bytes, _size), (ctypes.c_void_p, _size)
 _words = (ctypes.c_void_p, _size)
 _FUNCTIONS = {
@@ -152,6 +181,8 @@ _FUNCTIONS = {
     "listing": (_Written, *_slice, *_out),
     "rewrite": (_Written, *_slice, _u64, *_slice, *_out),
     "write": (_Written, *_slice, *_slice, *_words, *_words, *_slice, _u64, *_slice, *_out),
+    "from_simh": (_Written, *_slice, *_words, *_out),
+    "to_simh": (_Tapes, *_slice, *_out, *_words),
 }
 
 

@@ -125,6 +125,62 @@ class Rewrite(unittest.TestCase):
             self.assertEqual(raised.exception.number, number)
 
 
+class Simh(unittest.TestCase):
+    def test_each_image_with_good_items_comes_back_from_its_reels(self):
+        converted = 0
+        for name, answer in expected():
+            image = (SAMPLES / name).read_bytes()
+            if answer.startswith(("refused 1 ", "refused 2 ")):
+                with self.assertRaises(tardorelga.Refused) as raised:
+                    tardorelga.to_simh(image)
+                self.assertEqual(raised.exception.verdict, tardorelga.check(image))
+            else:
+                reels = tardorelga.to_simh(image)
+                self.assertEqual(tardorelga.from_simh(reels), image, name)
+                self.assertEqual(tardorelga.to_simh(tardorelga.from_simh(reels)), reels, name)
+                converted += 1
+        self.assertGreater(converted, 10)
+
+    def test_the_reels_of_a_sample(self):
+        files = [(SAMPLES / f"messages-{number}.tap").read_bytes() for number in (1, 2, 3)]
+        self.assertEqual(tardorelga.to_simh(sample("messages")), files)
+        self.assertEqual(tardorelga.from_simh(map(memoryview, files)), sample("messages"))
+
+    def test_the_smallest_reel(self):
+        image = b"TGI\0\1\0\0\1A\0\0\0\xff\xff\xff"
+        reel = b"\1\0\0\0A\0\1\0\0\0\0\0\0\0\xff\xff\xff\xff"
+        self.assertEqual(tardorelga.to_simh(bytearray(image)), [reel])
+        self.assertEqual(tardorelga.from_simh(iter([reel])), image)
+
+    def test_the_longest_image(self):
+        ones = (tardorelga.LONGEST_IMAGE - 5 - 3) // 4
+        image = b"TGI\0\1" + b"\0\0\1A" * ones + b"\xff\xff\xff"
+        (reel,) = tardorelga.to_simh(image)
+        self.assertEqual(len(reel), 10 * ones + 4)
+        self.assertEqual(tardorelga.from_simh([reel]), image)
+
+    def test_refusals(self):
+        end, mark = b"\xff\xff\xff\xff", b"\0\0\0\0"
+        cases = [
+            ((2, 0, 0), []),
+            ((2, 0, 0), [end] * 17),
+            ((15, 0, 0), [b""]),
+            ((15, 1, 0), [mark]),
+            ((15, 2, 0), [end, mark + b"\xfe\xff\xff\xff" + end]),
+            ((15, 17, 0), [end] * 17 + [b"\1"]),
+            ((14, 0, 0), [b"\1\0\0\0A\0\1\0\0\0" * 4_194_304 + end]),
+        ]
+        for verdict, reels in cases:
+            with self.assertRaises(tardorelga.Refused) as raised:
+                tardorelga.from_simh(reels)
+            self.assertEqual(raised.exception.verdict, verdict)
+        cases = [((9, 0, 0), bytes(tardorelga.LONGEST_IMAGE + 1)), ((1, 0, 0), b""), ((2, 0, 0), b"TGI\0\1")]
+        for verdict, image in cases:
+            with self.assertRaises(tardorelga.Refused) as raised:
+                tardorelga.to_simh(image)
+            self.assertEqual(raised.exception.verdict, verdict)
+
+
 class Module(unittest.TestCase):
     def test_the_example_at_its_head(self):
         self.assertEqual(doctest.testmod(tardorelga).failed, 0)
