@@ -1,14 +1,12 @@
 -- Number 0 is given exactly to accepted sets, and a refusal names the first wrong item. Assumes nothing.
 use mathlib.Core.Path.{_≡_, refl, sym, ap, _∙_, subst}
-use mathlib.Core.Bool.{Bool, true, false, false≢true}
 use mathlib.Core.Logic.{_↔_}
-use mathlib.Core.List.{List, [], _∷_, _++_}
-use Prim.Native.Nat.{ℕ, zero, suc, _+_}
+use mathlib.Core.List.{List, [], _∷_}
+use Prim.Native.Nat.{ℕ, zero, _+_}
 use native.Mathlib.Omega.{arith}
 use borrow.Author.Tests.{eqb-true, eqb-false, eq-eqb}
 use lib.Dec.{eqb}
-use lib.ListN.{take, drop}
-use Rattle.base.specs.If.{ifB, if-true, if-false, if-case}
+use Rattle.base.specs.If.{if-true, if-false, if-case}
 use Rattle.base.specs.Answer.{verdict}
 use Rattle.base.specs.declared.Verdict.{Verdict}
 use Rattle.base.specs.declared.Fault.{Fault}
@@ -16,15 +14,14 @@ use Rattle.image.specs.Item.{Item}
 use Rattle.image.specs.Framing.{framing, items}
 use Rattle.order.specs.Kind.{endOfImage}
 use Rattle.order.specs.Due.{dueAfter}
-use Rattle.order.specs.declared.Kind.{Kind}
 use Rattle.order.specs.declared.Phase.{Phase}
 use Rattle.order.specs.declared.Due.{Due}
 use Rattle.order.specs.declared.Due.the-variants.{To, Wrong}
 use Rattle.volume.specs.State.{State, start}
 use Rattle.volume.specs.Fault.{itemFault}
-use Rattle.volume.specs.Step.{Event, Next, go, no, step, judged, ordered, stateAfter, eventsOf, kindIn, bytesIn, isDue}
+use Rattle.volume.specs.Step.{Event, Next, go, no, step, judged, ordered, eventsOf, kindIn, bytesIn, isDue}
 use Rattle.volume.specs.Run.{Run, ended, stopped, further, next, runs, answerOf, imageVerdict}
-use Rattle.volume.specs.Accepted.{Faultless, All, MayEnd, Accepted, Refused, FirstWrong, behind}
+use Rattle.volume.specs.Accepted.{Faultless, All, MayEnd, Accepted, FirstWrong, behind}
 
 -- ---- one item
 
@@ -103,16 +100,16 @@ told-further : (s : State) (x : Item) (xs : List Item) (p : Phase) → Faultless
     → Told (behind s x p) xs r → Told s (x ∷ xs) (further es r)
 unfolding Told further
 told-further s x xs p f es (ended fs) h = tt
-told-further s x xs p f es (stopped k i b) h = (h .0, (p, f, h .1))
+told-further s x xs p f es (stopped k i b) h = (h .0, record { within = omega (arith, h .1 .within); refused = (p, f, h .1 .refused) })
 
 told : (s : State) (xs : List Item) → Told s xs (runs s xs)
 unfolding runs next Told
 told s [] =
     if-case (Told s []) (isDue (dueAfter (s .phase) endOfImage)) (ended []) (stopped 3 0 0) (λ _. tt)
-    (λ e. ((λ q. eqb-false 3 0 refl q), (refl, refl, e)))
+    (λ e. ((λ q. eqb-false 3 0 refl q), record { within = omega arith; refused = (refl, refl, e) }))
 told s (x ∷ xs) =
     by-step (λ (r : Next). Told s (x ∷ xs) (next r (λ t. runs t xs))) s x
-    (λ p f. told-further s x xs p f _ _ (told _ xs)) (λ k b h e. (h, e))
+    (λ p f. told-further s x xs p f _ _ (told _ xs)) (λ k b h e. (h, record { within = omega arith; refused = e }))
 
 -- ---- the verdict
 
@@ -130,6 +127,12 @@ unfolding Ends answerOf
 ends-zero (ended es) h = refl
 ends-zero (stopped k i b) h = absurd h
 
+-- an accepted set is done, without a place
+pub accepted-done : (s : List ℕ) → Accepted s → imageVerdict s ≡ verdict 0 0 0
+unfolding imageVerdict
+accepted-done s a =
+    if-true _ _ _ (eq-eqb (framing s .number) 0 (a .framed)) ∙ ends-zero (runs start (items s)) (all-ends start (items s) (a .followed))
+
 -- number 0 is given exactly to accepted sets
 pub accepted-iff : (s : List ℕ) → imageVerdict s .number ≡ 0 ↔ Accepted s
 unfolding imageVerdict
@@ -145,9 +148,7 @@ accepted-iff s = (to, from)
     zero = unfold verdict in refl
 
     from : Accepted s → imageVerdict s .number ≡ 0
-    from a =
-        ap (λ (v : Verdict). v .number)
-        (if-true _ _ _ (eq-eqb (framing s .number) 0 (a .framed)) ∙ ends-zero (runs start (items s)) (all-ends start (items s) (a .followed))) ∙ zero
+    from a = ap (λ (v : Verdict). v .number) (accepted-done s a) ∙ zero
 
 -- where the framing is good, a refusal names the first wrong item, with the number and the byte that its step gives
 pub refused-first : (s : List ℕ) (k i b : ℕ) → framing s .number ≡ 0 → (k ≡ 0 → ⊥) → imageVerdict s ≡ verdict k i b → FirstWrong start (items s) k i b

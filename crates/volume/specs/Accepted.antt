@@ -1,12 +1,17 @@
 -- An accepted set, as a reader would state it: the framing is good, every item is due where it stands and has no fault against what was read
--- before it, and the image ends where the order of a reel lets it.
+-- before it, and the image ends where the order of a reel lets it. And a refused one: what its verdict says of it.
 use mathlib.Core.Path.{_≡_}
-use mathlib.Core.Bool.{Bool, true, false}
+use mathlib.Core.Bool.{Bool, true, false, not}
 use mathlib.Core.List.{List, [], _∷_}
-use Prim.Native.Nat.{ℕ}
-use lib.ListN.{take, drop}
-use Rattle.image.specs.Item.{Item}
-use Rattle.image.specs.Framing.{framing, items}
+use Prim.Native.Nat.{ℕ, zero, suc, _+_, _≤_, _<_}
+use lib.Dec.{eqb}
+use lib.ListN.{length, take, drop}
+use Rattle.base.specs.If.{ifB}
+use Rattle.base.specs.Part.{same}
+use Rattle.base.specs.Answer.{verdict}
+use Rattle.base.specs.declared.Verdict.{Verdict}
+use Rattle.image.specs.Item.{Item, block, mark, reelEnd, broken}
+use Rattle.image.specs.Framing.{head, mostImage, mostReels, framing, items, opens}
 use Rattle.order.specs.Kind.{endOfImage}
 use Rattle.order.specs.Due.{dueAfter}
 use Rattle.order.specs.declared.Phase.{Phase}
@@ -42,6 +47,46 @@ abbrev pub Refused : List Item → ℕ → ℕ → State → Type 0
 Refused [] k b s = (k ≡ 3) × (b ≡ 0) × (isDue (dueAfter (s .phase) endOfImage) ≡ false)
 Refused (x ∷ xs) k b s = step s x ≡ no k b
 
--- the first i items are without fault, and what follows them is refused
-abbrev pub FirstWrong : State → List Item → ℕ → ℕ → ℕ → Type 0
-FirstWrong s xs k i b = All (Refused (drop i xs) k b) s (take i xs)
+-- there are i items or more, the first i are without fault, and what follows them is refused
+pub record FirstWrong (s : State) (xs : List Item) (k i b : ℕ) : Type 0 where
+  pub within : i ≤ length xs
+  pub refused : All (Refused (drop i xs) k b) s (take i xs)
+
+-- ---- the framing's first wrong item
+
+-- an item behind r ended reels may stand there: it is whole, and fewer than 16 have ended
+unfoldable pub mayStand : ℕ → Item → Bool
+mayStand r (block l) = not (eqb r mostReels)
+mayStand r mark = not (eqb r mostReels)
+mayStand r reelEnd = not (eqb r mostReels)
+mayStand r broken = false
+
+unfoldable pub isReelEnd : Item → Bool
+isReelEnd (block l) = false
+isReelEnd mark = false
+isReelEnd reelEnd = true
+isReelEnd broken = false
+
+-- behind r ended reels, with `closed` where the last item was an end of reel: i items may stand, and what follows them may not, or is the end of an image
+-- that does not end behind an end of reel
+abbrev pub Unframed : ℕ → Bool → List Item → ℕ → Type 0
+Unframed r closed [] zero = closed ≡ false
+Unframed r closed [] (suc i) = ⊥
+Unframed r closed (x ∷ xs) zero = mayStand r x ≡ false
+Unframed r closed (x ∷ xs) (suc i) = (mayStand r x ≡ true) × Unframed (ifB (isReelEnd x) (r + 1) r) (isReelEnd x) xs i
+
+-- ---- what a refusal says
+
+-- over-long, then 1, then 2 for the whole image, then the first wrong item
+pub data FirstFault (s : List ℕ) : Verdict → Type 0 where
+  overLong : mostImage < length s → FirstFault s (verdict 9 0 0)
+  noImage : length s ≤ mostImage → same (take 5 s) head ≡ false → FirstFault s (verdict 1 0 0)
+  unframed : (i : ℕ) → opens s ≡ true → Unframed 0 false (items s) i → FirstFault s (verdict 2 i 0)
+  wrong : (k i b : ℕ) → framing s .number ≡ 0 → FirstWrong start (items s) k i b → FirstFault s (verdict k i b)
+
+-- a number of reading, with the byte of a field for 4, 5 and 6, and no byte for another
+pub record Placed (number byte : ℕ) : Type 0 where
+  pub known : number ≤ 9
+  pub field : 4 ≤ number → number ≤ 6 → 1 ≤ byte
+  pub before : number < 4 → byte ≡ 0
+  pub behind : 6 < number → byte ≡ 0
