@@ -1,19 +1,20 @@
 -- Writes into a lent buffer, one after the other. Assumes nothing.
 use mathlib.Core.Path.{_≡_, refl, sym, ap, ap₂, _∙_, subst}
 use mathlib.Core.List.{List, [], _∷_, _++_}
-use Prim.Native.Nat.{ℕ, zero, suc, _+_, _-_, _*_, _/_, _%_, _≤_, _<_, min}
+use Prim.Native.Nat.{ℕ, _+_, _-_, _*_, _/_, _%_, _≤_, _<_, min}
 use native.Mathlib.Omega.{arith}
 use native.Mathlib.Numerals.{add-one}
 use borrow.Author.Needs.{needs}
-use borrow.Author.Tests.{le-leb, lt-leb}
+use borrow.Author.Tests.{le-leb, lt-leb, lt-ltb, le-ltb, leb-true}
+use lib.Dec.{leb, ltb}
 use lib.ListN.{length, take, drop, getD, set, length-append, length-take, length-drop, length-set, take-append-drop, drop-of-length-le}
 use lib.Seq.{drop-cons, getD-drop, length-take-le, take-all, take-take}
-use Rattle.base.specs.If.{if-true, if-false}
+use Rattle.base.specs.If.{ifB, if-true, if-false, if-case}
 use Rattle.base.specs.Part.{part, putAt}
 use Rattle.base.specs.Digits.{digits}
 use Rattle.base.proofs.Parts.{drop-take, length-put, put-none, put-put, put-again}
 use Rattle.label.proofs.Put.{put-first}
-use Rattle.output.specs.Output.{Wrote, Short, putIn, Written, refused, refusalOf, Answers}
+use Rattle.output.specs.Output.{Wrote, Put, Short, putIn, putBelow, refused, refusalOf, Answers}
 
 -- ---- copying: what is left to put from here makes the whole
 
@@ -67,22 +68,58 @@ pub ruleset figures = (digits-of, needs)
 
 -- ---- a write
 
-pub wrote-over : {most : ℕ} (o : List ℕ) (a : ℕ) (bs : List ℕ) (r : ℕ) → r ≡ min (a + length bs) most → most ≤ r → Wrote most o a bs o r
-wrote-over o a bs r e h = record { kept = refl; place = e; done = λ l k. absurd (omega arith) }
+-- where it does not end before `most`, where the buffer is too short, and where it has room
+pub put-most : {most : ℕ} (o : List ℕ) (a : ℕ) (bs : List ℕ) (r : ℕ) → r ≡ min (a + length bs) most → most ≤ r → Put most o a bs o r
+unfolding putBelow
+put-most {most = most} o a bs r e h = record { place = e; held = sym (if-false _ _ _ (le-ltb (a + length bs) most (omega arith))) }
 
-pub wrote-short : {most : ℕ} (o : List ℕ) (a : ℕ) (bs : List ℕ) (r : ℕ) → r ≡ min (a + length bs) most → length o < r → Wrote most o a bs o r
-wrote-short o a bs r e h = record { kept = refl; place = e; done = λ l k. absurd (omega arith) }
+pub put-short : {most : ℕ} (o : List ℕ) (a : ℕ) (bs : List ℕ) (r : ℕ) → r ≡ min (a + length bs) most → r < most → length o < r → Put most o a bs o r
+unfolding putBelow putIn
+put-short {most = most} o a bs r e l h =
+    let none : ifB (leb (a + length bs) (length o)) (putAt o a bs) o ≡ o = if-false _ _ _ (lt-leb (a + length bs) (length o) (omega arith)) in
+    record { place = e; held = sym (if-true _ _ _ (lt-ltb (a + length bs) most (omega arith)) ∙ none) }
 
-pub wrote-put : {most : ℕ} (o : List ℕ) (a : ℕ) (bs p : List ℕ) (r : ℕ) → r ≡ min (a + length bs) most → r < most → r ≤ length o → p ≡ putAt o a bs
-    → Wrote most o a bs p r
-wrote-put o a bs p r e l h q =
-    let room : a + length bs ≤ length o = omega arith in
-    record { kept = ap length q ∙ length-put o a bs room; place = e; done = λ _ _. q }
+pub put-room : {most : ℕ} (o : List ℕ) (a : ℕ) (bs p : List ℕ) (r : ℕ) → r ≡ min (a + length bs) most → r < most → r ≤ length o → p ≡ putAt o a bs
+    → Put most o a bs p r
+unfolding putBelow putIn
+put-room {most = most} o a bs p r e l h q =
+    let all : ifB (leb (a + length bs) (length o)) (putAt o a bs) o ≡ putAt o a bs = if-true _ _ _ (le-leb (a + length bs) (length o) (omega arith)) in
+    record { place = e; held = q ∙ sym (if-true _ _ _ (lt-ltb (a + length bs) most (omega arith)) ∙ all) }
 
 pub has-room : {most : ℕ} (o : List ℕ) (a : ℕ) (bs : List ℕ) (r : ℕ) → r ≡ min (a + length bs) most → r < most → r ≤ length o → a + length bs ≤ length o
 has-room o a bs r e l h = omega arith
 
-pub ruleset writing = (wrote-over, wrote-short, wrote-put, has-room, needs)
+pub ruleset writing = (put-most, put-short, put-room, has-room, needs)
+
+length-put-in : (o : List ℕ) (a : ℕ) (bs : List ℕ) → length (putIn o a bs) ≡ length o
+unfolding putIn
+length-put-in o a bs =
+    if-case (λ (p : List ℕ). length p ≡ length o) (leb (a + length bs) (length o)) _ _
+    (λ room. length-put o a bs (leb-true (a + length bs) (length o) room))
+    (λ _. refl)
+
+length-put-below : (most : ℕ) (o : List ℕ) (a : ℕ) (bs : List ℕ) → length (putBelow most o a bs) ≡ length o
+unfolding putBelow
+length-put-below most o a bs =
+    if-case (λ (p : List ℕ). length p ≡ length o) (ltb (a + length bs) most) _ _ (λ _. length-put-in o a bs) (λ _. refl)
+
+-- one write is the first of several
+pub put-wrote : {most : ℕ} (o : List ℕ) (a : ℕ) (bs p : List ℕ) (r : ℕ) → Put most o a bs p r → Wrote most o a bs p r
+unfolding putBelow putIn
+put-wrote {most = most} o a bs p r w =
+    record {
+      kept = ap length (w .held) ∙ length-put-below most o a bs;
+      place = w .place;
+      done =
+          λ l h. w .held
+          ∙ if-true _ _ _ (lt-ltb (a + length bs) most (omega (arith, w .place)))
+          ∙ if-true _ _ _ (le-leb (a + length bs) (length o) (omega (arith, w .place)));
+    }
+
+-- what was laid down where it has room
+pub wrote-put : {most : ℕ} (o : List ℕ) (a : ℕ) (bs p : List ℕ) (r : ℕ) → r ≡ min (a + length bs) most → r < most → r ≤ length o → p ≡ putAt o a bs
+    → Wrote most o a bs p r
+wrote-put o a bs p r e l h q = put-wrote o a bs p r (put-room o a bs p r e l h q)
 
 -- ---- few bytes, the first eight and the last eight
 
@@ -199,7 +236,7 @@ wrote-wrote {most = most} o a xs p r ys q s w v =
           ∙ put-put o a xs ys (omega (arith, w .place, v .place));
     }
 
-pub ruleset writes = (wrote-wrote, needs)
+pub ruleset writes = (wrote-wrote, put-wrote, needs)
 
 -- four of them
 pub wrote-four : {most : ℕ} (o : List ℕ) (a : ℕ) (w p : List ℕ) (r : ℕ) (x q : List ℕ) (s : ℕ) (y t : List ℕ) (u : ℕ) (z v : List ℕ) (b : ℕ)

@@ -1,10 +1,11 @@
--- What writing into a lent buffer does, and what is answered. Each write gives the place behind it, counted up to a most: bytes are written where all
--- of them have room; nothing is said of a buffer that was too short but its length. Document 01, "Numbers given back": 10 where the buffer is too
--- short; bytes behind what is written stay; a refusal changes no lent byte.
+-- What writing into a lent buffer does, and what is answered. One write lays its bytes down where all of them have room, and else leaves the buffer as it was
+-- lent (`Put`). Of several writes, each at the place behind the one before, so much is kept: the length of the buffer, the place behind, and all of the
+-- bytes where all of them have room (`Wrote`). Document 01, "Numbers given back": 10 where the buffer is too short; bytes behind what is written stay; a
+-- refusal changes no lent byte.
 use mathlib.Core.Path.{_≡_}
 use mathlib.Core.List.{List, _++_}
 use Prim.Native.Nat.{ℕ, _+_, _≤_, _<_, min}
-use lib.Dec.{leb}
+use lib.Dec.{leb, ltb}
 use lib.ListN.{length, take, drop}
 use Rattle.base.specs.If.{ifB}
 use Rattle.base.specs.Part.{putAt}
@@ -12,15 +13,24 @@ use Rattle.base.specs.Answer.{verdict}
 use Rattle.base.specs.declared.Verdict.{Verdict}
 use Rattle.output.specs.declared.Written.{Written as Answer}
 
--- buffer o with bs written at place a became p, and r is the place behind, or `most`
+-- buffer o with bs at place a, if all of it has room there
+unfoldable pub putIn : List ℕ → ℕ → List ℕ → List ℕ
+putIn o a bs = ifB (leb (a + length bs) (length o)) (putAt o a bs) o
+
+-- and if it ends before place `most`
+unfoldable pub putBelow : ℕ → List ℕ → ℕ → List ℕ → List ℕ
+putBelow most o a bs = ifB (ltb (a + length bs) most) (putIn o a bs) o
+
+-- one write of bs at place a, after which buffer o is p, and r is the place behind, or `most`
+pub record Put (most : ℕ) (o : List ℕ) (a : ℕ) (bs p : List ℕ) (r : ℕ) : Type 0 where
+  pub place : r ≡ min (a + length bs) most
+  pub held : p ≡ putBelow most o a bs
+
+-- writes of bs, one behind the other from place a on, after which buffer o is p, and r is the place behind, or `most`
 pub record Wrote (most : ℕ) (o : List ℕ) (a : ℕ) (bs p : List ℕ) (r : ℕ) : Type 0 where
   pub kept : length p ≡ length o
   pub place : r ≡ min (a + length bs) most
   pub done : r < most → r ≤ length o → p ≡ putAt o a bs
-
--- buffer o with bs at place a, if all of it has room there
-unfoldable pub putIn : List ℕ → ℕ → List ℕ → List ℕ
-putIn o a bs = ifB (leb (a + length bs) (length o)) (putAt o a bs) o
 
 -- 8 to 16 bytes
 pub record Short (n : ℕ) : Type 0 where

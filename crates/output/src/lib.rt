@@ -4,7 +4,7 @@ ghost use Prim.Native.Nat.{_+_, _≤_, min};
 ghost use lib.ListN.{length};
 ghost use Rattle.base.specs.Part.{part, putAt};
 ghost use Rattle.base.specs.Digits.{digits};
-ghost use Rattle.output.specs.Output.{Wrote, Short, putIn, refusalOf, writtenOf};
+ghost use Rattle.output.specs.Output.{Put, Short, putIn, refusalOf, writtenOf};
 use base::Verdict;
 
 // What writing answers: the number given back, with its place, and the length of what was written, 0 with a refusal.
@@ -67,9 +67,9 @@ fn copy_to(out: &mut [u8], at: usize, s: &[u8])
     }
 }
 
-// Writes s at a place if it has room there before place `most`, and gives the place behind.
+// Writes s at a place if all of it has room there before place `most`, and gives the place behind.
 pub fn put_bytes(out: &mut [u8], at: usize, s: &[u8], most: usize) -> usize
-    ensures { λ r. ⌜ Wrote most (now (out .entry)) at (now (s .entry)) (now (out .exit)) r ⌝ }
+    ensures { λ r. ⌜ Put most (now (out .entry)) at (now (s .entry)) (now (out .exit)) r ⌝ }
 {
     let end = behind(at, s.len(), most);
     if most <= end {
