@@ -36,6 +36,7 @@ use Rattle.content.specs.declared.FileAt.{FileAt}
 use Rattle.content.specs.declared.NextFile.{NextFile}
 use Rattle.content.specs.declared.NextFile.the-variants.{At, Nowhere}
 use Rattle.content.proofs.Sections.{start-fits, end-fits, sees, unseen, item-within, item-start, item-end, item-falls}
+use Rattle.content.proofs.Cases.{said}
 
 pub ruleset values = (value-some, value-none, needs)
 
@@ -212,7 +213,7 @@ file-behind s f at x e = e
 pub behind-fits : (s : List ℕ) (f : FileAt) → length s < 18446744073709551616 → f .second ≤ length s → 80 ≤ length s - f .second → Fits w64 (f .second + 80)
 behind-fits s f h a b = record { fits = omega arith }
 
-pub ruleset follows = (first-file, next-outside, next-cut, next-file, file-behind, behind-fits, needs)
+pub ruleset follows = (first-file, next-outside, next-cut, next-file, file-behind, behind-fits, said, needs)
 
 -- ---- files by their numbers
 

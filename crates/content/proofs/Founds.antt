@@ -28,6 +28,7 @@ use Rattle.content.specs.declared.unit.Place.{Place}
 use Rattle.content.specs.declared.unit.Place.the-variants.{At as Behind, Nowhere}
 use Rattle.content.specs.declared.measuring.Measured.{Measured}
 use Rattle.content.specs.declared.measuring.Measured.the-variants.{Whole, Split, Nothing}
+use Rattle.content.proofs.Cases.{said}
 
 -- ---- a walk begun
 
@@ -51,7 +52,7 @@ pub begin-nowhere : (s : List ℕ) (n : ℕ) (v : Verdict) (x : NextFile) (a : V
 unfolding begunBy
 begin-nowhere s n v x a e h k q m = ap NotBegun m ∙ ap begunBy (sym q) ∙ begun-by s n v x e h k
 
-pub ruleset begins = (begin-refused, begin-at, begin-nowhere, needs)
+pub ruleset begins = (begin-refused, begin-at, begin-nowhere, said, needs)
 
 -- ---- records passed
 
@@ -171,7 +172,7 @@ unfolding leftAt
 left-by s old new n r b e h = h ∙ ap (leftFrom s r old) e
 
 pub ruleset founds =
-    (found-there, found-here, found-no, in-nowhere, in-at, left-nowhere, left-at, from-no, from-zero, from-at, kept-no, kept-zero, left-from, found-at, left-by, needs)
+    (found-there, found-here, found-no, in-nowhere, in-at, left-nowhere, left-at, from-no, from-zero, from-at, kept-no, kept-zero, left-from, found-at, left-by, said, needs)
 
 -- ---- the part itself
 

@@ -1,4 +1,5 @@
 mod Composed
+pub mod Cases
 pub mod Sections
 pub mod Searches
 pub mod Units

@@ -17,6 +17,7 @@ use Rattle.content.specs.declared.Step.the-variants.{InImage, Joined, Re
 use Rattle.content.specs.declared.measuring.Measured.{Measured}
 use Rattle.content.specs.declared.measuring.Measured.the-variants.{Whole, Split, Nothing}
 use Rattle.content.proofs.Joins.{split-inside}
+use Rattle.content.proofs.Cases.{said}
 
 -- a record by its measure
 nothing-by : (room : ℕ) (old : List ℕ) (x : Record) → measuredBy x ≡ Nothing → (Refused 13 ≡ stepBy room x) × (old ≡ joinBy old x)
@@ -95,4 +96,4 @@ split-stands s w n v m room e q h =
     record { is = c .is; inside = split-inside s w (c .is); fits = omega arith }
 
 pub ruleset steps =
-    (step-nothing, kept-nothing, step-whole, kept-whole, step-long, kept-long, step-joined, put-joined, split-stands, needs)
+    (step-nothing, kept-nothing, step-whole, kept-whole, step-long, kept-long, step-joined, put-joined, split-stands, said, needs)

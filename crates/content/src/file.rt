@@ -7,6 +7,7 @@ ghost use Rattle.base.specs.Part.{part};
 ghost use Rattle.image.specs.Item.{decode};
 ghost use Rattle.volume.specs.Fault.{valueOf};
 ghost use Rattle.content.specs.File.{markFrom, walkFrom, beginsFile, goesOnBehind, firstBehind, headerFrom, firstFile, nextFile, fileBehind, filesOn, fileNumbered};
+ghost use Rattle.content.specs.Numbers.{fileOf, Said};
 use crate::FileAt;
 use crate::NextFile;
 use crate::Walk;
@@ -146,14 +147,14 @@ fn header_from(image: &[u8], due: Phase, header: usize, from: usize) -> NextFile
 
 // The first file of an image, whatever its bytes.
 pub fn first_file(image: &[u8]) -> NextFile
-    ensures { λ r. ⌜ r ≡ firstFile (now (image .entry)) ⌝ }
+    ensures { λ r. ⌜ Said fileOf r (firstFile (now (image .entry))) ⌝ }
 {
     header_from(image, Phase::Reel, image.len(), 5)
 }
 
 // The file behind one, be its places right or forged. Nothing stands behind an HDR2 that runs past the image.
 pub fn next_file(image: &[u8], f: FileAt) -> NextFile
-    ensures { λ r. ⌜ r ≡ nextFile (now (image .entry)) f ⌝ }
+    ensures { λ r. ⌜ Said fileOf r (nextFile (now (image .entry)) f) ⌝ }
 {
     let second = f.second;
     if image.len() < second {
@@ -167,7 +168,7 @@ pub fn next_file(image: &[u8], f: FileAt) -> NextFile
 
 // The file behind one, from a place between two items of its data on, be that right or forged.
 pub fn file_behind(image: &[u8], f: FileAt, at: usize) -> NextFile
-    ensures { λ r. ⌜ r ≡ fileBehind (now (image .entry)) f at ⌝ }
+    ensures { λ r. ⌜ Said fileOf r (fileBehind (now (image .entry)) f at) ⌝ }
 {
     header_from(image, Phase::Data, f.first, at)
 }

@@ -4,6 +4,7 @@ mod counting; // counting.rt: how many records, how long, and where they end
 mod file; // file.rt: the files of a set, one after the other
 mod join; // join.rt: segments joined in a buffer
 mod measuring; // measuring.rt: the record at a place, by its numbers
+mod numbers; // numbers.rt: an answer as document 01's number and values
 mod section; // section.rt: the next data block of a file
 mod segment; // segment.rt: a record segment by segment
 mod unit; // unit.rt: the next unit of a file
@@ -19,6 +20,12 @@ pub use measuring::Measured;
 pub use measuring::at_block;
 pub use measuring::measure;
 pub use measuring::whole_at;
+pub use numbers::Beginning;
+pub use numbers::Located;
+pub use numbers::Stepped;
+pub use numbers::beginning_of;
+pub use numbers::record_of;
+pub use numbers::stepped_of;
 pub use segment::first_segment;
 pub use segment::next_segment;
 pub use unit::Taken;
@@ -27,6 +34,7 @@ ghost use lib.ListN.{length};
 ghost use Rattle.base.specs.Answer.{verdict};
 ghost use Rattle.content.specs.Walk.{stepAt, joinAt};
 ghost use Rattle.content.specs.File.{begunAt};
+ghost use Rattle.content.specs.Numbers.{recordOf, beginningOf, steppedOf, Said};
 ghost use Rattle.content.specs.Found.{passed, foundBy, foundIn, leftIn, foundFrom, leftFrom, foundAt, leftAt, partOf};
 use base::Verdict;
 use base::part_of;
@@ -84,7 +92,7 @@ impl Walk {
     // The record at the walk's place: 13 where there is none, 10 where it has several segments and is longer than the buffer.
     // A record of one unit changes no byte of the buffer, a joined one its own bytes at the front, a refusal none.
     pub fn step(self, image: &[u8], join: &mut [u8]) -> Step
-        ensures { λ r. ⌜ r ≡ stepAt (now (image .entry)) (length (now (join .entry))) self ⌝ }
+        ensures { λ r. ⌜ Said (steppedOf self) r (stepAt (now (image .entry)) (length (now (join .entry))) self) ⌝ }
         ensures { λ r. ⌜ now (join .exit) ≡ joinAt (now (image .entry)) (now (join .entry)) self ⌝ }
     {
         match measure(image, self) {
@@ -102,7 +110,7 @@ impl Walk {
 }
 
 // An answer without a place.
-fn answer(number: u32) -> Verdict
+pub(crate) fn answer(number: u32) -> Verdict
     ensures { λ r. ⌜ r ≡ verdict number 0 0 ⌝ }
 {
     Verdict {
@@ -114,7 +122,7 @@ fn answer(number: u32) -> Verdict
 
 // A file by its number, from 1, with the walk at its first record: the image's own number, then 13 where there is no such file.
 pub fn begin(image: &[u8], file: u64) -> Begun
-    ensures { λ r. ⌜ r ≡ begunAt (now (image .entry)) file ⌝ }
+    ensures { λ r. ⌜ Said beginningOf r (begunAt (now (image .entry)) file) ⌝ }
 {
     let v = check(image);
     if v.number != 0 {
@@ -190,7 +198,7 @@ fn found_from(image: &[u8], begun: Begun, r: u64, join: &mut [u8]) -> Found
 // Record r of file n, both from 1: the image's own number, then 13, then 10, the latter two with place 0.
 // A record of one unit is a part of the image and changes no byte of the buffer; one of several is joined into the front of the buffer.
 pub fn record(image: &[u8], file: u64, r: u64, join: &mut [u8]) -> Found
-    ensures { λ f. ⌜ f ≡ foundAt (now (image .entry)) file r (length (now (join .entry))) ⌝ }
+    ensures { λ f. ⌜ Said recordOf f (foundAt (now (image .entry)) file r (length (now (join .entry)))) ⌝ }
     ensures { λ f. ⌜ now (join .exit) ≡ leftAt (now (image .entry)) file r (now (join .entry)) ⌝ }
 {
     found_from(image, begin(image, file), r, join)

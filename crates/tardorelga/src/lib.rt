@@ -1,7 +1,6 @@
 // The operations as C and Rust call them: a slice is a pointer and a length, a result is a struct of numbers by value.
 ghost use mathlib.Core.Path.{_≡_};
 ghost use lib.ListN.{length};
-ghost use Rattle.base.specs.Answer.{verdict};
 ghost use Rattle.output.specs.Output.{Answers, AnswersAt, fitted};
 ghost use Rattle.simh.specs.Set.{fromSimh, toSimh, Converts};
 ghost use Rattle.volume.specs.Run.{imageVerdict};
@@ -9,142 +8,25 @@ ghost use Rattle.content.specs.File.{begunAt};
 ghost use Rattle.content.specs.Records.{recordsAt, factsOf};
 ghost use Rattle.content.specs.Found.{foundAt, leftAt};
 ghost use Rattle.content.specs.Walk.{stepAt, joinAt};
+ghost use Rattle.content.specs.Numbers.{recordOf, beginningOf, steppedOf};
 ghost use Rattle.listing.specs.Text.{textOf};
 ghost use Rattle.writer.specs.Write.{write};
 ghost use Rattle.writer.specs.Sets.{flat};
 ghost use Rattle.writer.specs.Rewrite.{rewrite};
-ghost use Rattle.tardorelga.specs.Numbers.{recordOf, beginningOf, steppedOf};
 use base::Verdict;
-use content::Begun;
+use content::Beginning;
 use content::Facts;
-use content::Found;
-use content::Step;
+use content::Located;
+use content::Stepped;
 use content::Walk;
 use content::begin;
+use content::beginning_of;
 use content::file_facts;
 use content::record;
+use content::record_of;
+use content::stepped_of;
 use output::Written;
 use simh::Tapes;
-
-// Where a record is: with `joined` 0 that part of the image, with 1 the front of the joining buffer.
-#[repr(C)]
-pub struct Record {
-    pub verdict: Verdict,
-    pub joined: u32,
-    pub start: u64,
-    pub len: u64,
-}
-
-// A file by its number: the places of its first HDR1 and HDR2 in the image, and the walk at its first record; with a refusal it stands nowhere.
-#[repr(C)]
-pub struct Beginning {
-    pub verdict: Verdict,
-    pub first: u64,
-    pub second: u64,
-    pub walk: Walk,
-}
-
-// A step of a walk: number 0, 10 or 13; the record as in Record; and the walk behind it, or where it stood with 10 and 13.
-#[repr(C)]
-pub struct Stepped {
-    pub number: u32,
-    pub joined: u32,
-    pub start: u64,
-    pub len: u64,
-    pub walk: Walk,
-}
-
-// Done, without a place.
-fn done() -> Verdict
-    ensures { λ r. ⌜ r ≡ verdict 0 0 0 ⌝ }
-{
-    Verdict {
-        number: 0,
-        item: 0,
-        byte: 0,
-    }
-}
-
-fn record_of(found: Found) -> Record
-    ensures { λ r. ⌜ r ≡ recordOf found ⌝ }
-{
-    match found {
-        Found::InImage(start, len) => Record {
-            verdict: done(),
-            joined: 0,
-            start: start as u64,
-            len: len as u64,
-        },
-        Found::Joined(len) => Record {
-            verdict: done(),
-            joined: 1,
-            start: 0,
-            len: len as u64,
-        },
-        Found::Refused(verdict) => Record {
-            verdict,
-            joined: 0,
-            start: 0,
-            len: 0,
-        },
-    }
-}
-
-fn beginning_of(begun: Begun) -> Beginning
-    ensures { λ r. ⌜ r ≡ beginningOf begun ⌝ }
-{
-    match begun {
-        Begun::At(f) => {
-            let walk = f.walk;
-            Beginning {
-                verdict: done(),
-                first: f.first as u64,
-                second: f.second as u64,
-                walk,
-            }
-        }
-        Begun::Refused(verdict) => Beginning {
-            verdict,
-            first: 0,
-            second: 0,
-            walk: Walk {
-                format: 0,
-                size: 0,
-                offset: 0,
-                at: 0,
-                left: 0,
-            },
-        },
-    }
-}
-
-fn stepped_of(from: Walk, step: Step) -> Stepped
-    ensures { λ r. ⌜ r ≡ steppedOf from step ⌝ }
-{
-    match step {
-        Step::InImage(start, len, walk) => Stepped {
-            number: 0,
-            joined: 0,
-            start: start as u64,
-            len: len as u64,
-            walk,
-        },
-        Step::Joined(len, walk) => Stepped {
-            number: 0,
-            joined: 1,
-            start: 0,
-            len: len as u64,
-            walk,
-        },
-        Step::Refused(number) => Stepped {
-            number,
-            joined: 0,
-            start: 0,
-            len: 0,
-            walk: from,
-        },
-    }
-}
 
 // The verdict on an image, whatever its bytes.
 #[no_mangle]
@@ -156,7 +38,7 @@ pub extern "C" fn tardorelga_check(image: &[u8]) -> Verdict
 
 // Record r of file n, both from 1; one of several segments is joined into the front of the lent buffer.
 #[no_mangle]
-pub extern "C" fn tardorelga_record(image: &[u8], n: u64, r: u64, join: &mut [u8]) -> Record
+pub extern "C" fn tardorelga_record(image: &[u8], n: u64, r: u64, join: &mut [u8]) -> Located
     ensures { λ x. ⌜ x ≡ recordOf (foundAt (now (image .entry)) n r (length (now (join .entry)))) ⌝ }
     ensures { λ x. ⌜ now (join .exit) ≡ leftAt (now (image .entry)) n r (now (join .entry)) ⌝ }
 {
@@ -223,7 +105,7 @@ pub extern "C" fn tardorelga_rewrite(
 ) -> Written
     ensures { λ r. ⌜ AnswersAt (rewrite (now (image .entry)) quota (now (names .entry)) (now (out .entry))) r (now (out .exit)) ⌝ }
 {
-    normal::rewrite(image, quota, names, out)
+    writer::rewrite(image, quota, names, out)
 }
 
 // Converts a set of SIMH files, one a reel, which stand end to end and have these lengths, into an image in a lent buffer.

@@ -1,18 +1,18 @@
-use Rattle.tardorelga.proofs.Cases.{cases}
-use Rattle.tardorelga.proofs.record_of.Statement.{statement}
-use Rattle.tardorelga.proofs.record_of.Tie as tie
+use Rattle.content.proofs.Cases.{cases}
+use Rattle.content.proofs.numbers.record_of.Statement.{statement}
+use Rattle.content.proofs.numbers.record_of.Tie as tie
 
 enum-known-found : tie.Need-enum-known-found
 enum-known-found c = search cases
 
-done-requires : tie.Need-done-requires
-done-requires c κs = search cases
+answer-requires : tie.Need-answer-requires
+answer-requires c κs = search cases
 
 enum-known-found-2 : tie.Need-enum-known-found-2
 enum-known-found-2 c = search cases
 
-done-requires-2 : tie.Need-done-requires-2
-done-requires-2 c κs = search cases
+answer-requires-2 : tie.Need-answer-requires-2
+answer-requires-2 c κs = search cases
 
 enum-known-found-3 : tie.Need-enum-known-found-3
 enum-known-found-3 c = search cases
@@ -31,9 +31,9 @@ record-of-spec =
     tie.close
     (tie.spec
     enum-known-found
-    done-requires
+    answer-requires
     enum-known-found-2
-    done-requires-2
+    answer-requires-2
     enum-known-found-3
     returns
     returns-2
