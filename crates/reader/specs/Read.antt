@@ -6,18 +6,18 @@ use Rattle.base.specs.Answer.{verdict}
 use Rattle.content.specs.Walk.{stepAt}
 use Rattle.content.specs.File.{begunAt}
 use Rattle.content.specs.Found.{foundBy}
+use Rattle.content.specs.Numbers.{recordOf, noWalk}
+use Rattle.content.specs.Records.{recordsAt, factsOf}
 use Rattle.content.specs.declared.Walk.{Walk}
+use Rattle.content.specs.declared.numbers.Located.{Located}
 use Rattle.content.specs.declared.Step.{Step}
 use Rattle.content.specs.declared.Step.the-variants.{InImage, Joined, Refused}
 use Rattle.content.specs.declared.Begun.{Begun}
 use Rattle.content.specs.declared.Begun.the-variants.{At, Refused as NotBegun}
 use Rattle.reader.specs.declared.Opened.{Opened}
+use Rattle.reader.specs.declared.FileFacts.{FileFacts}
 use Rattle.reader.specs.declared.Reading.{Reading}
 use Rattle.reader.specs.declared.Reader.{Reader}
-
--- the place of no file: no record stands there
-abbrev pub nowhere : Walk
-nowhere = record { format = 0; size = 0; offset = 0; at = 0; left = 0 }
 
 -- ---- opening a file
 
@@ -28,9 +28,9 @@ openedBy w (NotBegun a) = record { verdict = a; walk = w }
 unfoldable pub openedAt : List ℕ → Walk → ℕ → Opened
 openedAt s w n = openedBy w (begunAt s n)
 
--- the place at which file n begins, if it can be opened
-unfoldable pub startOf : List ℕ → ℕ → Walk
-startOf s n = openedAt s nowhere n .walk
+-- file n opened from nowhere, and the facts of the records from there on; with a refusal that is nowhere, and there are none (`nowhere-none`, proofs/Places.antt)
+unfoldable pub countAt : List ℕ → ℕ → FileFacts
+countAt s n = record { verdict = openedAt s noWalk n .verdict; facts = factsOf (recordsAt s (openedAt s noWalk n .walk)) }
 
 -- ---- the next record
 
@@ -45,6 +45,10 @@ readBy w x = record { found = foundBy x; walk = walkBehind w x }
 
 unfoldable pub readAt : List ℕ → ℕ → Walk → Reading
 readAt s room w = readBy w (stepAt s room w)
+
+-- the record of a reading, in document 01's numbers
+abbrev pub locatedBy : Reading → Located
+locatedBy x = recordOf (x .found)
 
 -- the same image, at another place
 abbrev pub moved : Reader → Walk → Reader

@@ -1,10 +1,11 @@
 // A reader: it keeps the lent image together with its place, and offers the steps of a walk. It knows no byte of an image: each of its functions
-// takes the reader apart and leaves the work to `content`.
+// takes the reader apart, or makes one for a call, and leaves the work to `content`.
 ghost use mathlib.Core.Path.{_≡_};
 ghost use lib.ListN.{length};
+ghost use Rattle.content.specs.Numbers.{recordOf, Said};
 ghost use Rattle.content.specs.Records.{recordsAt, factsOf};
 ghost use Rattle.content.specs.Walk.{joinAt};
-ghost use Rattle.reader.specs.Read.{openedBy, openedAt, readBy, readAt, startOf, moved};
+ghost use Rattle.reader.specs.Read.{openedBy, openedAt, readBy, readAt, locatedBy, countAt, moved};
 use base::Verdict;
 use content::Begun;
 use content::Facts;
@@ -26,13 +27,19 @@ pub struct Opened {
     pub walk: Walk,
 }
 
+// The verdict of a file's opening, and the facts of its records.
+pub struct FileFacts {
+    pub verdict: Verdict,
+    pub facts: Facts,
+}
+
 // What a step says of the record, and the place behind it.
 pub struct Reading {
     pub found: Found,
     pub walk: Walk,
 }
 
-// A refusal does not move the place.
+// What opening a file says, by how it begins; a refusal does not move the place.
 fn opened_by(w: Walk, begun: Begun) -> Opened
     ensures { λ r. ⌜ r ≡ openedBy w begun ⌝ }
 {
@@ -55,12 +62,14 @@ fn opened_by(w: Walk, begun: Begun) -> Opened
     }
 }
 
-fn opened_at(image: &[u8], w: Walk, file: u64) -> Opened
+// The opening of a file, with the reader taken apart.
+fn begin_at(image: &[u8], w: Walk, file: u64) -> Opened
     ensures { λ r. ⌜ r ≡ openedAt (now (image .entry)) w file ⌝ }
 {
     opened_by(w, begin(image, file))
 }
 
+// What a reading is, by the step; a refusal does not move the place.
 fn read_by(w: Walk, x: Step) -> Reading
     ensures { λ r. ⌜ r ≡ readBy w x ⌝ }
 {
@@ -84,26 +93,12 @@ fn read_by(w: Walk, x: Step) -> Reading
     }
 }
 
-fn read_at(image: &[u8], w: Walk, join: &mut [u8]) -> Reading
+// The next record, with the reader taken apart.
+fn step_at(image: &[u8], w: Walk, join: &mut [u8]) -> Reading
     ensures { λ r. ⌜ r ≡ readAt (now (image .entry)) (length (now (join .entry))) w ⌝ }
     ensures { λ r. ⌜ now (join .exit) ≡ joinAt (now (image .entry)) (now (join .entry)) w ⌝ }
 {
     read_by(w, w.step(image, join))
-}
-
-// The place at which a file begins, or that of no file.
-fn start_of(image: &[u8], file: u64) -> Walk
-    ensures { λ r. ⌜ r ≡ startOf (now (image .entry)) file ⌝ }
-{
-    let none = Walk {
-        format: 0,
-        size: 0,
-        offset: 0,
-        at: 0,
-        left: 0,
-    };
-    let opened = opened_at(image, none, file);
-    opened.walk
 }
 
 // A reader at a walk's place.
@@ -125,7 +120,7 @@ pub fn open_file<'s, 'a>(r: &'s mut Reader<'a>, file: u64) -> Verdict
     ensures { λ v. ⌜ (v ≡ openedAt (now (now (r .entry) .image)) (now (r .entry) .walk) file .verdict)
         × (now (r .exit) ≡ moved (now (r .entry)) (openedAt (now (now (r .entry) .image)) (now (r .entry) .walk) file .walk)) ⌝ }
 {
-    let o = opened_at(r.image, r.walk, file);
+    let o = begin_at(r.image, r.walk, file);
     r.walk = o.walk;
     o.verdict
 }
@@ -133,18 +128,61 @@ pub fn open_file<'s, 'a>(r: &'s mut Reader<'a>, file: u64) -> Verdict
 // The next record, as a step of a walk gives it: a part of the image, or the front of the joining buffer, or 13 or 10. With a refusal the reader
 // stays where it stood, and no byte is changed.
 pub fn next<'s, 'a, 'j>(r: &'s mut Reader<'a>, join: &'j mut [u8]) -> Found
-    ensures { λ f. ⌜ (f ≡ readAt (now (now (r .entry) .image)) (length (now (join .entry))) (now (r .entry) .walk) .found)
+    ensures { λ f. ⌜ Said recordOf f (readAt (now (now (r .entry) .image)) (length (now (join .entry))) (now (r .entry) .walk) .found)
         × (now (join .exit) ≡ joinAt (now (now (r .entry) .image)) (now (join .entry)) (now (r .entry) .walk))
         × (now (r .exit) ≡ moved (now (r .entry)) (readAt (now (now (r .entry) .image)) (length (now (join .entry))) (now (r .entry) .walk) .walk)) ⌝ }
 {
-    let x = read_at(r.image, r.walk, join);
+    let x = step_at(r.image, r.walk, join);
     r.walk = x.walk;
     x.found
 }
 
-// How many records a file has, and how many bytes they have; none where it cannot be opened.
-pub fn count(image: &[u8], file: u64) -> Facts
-    ensures { λ f. ⌜ f ≡ factsOf (recordsAt (now (image .entry)) (startOf (now (image .entry)) file)) ⌝ }
+// A file opened by a reader that stands at a walk's place, for a caller that keeps the place and no reader.
+pub fn open_at(image: &[u8], walk: Walk, file: u64) -> Opened
+    ensures { λ o. ⌜ o ≡ openedAt (now (image .entry)) walk file ⌝ }
 {
-    left(new(image, start_of(image, file)))
+    let mut r = new(image, walk);
+    let verdict = open_file(&mut r, file);
+    Opened {
+        verdict,
+        walk: r.walk,
+    }
+}
+
+// The next record of a reader that stands at a walk's place, for a caller that keeps the place and no reader.
+pub fn next_at(image: &[u8], walk: Walk, join: &mut [u8]) -> Reading
+    ensures { λ x. ⌜ Said locatedBy x (readAt (now (image .entry)) (length (now (join .entry))) walk)
+        × (now (join .exit) ≡ joinAt (now (image .entry)) (now (join .entry)) walk) ⌝ }
+{
+    let mut r = new(image, walk);
+    let found = next(&mut r, join);
+    Reading {
+        found,
+        walk: r.walk,
+    }
+}
+
+// The facts of the records from a walk's place on, as a reader there has them.
+fn facts_from(image: &[u8], walk: Walk) -> Facts
+    ensures { λ f. ⌜ f ≡ factsOf (recordsAt (now (image .entry)) walk) ⌝ }
+{
+    left(new(image, walk))
+}
+
+// How many records a file has, and how many bytes they have, with the verdict of its opening: none with a refusal.
+pub fn count(image: &[u8], file: u64) -> FileFacts
+    ensures { λ r. ⌜ r ≡ countAt (now (image .entry)) file ⌝ }
+{
+    let none = Walk {
+        format: 0,
+        size: 0,
+        offset: 0,
+        at: 0,
+        left: 0,
+    };
+    let opened = begin_at(image, none, file);
+    let verdict = opened.verdict;
+    let walk = opened.walk;
+    let facts = facts_from(image, walk);
+    FileFacts { verdict, facts }
 }

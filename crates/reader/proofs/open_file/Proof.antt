@@ -1,4 +1,4 @@
--- `reader::open_file` meets its contract: a walk of its MIR, by hand. The borrow is opened, `opened_at` is called on the image and the walk that the struct
+-- `reader::open_file` meets its contract: a walk of its MIR, by hand. The borrow is opened, `begin_at` is called on the image and the walk that the struct
 -- holds, the walk that it returned is stored, and the borrow is closed at the struct with that walk.
 -- The struct is Copy: what it owns is had twice, and one copy goes to the callee, field by field. What the image owns is kept, and the facts of the
 -- walk are made anew: `again`.
@@ -58,10 +58,10 @@ use Rattle.reader.proofs.Opened as O
 use Rattle.reader.proofs.Opened.Laws as O′
 use Rattle.reader.proofs.Reader as T
 use Rattle.reader.proofs.Reader.Laws as T′
-use Rattle.reader.proofs.opened_at as callee
-use Rattle.reader.proofs.opened_at.Symbol as callee-def
-use Rattle.reader.proofs.opened_at.Symbol.{name as #reader·opened-at}
-use Rattle.reader.proofs.opened_at.Met as callee-thm
+use Rattle.reader.proofs.begin_at as callee
+use Rattle.reader.proofs.begin_at.Symbol as callee-def
+use Rattle.reader.proofs.begin_at.Symbol.{name as #reader·begin-at}
+use Rattle.reader.proofs.begin_at.Met as callee-thm
 use Rattle.reader.proofs.open_file.Key.{name as #reader·open-file}
 use Rattle.reader.proofs.open_file as opening
 use Rattle.reader.proofs.open_file.Statement as stated
@@ -156,7 +156,7 @@ module _ {M : Type 1} (𝓤 : URA M) (H : Heap 𝓤) (A : Atoms 𝓤) (W : Given
       frame ! $ feqI ! (List Val) (vptr b o ∷ []) (vptr b o ∷ []) refl $ fjoin3 ! $ nothing ! $ owned ! u64 (Is u64) (uint-makes 𝓤 H A W w64) n _ (refl, fits) $ fjoin ! $ move ! (1 ∷ 0 ∷ []) $ fjoin ! $
       owned ! N.the-row (Is N.the-row) (LL.makes N.the-type N′.the-plain 𝓤 H A) (r .verdict) _ is $ move ! (1 ∷ 0 ∷ []) $ done !
 
-  module _ (C : Calls 𝓤 H) (Λ : Loops 𝓤 H) (fm : FmC 𝓤 H (W .laws) C) (known : Triple 𝓤 (C #reader·opened-at) (Called 𝓤 H A at-mem run)) where
+  module _ (C : Calls 𝓤 H) (Λ : Loops 𝓤 H) (fm : FmC 𝓤 H (W .laws) C) (known : Triple 𝓤 (C #reader·begin-at) (Called 𝓤 H A at-mem run)) where
     walk : ent 𝓤 (onEntry 𝓤 H A opening.signature (κ, (κ′, tt)) (q, (q′, tt)) x at) (WpFn 𝓤 H C Λ code.function (vptr b o ∷ vint w64 n ∷ []) Post)
     walk =
         qed W ((‵ (flft κ q) ⊛ ‵ (flft κ′ q′) ⊛ ‵ ftrue) ∷ ‵ (owns (MutRef (named 0) κ (B κ′) ∷ u64 ∷ []) x at) ∷ []) ∵ enter ! C Λ code.function (vptr b o ∷ vint w64 n ∷ []) _ $
@@ -187,13 +187,13 @@ module _ {M : Type 1} (𝓤 : URA M) (H : Heap 𝓤) (A : Atoms 𝓤) (W : Given
         keep ! (0 ∷ 1 ∷ 2 ∷ 3 ∷ []) $ by ! (exits r e (LL.owed O.the-type O′.the-laws r _ is .0))))))))))))))
 
 module _ {M : Type 1} (𝓤 : URA M) (H : Heap 𝓤) (A : Atoms 𝓤) (W : Given 𝓤 H A) (mem : Memory → SProp 𝓤) (run : Routine → Fun 𝓤) where
-  open-walks : (C : Calls 𝓤 H) (Λ : Loops 𝓤 H) → FmC 𝓤 H (W .laws) C → Triple 𝓤 (C #reader·opened-at) (Called 𝓤 H A mem run)
+  open-walks : (C : Calls 𝓤 H) (Λ : Loops 𝓤 H) → FmC 𝓤 H (W .laws) C → Triple 𝓤 (C #reader·begin-at) (Called 𝓤 H A mem run)
       → Walks 𝓤 H A opening.ended stayed (WpFn 𝓤 H C Λ code.function) (opening.clauses 𝓤 H A mem run)
   open-walks C Λ fm known = walked 𝓤 H A opening.ended stayed (opening.clauses 𝓤 H A mem run) (WpFn 𝓤 H C Λ code.function) (λ κs. (ptr-vals, (uint-vals w64, tt))) (λ κs. (mut-tells (named 0) (κs .0) (B (κs .1 .0)), (uint-tells w64, tt)))
       (λ κs qs bounds a g are. via 𝓤 _ (fst∗ 𝓤 _ (emp 𝓤)) (walk 𝓤 H A W mem run (κs .0) (κs .1 .0) (qs .0) (qs .1 .0) bounds (a .0 .ptr .0) (a .0 .ptr .1) (a .0 .name) (a .0 .now) (a .1 .0) (are .1 .0 .1) C Λ fm known))
 
 open-meets : {M : Type 1} (𝓤 : URA M) (H : Heap 𝓤) (A : Atoms 𝓤) (W : Given 𝓤 H A) (mem : Memory → SProp 𝓤) (run : Routine → Fun 𝓤) (𝓣 : Tables 𝓤 H)
-    → Triple 𝓤 (𝓣 .C #reader·opened-at) (Called 𝓤 H A mem run)
+    → Triple 𝓤 (𝓣 .C #reader·begin-at) (Called 𝓤 H A mem run)
     → Meets 𝓤 H A opening.signature (WpFn 𝓤 H (𝓣 .C) (𝓣 .Λ) code.function) (opening.spec 𝓤 H A mem run)
 open-meets 𝓤 H A W mem run 𝓣 known = walk-meets 𝓤 H A opening.ended stayed W (goes-ref 𝓤 H A W 2 0 tt behind, (goes-none 𝓤 H A W 2 (λ _. u64) yes (λ κs x f. refl), tt)) (opening.clauses 𝓤 H A mem run) (WpFn 𝓤 H (𝓣 .C) (𝓣 .Λ) code.function) (WpFn-mono 𝓤 H (W .laws) 𝓣 code.function)
     (open-walks 𝓤 H A W mem run (𝓣 .C) (𝓣 .Λ) (fmOf 𝓤 H (W .laws) 𝓣) known)
@@ -204,4 +204,4 @@ open-file-spec 𝓤 H 𝓜 𝓖 𝓡 =
     entered 𝓤 H (tripleOf 𝓤 H (𝓖 .A) opening.signature (opening.spec 𝓤 H (𝓖 .A) (𝓜 .mem) (𝓡 .run)))
     (tables 𝓤 H 𝓜 𝓡 code.env .C) (tables 𝓤 H 𝓜 𝓡 code.env .Λ) #reader·open-file code.function (code.unfolded 𝓤 H 𝓜 𝓡)
     (open-meets 𝓤 H (𝓖 .A) (givenOf 𝓤 H 𝓜 𝓖) (𝓜 .mem) (𝓡 .run) (tablesOf 𝓤 H 𝓜 (tables 𝓤 H 𝓜 𝓡 code.env))
-    (cited 𝓤 H (Called 𝓤 H (𝓖 .A) (𝓜 .mem) (𝓡 .run)) 𝓜 𝓡 code.env #reader·opened-at callee-def.routine code.calls-reader·opened-at (callee-thm.met 𝓤 H 𝓜 𝓖 𝓡)))
+    (cited 𝓤 H (Called 𝓤 H (𝓖 .A) (𝓜 .mem) (𝓡 .run)) 𝓜 𝓡 code.env #reader·begin-at callee-def.routine code.calls-reader·begin-at (callee-thm.met 𝓤 H 𝓜 𝓖 𝓡)))

@@ -1,6 +1,6 @@
 use Rattle.reader.proofs.Places.{places}
-use Rattle.reader.proofs.opened_at.Statement.{statement}
-use Rattle.reader.proofs.opened_at.Tie as tie
+use Rattle.reader.proofs.begin_at.Statement.{statement}
+use Rattle.reader.proofs.begin_at.Tie as tie
 
 begin-requires : tie.Need-begin-requires
 begin-requires c κs = search places
@@ -11,5 +11,5 @@ opened-by-requires c κs = search places
 returns : tie.Need-returns
 returns c = search places
 
-pub opened-at-spec : {M : Type 1} → statement M
-opened-at-spec = tie.close (tie.spec begin-requires opened-by-requires returns)
+pub begin-at-spec : {M : Type 1} → statement M
+begin-at-spec = tie.close (tie.spec begin-requires opened-by-requires returns)

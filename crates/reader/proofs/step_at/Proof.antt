@@ -1,6 +1,6 @@
 use Rattle.reader.proofs.Places.{places}
-use Rattle.reader.proofs.read_at.Statement.{statement}
-use Rattle.reader.proofs.read_at.Tie as tie
+use Rattle.reader.proofs.step_at.Statement.{statement}
+use Rattle.reader.proofs.step_at.Tie as tie
 
 step-requires : tie.Need-step-requires
 step-requires c κs = search places
@@ -14,5 +14,5 @@ same-length c = search places
 returns : tie.Need-returns
 returns c = search places
 
-pub read-at-spec : {M : Type 1} → statement M
-read-at-spec = tie.close (tie.spec step-requires read-by-requires same-length returns)
+pub step-at-spec : {M : Type 1} → statement M
+step-at-spec = tie.close (tie.spec step-requires read-by-requires same-length returns)
