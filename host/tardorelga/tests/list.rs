@@ -1,29 +1,16 @@
 //! The listing program, fed on standard input: what it writes is what the oracle lists.
 
-use cases::ledger::{base, base_with, files, set_of};
+mod program;
+
+use cases::ledger::{base, base_with, files};
 use oracle::generate::{image_of, Rng};
 use oracle::listing_of_input;
-use std::io::Write;
-use std::path::Path;
-use std::process::{Command, Stdio};
+use program::{of_length, written, TOO_LONG};
 use trials::images;
 
-/// What the program writes for this input; it ends well and complains of nothing.
 #[track_caller]
 fn listed(input: &[u8]) -> String {
-    let program = Path::new(env!("CARGO_MANIFEST_DIR")).join("../../target/bin/list");
-    let mut child = Command::new(&program)
-        .stdin(Stdio::piped())
-        .stdout(Stdio::piped())
-        .stderr(Stdio::piped())
-        .spawn()
-        .unwrap_or_else(|trouble| panic!("{}: {trouble}; build it first", program.display()));
-    // The program may stop reading behind the most bytes that it takes.
-    let _ = child.stdin.take().expect("a pipe").write_all(input);
-    let output = child.wait_with_output().expect("the program ends");
-    assert!(output.status.success(), "{:?}", output.status);
-    assert_eq!(output.stderr, b"");
-    String::from_utf8(output.stdout).expect("text")
+    String::from_utf8(written("list", input)).expect("text")
 }
 
 #[track_caller]
@@ -33,17 +20,6 @@ fn lists(input: &[u8], lines: &[&str]) {
 }
 
 const HEADING: &str = "SEQ FILE              FMT RECORDS BYTES";
-const TOO_LONG: &str = "refused 9 at item 0 byte 0";
-
-/// A set of one record, whose image has so many bytes.
-fn of_length(bytes: usize) -> Vec<u8> {
-    let empty = image_of(&set_of("F0000100001", "00", &[])).len();
-    let record = vec![b'A'; bytes - empty - 3];
-    let shape = format!("F{0:05}{0:05}", record.len());
-    let image = image_of(&set_of(&shape, "00", &[&record]));
-    assert_eq!(image.len(), bytes);
-    image
-}
 
 #[test]
 fn the_set_of_document_01() {
