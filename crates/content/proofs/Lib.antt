@@ -13,7 +13,5 @@ pub mod Founds
 pub mod Blocks
 pub mod Phases
 pub mod Walked
-pub mod Handed
-pub mod Refusals
 pub mod Records
 pub mod Unsplit

@@ -6,17 +6,12 @@ use Prim.Native.Nat.{ℕ, zero, suc, _+_, _≤_}
 use lib.ListN.{length}
 use Rattle.base.specs.Part.{part}
 use Rattle.volume.specs.Meaning.{File, fieldsFrom}
-use Rattle.content.specs.Walk.{Rest, ends, fails, Record, whole, split, nothing, recordAt, stepAt, joinAt}
+use Rattle.content.specs.Walk.{Rest, ends, fails, Record, whole, split, nothing, recordAt}
 use Rattle.content.specs.File.{nextFile, fileBehind}
-use Rattle.content.specs.Found.{foundBy, partOf}
 use Rattle.content.specs.declared.Walk.{Walk}
-use Rattle.content.specs.declared.Step.{Step}
-use Rattle.content.specs.declared.Step.the-variants.{InImage, Joined, Refused}
 use Rattle.content.specs.declared.FileAt.{FileAt}
 use Rattle.content.specs.declared.NextFile.{NextFile}
 use Rattle.content.specs.declared.NextFile.the-variants.{At as There, Nowhere as NoFile}
-use Rattle.content.specs.declared.unit.Place.{Place}
-use Rattle.content.specs.declared.unit.Place.the-variants.{At, Nowhere}
 
 -- the bytes of a record, as they are handed out, and the walk behind it; nothing is number 13
 unfoldable pub handed : List ℕ → Record → Rest
@@ -62,14 +57,3 @@ pub record FileIs (s : List ℕ) (f : FileAt) (d : File) : Type 0 where
 abbrev pub Filed : List ℕ → NextFile → List File → Type 0
 Filed s x [] = x ≡ NoFile
 Filed s x (d ∷ ds) = (f : FileAt) × (x ≡ There f) × FileIs s f d × Filed s (nextFile s f) ds
-
--- the walk behind a step
-unfoldable pub stepped : Step → Place
-stepped (InImage start n v) = At v
-stepped (Joined n v) = At v
-stepped (Refused k) = Nowhere
-
--- a step from w hands out r, in the image or in a buffer that held `old`, and moves the walk on to v
-pub record Gives (s old : List ℕ) (w : Walk) (r : List ℕ) (v : Walk) : Type 0 where
-  pub behind : stepped (stepAt s (length old) w) ≡ At v
-  pub bytes : partOf s (joinAt s old w) (foundBy (stepAt s (length old) w)) ≡ r

@@ -1,6 +1,6 @@
 -- The listing of a set. Document 01, "One whole set": a heading, and for each file a line with its sequence number, its identifier in 17 columns, its
 -- format, its records and its record bytes; counts have no leading zeros. Of a refused set one line says the number and its place.
--- Each line ends with a newline (house).
+-- Each line ends with a newline (docs/DECISIONS.md).
 use mathlib.Core.List.{List, [], _∷_, _++_, map}
 use Prim.Native.Nat.{ℕ, _+_}
 use Prim.Native.String.{String}
@@ -11,7 +11,6 @@ use Rattle.base.specs.Part.{part}
 use Rattle.base.specs.Digits.{digits}
 use Rattle.base.specs.declared.Verdict.{Verdict}
 use Rattle.base.specs.Sum.{sum}
-use Rattle.output.specs.Output.{Written, fitted}
 use Rattle.output.specs.Text.{bytes}
 use Rattle.volume.specs.Run.{imageVerdict}
 use Rattle.volume.specs.Meaning.{File, Meaning, content}

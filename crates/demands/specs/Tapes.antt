@@ -1,60 +1,27 @@
 -- Sets of reels in the SIMH form, which are read as the images that they are converted into (document 02, P1). Assumes nothing.
 use mathlib.Core.Path.{_≡_, refl, sym, ap, ap₂, _∙_, subst}
-use mathlib.Core.Bool.{_&&_}
 use mathlib.Core.Logic.{_↔_}
-use mathlib.Core.List.{List, map, flatten as endToEnd}
-use Prim.Native.Nat.{ℕ}
-use lib.Dec.{leb, eqb}
+use mathlib.Core.Bool.{true}
+use mathlib.Core.List.{List, [], _∷_, map, flatten as endToEnd}
+use Prim.Native.Nat.{ℕ, _+_}
+use native.Mathlib.Omega.{arith}
+use lib.Dec.{eqb}
 use lib.ListN.{length}
-use Rattle.base.specs.If.{if-case}
+use Rattle.base.specs.If.{ifB, if-case}
+use Rattle.base.specs.Sum.{sum}
 use Rattle.base.specs.Answer.{verdict}
 use Rattle.base.specs.declared.Verdict.{Verdict}
-use Rattle.image.specs.Item.{Item}
-use Rattle.image.specs.Framing.{mostImage, items, framing}
-use Rattle.output.specs.Output.{Result, refusedWith, placed, refused, imageIn}
-use Rattle.simh.specs.Set.{reelsIn, tapeVerdict, imageOf, fromSimh, filesOf, Converted, kept, stored, toSimh, tapeIn, lengthsIn}
+use Rattle.image.specs.Item.{Item, block, mark, reelEnd, broken}
+use Rattle.image.specs.Framing.{items, framing}
+use Rattle.output.specs.Output.{imageIn}
+use Rattle.simh.specs.Set.{torn, reelVerdict, reelsVerdict, reelsIn, isFew, tapeVerdict, fromSimh, filesOf, Converted, toSimh, tapeIn, lengthsIn}
 use Rattle.simh.proofs.Inverse.{In, from-zero, Out, to-zero, files-read, converted-items, converted-framing}
 use Rattle.simh.proofs.Reels.{reels-joined}
 use Rattle.volume.specs.State.{start}
-use Rattle.volume.specs.Run.{runs, imageVerdict}
-use Rattle.volume.specs.Accepted.{All, MayEnd}
+use Rattle.volume.specs.Run.{runs}
+use Rattle.volume.specs.Accepted.{All, MayEnd, Accepted}
 use Rattle.volume.specs.Meaning.{meaningOf, handedOut, content}
-use Rattle.volume.proofs.Accepted.{accepted-iff}
-use Rattle.normal.specs.Normal.{Kept}
-
--- ---- refusals
-
-pub from-kept : (tape lengths out : List ℕ) → Kept (fromSimh tape lengths out .verdict .number) (fromSimh tape lengths out .len) out (fromSimh tape lengths out .out)
-unfolding fromSimh refusedWith placed refused verdict
-from-kept tape lengths out =
-    if-case By (eqb (tapeVerdict tape lengths .number) 0) _ _
-    (λ _. if-case By (leb (length (imageOf tape lengths)) mostImage) _ _
-    (λ _. if-case (λ w. By (placed w)) (leb (length (imageOf tape lengths)) (length out)) _ _
-    (λ _. record { none = λ z. absurd (z refl); kept = λ z. absurd (z refl) }) (λ _. record { none = λ _. refl; kept = λ _. refl }))
-    (λ _. record { none = λ _. refl; kept = λ _. refl }))
-    (λ _. record { none = λ _. refl; kept = λ _. refl })
-  where
-    By : Result → Type 0
-    By r = Kept (r .verdict .number) (r .len) out (r .out)
-
--- both buffers of a conversion into files
-pub record BothKept (out lengths : List ℕ) (c : Converted) : Type 0 where
-  pub bytes : Kept (c .verdict .number) (c .len) out (c .out)
-  pub list : Kept (c .verdict .number) (c .files) lengths (c .lengths)
-
-pub to-kept : (s out lengths : List ℕ) → BothKept out lengths (toSimh s out lengths)
-unfolding toSimh stored kept verdict
-to-kept s out lengths =
-    if-case (BothKept out lengths) (eqb (framing s .number) 0) _ _
-    (λ _. if-case (BothKept out lengths) (leb (length (endToEnd (filesOf s))) (length out) && leb (length (filesOf s)) (length lengths)) _ _
-    (λ _. record {
-      bytes = record { none = λ z. absurd (z refl); kept = λ z. absurd (z refl) };
-      list = record { none = λ z. absurd (z refl); kept = λ z. absurd (z refl) };
-    }) (λ _. none (verdict 10 0 0)))
-    (λ _. none (framing s))
-  where
-    none : (v : Verdict) → BothKept out lengths (record { verdict = v; len = 0; files = 0; out = out; lengths = lengths })
-    none v = record { bytes = record { none = λ _. refl; kept = λ _. refl }; list = record { none = λ _. refl; kept = λ _. refl } }
+use Rattle.demands.specs.Terms.{isIn}
 
 -- ---- the image of a set of files
 
@@ -67,11 +34,11 @@ module _ (tape lengths out : List ℕ) (z : fromSimh tape lengths out .verdict .
   image-holds = ap items (given .image) ∙ converted-items tape lengths (given .sound)
 
   -- its framing is good, so that it is accepted exactly where these items follow the rules
-  pub image-accepted : imageVerdict (imageIn (fromSimh tape lengths out)) .number ≡ 0 ↔ All MayEnd start (endToEnd (reelsIn tape lengths))
+  pub image-accepted : Accepted (imageIn (fromSimh tape lengths out)) ↔ All MayEnd start (endToEnd (reelsIn tape lengths))
   unfolding verdict
   image-accepted = (
-    λ h. subst (All MayEnd start) image-holds (accepted-iff (imageIn (fromSimh tape lengths out)) .0 h .followed),
-    λ a. accepted-iff (imageIn (fromSimh tape lengths out)) .1 (record { framed = framed; followed = subst (All MayEnd start) (sym image-holds) a }),
+    λ a. subst (All MayEnd start) image-holds (a .followed),
+    λ a. record { framed = framed; followed = subst (All MayEnd start) (sym image-holds) a },
   )
     where
       framed : framing (imageIn (fromSimh tape lengths out)) .number ≡ 0
@@ -101,3 +68,46 @@ module _ (a b o p ls ms : List ℕ) (za : toSimh a o ls .verdict .number ≡ 0) 
   files-mean t l =
       ap (λ (xs : List Item). meaningOf (handedOut (runs start xs)))
       (same-items a b (toSimh a o ls) (toSimh b p ms) (to-zero a o ls za) (to-zero b p ms zb) t l)
+
+-- ---- what is wrong with a set of files
+
+-- 15 at an item, or 2, which has no place
+pub record Torn (v : Verdict) : Type 0 where
+  pub number : isIn (0 ∷ 15 ∷ 2 ∷ []) (v .number) ≡ true
+  pub item : v .number ≡ 2 → v .item ≡ 0
+  pub byte : v .byte ≡ 0
+
+is-torn : (n i : ℕ) → isIn (0 ∷ 15 ∷ 2 ∷ []) n ≡ true → (n ≡ 2 → i ≡ 0) → Torn (verdict n i 0)
+unfolding verdict
+is-torn n i h k = record { number = h; item = k; byte = refl }
+
+torn-at : (n : ℕ) → Torn (torn n)
+unfolding torn isIn ifB
+torn-at n = is-torn 15 _ refl (λ z. omega arith)
+
+whole : Torn (verdict 0 0 0)
+unfolding isIn ifB
+whole = is-torn 0 0 refl (λ z. omega arith)
+
+reel-torn : (n : ℕ) (xs : List Item) → Torn (reelVerdict n xs)
+unfolding reelVerdict
+reel-torn n [] = torn-at n
+reel-torn n (block bs ∷ xs) = reel-torn (n + 1) xs
+reel-torn n (mark ∷ xs) = reel-torn (n + 1) xs
+reel-torn n (reelEnd ∷ []) = whole
+reel-torn n (reelEnd ∷ x ∷ xs) = torn-at (n + 1)
+reel-torn n (broken ∷ xs) = torn-at n
+
+reels-torn : (n : ℕ) (rs : List (List Item)) → Torn (reelsVerdict n rs)
+unfolding reelsVerdict
+reels-torn n [] = whole
+reels-torn n (r ∷ rs) = if-case Torn (eqb (reelVerdict n r .number) 0) _ _ (λ _. reels-torn (n + length r) rs) (λ _. reel-torn n r)
+
+pub tape-torn : (tape lengths : List ℕ) → Torn (tapeVerdict tape lengths)
+unfolding tapeVerdict isIn ifB
+tape-torn tape lengths =
+    if-case Torn (eqb (sum lengths) (length tape)) _ _
+    (λ _. if-case Torn (eqb (reelsVerdict 0 (reelsIn tape lengths) .number) 0) _ _
+    (λ _. if-case Torn (isFew (length lengths)) _ _ (λ _. whole) (λ _. is-torn 2 0 refl (λ _. refl)))
+    (λ _. reels-torn 0 (reelsIn tape lengths)))
+    (λ _. is-torn 15 0 refl (λ _. refl))

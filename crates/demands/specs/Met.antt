@@ -1,0 +1,68 @@
+-- Our operations meet the owner's demands: each statement by the law that the file below proves. Assumes nothing.
+use mathlib.Core.Path.{_≡_, refl, ap}
+use mathlib.Core.List.{List}
+use Prim.Native.Nat.{ℕ}
+use lib.ListN.{length}
+use Rattle.base.specs.Answer.{verdict}
+use Rattle.base.specs.declared.Verdict.{Verdict}
+use Rattle.volume.specs.Run.{imageVerdict}
+use Rattle.volume.specs.Accepted.{Accepted}
+use Rattle.volume.proofs.Accepted.{accepted-done, accepted-iff}
+use Rattle.volume.proofs.Refusals.{first-fault, verdict-placed}
+use Rattle.sheet.specs.Flat.{reelsNumber}
+use Rattle.content.specs.Found.{partOf}
+use Rattle.writer.specs.Rewrite.{sheetFrom}
+use Rattle.demands.specs.Operations.{ours}
+use Rattle.demands.specs.Terms.{Fits}
+use Rattle.demands.specs.Refusals.{begin-refused, find-refused, step-refused, by-reader, no-facts, list-refused, write-refused, rewrite-refused, import-refused, export-refused}
+use Rattle.demands.specs.Records.{file-given, no-file, set-listed, none-begun, none-found, none-listed, none-rewritten}
+use Rattle.demands.specs.Normal.{write-done, write-outcome, write-means, rewrite-outcome, rewrite-done, rewrite-means, rewrite-again, equal-images}
+use Rattle.demands.specs.Demands.{Demand1, Demand2, Normal, Demand3}
+
+pub demand-1 : Demand1 ours
+unfolding partOf
+demand-1 =
+    record {
+      check = verdict-placed;
+      begin = begin-refused;
+      find = find-refused;
+      step = step-refused;
+      reader = by-reader;
+      part = λ s join v. refl;
+      facts = no-facts;
+      list = list-refused;
+      write = write-refused;
+      rewrite = rewrite-refused;
+      import = import-refused;
+      export = export-refused;
+    }
+
+pub is-accepted : (s : List ℕ) → imageVerdict s ≡ verdict 0 0 0 → Accepted s
+unfolding verdict
+is-accepted s e = accepted-iff s .0 (ap (λ (v : Verdict). v .number) e)
+
+pub demand-2 : Demand2 ours
+demand-2 =
+    record {
+      accepted = λ s. (is-accepted s, accepted-done s);
+      first-wrong = λ s out. first-fault s (λ z. out (accepted-iff s .0 z));
+      whole = λ s out. record { begin = none-begun s out; find = none-found s out; list = none-listed s out; rewrite = none-rewritten s out };
+      files = file-given;
+      no-file = no-file;
+      begin = λ s n. refl;
+      step = λ s w old. refl;
+      facts = λ s w. refl;
+      part = λ s join x. refl;
+      listed = set-listed;
+      written = write-done;
+      outcome = write-outcome;
+      reads-back = write-means;
+      rewritten = rewrite-outcome;
+      converted = λ tape lengths s out list. (refl, refl);
+    }
+
+normal : (s : List ℕ) (quota : ℕ) (names o : List ℕ) → Accepted s → reelsNumber quota names ≡ 0 → Fits (sheetFrom s quota names) (length o) → Normal ours s quota names o
+normal s quota names o a l f = record { done = rewrite-done s quota names o a l f; means = rewrite-means s quota names o a l f; again = rewrite-again s quota names o a l f }
+
+pub demand-3 : Demand3 ours
+demand-3 = record { normal = λ a b quota names o q x y l f g. (normal a quota names o x l f, normal b quota names q y l g, equal-images a b quota names o q x y l f g) }

@@ -1,6 +1,0 @@
-pub mod Normal
-pub mod Examples
-pub mod NewYear
-pub mod Tapes
-pub mod Demands
-pub mod Requests
