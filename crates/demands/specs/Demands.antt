@@ -11,7 +11,7 @@ use Rattle.image.specs.Framing.{framing}
 use Rattle.output.specs.Output.{Written, fitted, placed, imageIn}
 use Rattle.simh.specs.Set.{tapeVerdict, fromSimh, toSimh}
 use Rattle.volume.specs.Accepted.{Accepted, FirstFault, Placed}
-use Rattle.volume.specs.Meaning.{File, content}
+use Rattle.volume.specs.Meaning.{File, content, Means}
 use Rattle.sheet.specs.Flat.{Flat, reelsNumber, sheetOf, sheetNumber}
 use Rattle.content.specs.Walk.{stepAt, joinAt}
 use Rattle.content.specs.File.{begunAt}
@@ -26,7 +26,7 @@ use Rattle.content.specs.declared.Step.the-variants.{Refused as NoStep}
 use Rattle.listing.specs.Text.{listingOf, refusalLine}
 use Rattle.writer.specs.Rewrite.{sheetFrom}
 use Rattle.demands.specs.Operations.{Operations}
-use Rattle.demands.specs.Terms.{Answered, noneGiven, OutOf, noRecord, FileGiven, ByReader, Fits, Outcome, Means}
+use Rattle.demands.specs.Terms.{Answered, noneGiven, OutOf, noRecord, FileGiven, ByReader, Fits, Outcome}
 
 -- "1. Any bytes, any numbers: every operation ends and answers by itself, without asking the caller to have checked anything."
 -- An operation is a function of lists and numbers, and no public function has a `requires`.

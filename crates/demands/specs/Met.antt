@@ -1,22 +1,20 @@
 -- Our operations meet the owner's demands: each statement by the law that the file below proves. Assumes nothing.
-use mathlib.Core.Path.{_≡_, refl, ap}
+use mathlib.Core.Path.{_≡_, refl}
 use mathlib.Core.List.{List}
 use Prim.Native.Nat.{ℕ}
 use lib.ListN.{length}
-use Rattle.base.specs.Answer.{verdict}
-use Rattle.base.specs.declared.Verdict.{Verdict}
-use Rattle.volume.specs.Run.{imageVerdict}
 use Rattle.volume.specs.Accepted.{Accepted}
-use Rattle.volume.proofs.Accepted.{accepted-done, accepted-iff}
+use Rattle.volume.proofs.Accepted.{accepted-done, accepted-iff, done-accepted}
 use Rattle.volume.proofs.Refusals.{first-fault, verdict-placed}
 use Rattle.sheet.specs.Flat.{reelsNumber}
 use Rattle.content.specs.Found.{partOf}
 use Rattle.writer.specs.Rewrite.{sheetFrom}
+use Rattle.writer.proofs.RoundTrip.{write-reads-back}
 use Rattle.demands.specs.Operations.{ours}
 use Rattle.demands.specs.Terms.{Fits}
 use Rattle.demands.specs.Refusals.{begin-refused, find-refused, step-refused, by-reader, no-facts, list-refused, write-refused, rewrite-refused, import-refused, export-refused}
 use Rattle.demands.specs.Records.{file-given, no-file, set-listed, none-begun, none-found, none-listed, none-rewritten}
-use Rattle.demands.specs.Normal.{write-done, write-outcome, write-means, rewrite-outcome, rewrite-done, rewrite-means, rewrite-again, equal-images}
+use Rattle.demands.specs.Normal.{write-done, write-outcome, rewrite-outcome, rewrite-done, rewrite-means, rewrite-again, equal-images}
 use Rattle.demands.specs.Demands.{Demand1, Demand2, Normal, Demand3}
 
 pub demand-1 : Demand1 ours
@@ -37,14 +35,10 @@ demand-1 =
       export = export-refused;
     }
 
-pub is-accepted : (s : List ℕ) → imageVerdict s ≡ verdict 0 0 0 → Accepted s
-unfolding verdict
-is-accepted s e = accepted-iff s .0 (ap (λ (v : Verdict). v .number) e)
-
 pub demand-2 : Demand2 ours
 demand-2 =
     record {
-      accepted = λ s. (is-accepted s, accepted-done s);
+      accepted = λ s. (done-accepted s, accepted-done s);
       first-wrong = λ s out. first-fault s (λ z. out (accepted-iff s .0 z));
       whole = λ s out. record { begin = none-begun s out; find = none-found s out; list = none-listed s out; rewrite = none-rewritten s out };
       files = file-given;
@@ -56,7 +50,7 @@ demand-2 =
       listed = set-listed;
       written = write-done;
       outcome = write-outcome;
-      reads-back = write-means;
+      reads-back = write-reads-back;
       rewritten = rewrite-outcome;
       converted = λ tape lengths s out list. (refl, refl);
     }

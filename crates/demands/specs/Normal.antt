@@ -6,26 +6,25 @@ use mathlib.Core.List.{List, _++_}
 use Prim.Native.Nat.{ℕ, _≤_}
 use borrow.Author.Tests.{eq-eqb, eqb-true, eqb-false, le-leb, leb-true, leb-false}
 use lib.Dec.{eqb, leb}
-use lib.ListN.{length, take, drop}
+use lib.ListN.{length, drop}
 use lib.Seq.{take-at}
 use Rattle.base.specs.If.{ifB, if-true, if-false, if-case}
 use Rattle.base.specs.Answer.{verdict}
-use Rattle.base.specs.declared.Verdict.{Verdict}
 use Rattle.image.specs.Item.{Item, encode}
 use Rattle.image.specs.Framing.{head, mostImage}
 use Rattle.output.specs.Output.{Written, refused, Result, refusedWith, placed, imageIn}
 use Rattle.volume.specs.Run.{imageVerdict}
 use Rattle.volume.specs.Accepted.{Accepted}
-use Rattle.volume.specs.Meaning.{Meaning, content}
+use Rattle.volume.specs.Meaning.{Meaning, content, Means}
 use Rattle.volume.proofs.Accepted.{accepted-iff}
 use Rattle.sheet.specs.Legal.{Sheet}
 use Rattle.sheet.specs.Flat.{Flat, inParts, reelsNumber, sheetOf, sheetNumber}
 use Rattle.writer.specs.Lay.{Laid, laid, short, lay}
 use Rattle.writer.specs.Write.{stored, storedLaid, writeSheet, write}
 use Rattle.writer.specs.Rewrite.{sheetFrom, rewrite}
-use Rattle.writer.proofs.RoundTrip.{Means as Reads, image-means, write-reads-back}
+use Rattle.writer.proofs.RoundTrip.{image-means}
 use Rattle.writer.proofs.FromImage.{image-legal}
-use Rattle.demands.specs.Terms.{Fits, image, Outcome, fits, illegal, fewReels, tooLong, noRoom, Means}
+use Rattle.demands.specs.Terms.{Fits, image, Outcome, fits, illegal, fewReels, tooLong, noRoom}
 
 -- ---- writing
 
@@ -58,14 +57,6 @@ unfolding write writeSheet
 write-outcome x out =
     if-case (Outcome (sheetNumber x) (sheetOf x) out) (eqb (sheetNumber x) 0) _ _
     (λ e. laid-outcome (sheetNumber x) (eqb-true _ 0 e) (sheetOf x) out (lay (sheetOf x)) refl) (λ e. illegal (eqb-false _ 0 e))
-
--- and reads back
-means : (s : List ℕ) (m : Meaning) → Reads s m → Means s m
-unfolding verdict
-means s m r = record { accepted = accepted-iff s .0 (ap (λ (v : Verdict). v .number) (r .accepted)); meaning = r .meaning }
-
-pub write-means : (x : Flat) (out : List ℕ) → write x out .number ≡ 0 → Means (take (write x out .len) (write x out .out)) (sheetOf x .meaning)
-write-means x out z = means _ _ (write-reads-back x out z)
 
 -- ---- rewriting an accepted set
 
@@ -104,7 +95,7 @@ module _ (s : List ℕ) (quota : ℕ) (names out : List ℕ) (a : Accepted s) (l
   unfolding sheetFrom
   rewrite-means =
       subst (λ (x : List ℕ). Means x (content s)) (sym rewrite-image)
-      (means _ _ (image-means (sheetFrom s quota names) (f .items) (image-legal s quota names (accepted-iff s .1 a) legal) (f .laying) (f .limit)))
+      (image-means (sheetFrom s quota names) (f .items) (image-legal s quota names (accepted-iff s .1 a) legal) (f .laying) (f .limit))
 
 -- ---- one meaning, one normal set
 

@@ -12,8 +12,7 @@ use Rattle.base.specs.declared.Verdict.{Verdict}
 use Rattle.image.specs.Item.{Item, encode}
 use Rattle.image.specs.Framing.{head, mostImage}
 use Rattle.output.specs.Output.{Written, refused}
-use Rattle.volume.specs.Accepted.{Accepted}
-use Rattle.volume.specs.Meaning.{File, Meaning, fieldsFrom, content}
+use Rattle.volume.specs.Meaning.{File, fieldsFrom}
 use Rattle.sheet.specs.Legal.{Sheet}
 use Rattle.content.specs.Walk.{Record, whole, split, recordAt}
 use Rattle.content.specs.Found.{passed}
@@ -122,8 +121,3 @@ pub data Outcome (n : ℕ) (x : Sheet) (out : List ℕ) : Written → Type 0 whe
   fewReels : n ≡ 0 → lay x ≡ short → Outcome n x out (refused 12 out)
   tooLong : n ≡ 0 → (xs : List Item) → lay x ≡ laid xs → mostImage < length (head ++ encode xs) → Outcome n x out (refused 14 out)
   noRoom : n ≡ 0 → (xs : List Item) → lay x ≡ laid xs → length (head ++ encode xs) ≤ mostImage → length out < length (head ++ encode xs) → Outcome n x out (refused 10 out)
-
--- an image is an accepted set with this meaning
-pub record Means (s : List ℕ) (m : Meaning) : Type 0 where
-  pub accepted : Accepted s
-  pub meaning : content s ≡ m

@@ -32,7 +32,7 @@ use Rattle.volume.specs.Run.{further, next, runs, answerOf, imageVerdict}
 use Rattle.volume.specs.State.{start}
 use Rattle.volume.specs.Step.{isDue, kindIn, bytesIn, namesAfter, filesAfter, goesOnAfter, firstAfter, secondAfter, countAfter, pendingAfter, stateAfter, segmentsOf, segmentsIn, eventsOf, judged, ordered, step}
 use Rattle.volume.specs.Accepted.{Accepted}
-use Rattle.volume.proofs.Accepted.{accepted-iff}
+use Rattle.volume.proofs.Accepted.{done-accepted}
 use Rattle.sheet.specs.Flat.{Flat, inPartsF, inParts, filesFrom, addsUp, sheetOf, sheetNumber, reelsNumber}
 use Rattle.sheet.specs.Legal.{formatFrom, blockLengthFrom, recordLengthFrom, isSound, legalEntry, legalRecord, legalRecords, legalFile, legalFiles, legalMeaning, legalName, freshNames, legalNames, legalQuota, legalSheet}
 use Rattle.writer.specs.Lay.{laid, put, headers, fileEnd, volumeEnd, rest, layFiles, layOn, lay}
@@ -87,8 +87,7 @@ unfolding ledger ledgerFile ifB part same allAre isDigit allDigits value digits 
 computed = (refl, refl, refl, refl, refl, refl, refl, refl, refl, refl)
 
 pub set-accepted : Accepted set
-unfolding verdict
-set-accepted = accepted-iff set .0 (ap (λ v. v .number) (computed .0))
+set-accepted = done-accepted set (computed .0)
 
 pub set-files : content set .files ≡ ledgerFile ∷ []
 set-files = computed .7

@@ -18,7 +18,7 @@ use Rattle.output.specs.Text.{bytes}
 use Rattle.volume.specs.Run.{imageVerdict}
 use Rattle.volume.specs.Accepted.{Accepted, FirstFault, overLong, noImage, unframed, wrong}
 use Rattle.volume.specs.Meaning.{content}
-use Rattle.volume.proofs.Accepted.{accepted-iff}
+use Rattle.volume.proofs.Accepted.{accepted-iff, done-accepted}
 use Rattle.sheet.proofs.Dates.{later-dates}
 use Rattle.sheet.specs.Legal.{Sheet}
 use Rattle.sheet.specs.Flat.{Flat, sheetNumber}
@@ -42,7 +42,6 @@ use Rattle.demands.specs.Terms.{noRecord, Handed, one, several, locatedI
 use Rattle.demands.specs.Normal.{written, write-outcome, rewritten, sheet-same}
 use Rattle.demands.specs.NewYear.{first, reel, ledger, newYear, oldYear, imageOf, new-year}
 use Rattle.demands.specs.Demands.{Demand1, Demand2, Demand3}
-use Rattle.demands.specs.Met.{is-accepted}
 use Rattle.demands.specs.Witness.{set, names, document01, set-accepted, reels-legal, set-fits, sheet-legal, sheet-fits, size, set-long, three-legal, three-laid, miscounted, ledgerFile, set-files, record-found, lostReel, lost, noSheet, no-sheet-legal}
 
 -- ours, with another checker, beginning of a file, search for a record, step, writer and rewriter
@@ -314,8 +313,8 @@ unfolding imageIn three wide
 copies d =
     let a : List ℕ = imageOf newYear in
     let b : List ℕ = imageOf oldYear in
-    let x = is-accepted a (new-year .0) in
-    let y = is-accepted b (new-year .3) in
+    let x = done-accepted a (new-year .0) in
+    let y = done-accepted b (new-year .3) in
     let one = later-dates a b (accepted-iff a .1 x) (accepted-iff b .1 y) (new-year .2) in
     let equal = d .normal a b 1 three wide wide x y three-legal (year-fits a (length wide) (new-year .1) (omega arith)) (year-fits b (length wide) (new-year .4) (omega arith)) .2 .1 one in
     let same : a ≡ b = sym (take-at a (drop (length a) wide) (length a) refl) ∙ equal ∙ take-at b (drop (length b) wide) (length b) refl in
@@ -327,7 +326,7 @@ pub fixed : Demand3 (rewriting (λ s quota names out. record { verdict = verdict
 unfolding imageIn three wide imageOf
 fixed d =
     let a : List ℕ = imageOf newYear in
-    let x = is-accepted a (new-year .0) in
+    let x = done-accepted a (new-year .0) in
     let fits = year-fits a (length wide) (new-year .1) (omega arith) in
     let meant = d .normal a a 1 three wide wide x x three-legal fits fits .0 .means .meaning in
     let image : take 448 (set ++ drop 448 wide) ≡ set = take-at set (drop 448 wide) 448 set-long in

@@ -150,6 +150,11 @@ accepted-iff s = (to, from)
     from : Accepted s → imageVerdict s .number ≡ 0
     from a = ap (λ (v : Verdict). v .number) (accepted-done s a) ∙ zero
 
+-- and a verdict of 0 without a place to no other
+pub done-accepted : (s : List ℕ) → imageVerdict s ≡ verdict 0 0 0 → Accepted s
+unfolding verdict
+done-accepted s e = accepted-iff s .0 (ap (λ (v : Verdict). v .number) e)
+
 -- where the framing is good, a refusal names the first wrong item, with the number and the byte that its step gives
 pub refused-first : (s : List ℕ) (k i b : ℕ) → framing s .number ≡ 0 → (k ≡ 0 → ⊥) → imageVerdict s ≡ verdict k i b → FirstWrong start (items s) k i b
 unfolding imageVerdict answerOf verdict Told

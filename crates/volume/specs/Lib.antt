@@ -2,8 +2,8 @@ pub mod State
 pub mod Fault
 pub mod Step
 pub mod Run
-pub mod Meaning
 pub mod Accepted
+pub mod Meaning
 pub mod Dates
 pub mod Place
 pub mod Body

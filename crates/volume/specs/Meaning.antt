@@ -1,16 +1,18 @@
 -- The meaning of a set (a term of document 01): its set identifier and, per file in order, file identifier, generation, version, both dates,
 -- format, B, R and the list of records; fields are compared as bytes. The dates are those of section 0001 (document 02, P2).
+use mathlib.Core.Path.{_≡_}
 use mathlib.Core.List.{List, [], _∷_, _++_}
-use Prim.Native.Nat.{ℕ, zero, suc}
-use lib.Dec.{eqb, leb}
+use Prim.Native.Nat.{ℕ}
+use lib.Dec.{eqb}
 use Rattle.base.specs.If.{ifB}
 use Rattle.base.specs.Part.{part}
 use Rattle.label.specs.Field.{setOf}
 use Rattle.block.specs.Cut.{Segment}
 use Rattle.image.specs.Framing.{items}
-use Rattle.volume.specs.State.{State, start}
+use Rattle.volume.specs.State.{start}
 use Rattle.volume.specs.Step.{Event, begins, holds}
 use Rattle.volume.specs.Run.{Run, ended, stopped, runs}
+use Rattle.volume.specs.Accepted.{Accepted}
 
 -- a file of a meaning: the 46 bytes of its fields as an order sheet has them (17 identifier, 4 generation, 2 version, 6 creation date,
 -- 6 expiration date, 1 format, 5 B, 5 R), and its records
@@ -67,3 +69,8 @@ handedOut (stopped n i b) = []
 
 unfoldable pub content : List ℕ → Meaning
 content s = meaningOf (handedOut (runs start (items s)))
+
+-- an image is an accepted set with this meaning
+pub record Means (s : List ℕ) (m : Meaning) : Type 0 where
+  pub accepted : Accepted s
+  pub meaning : content s ≡ m

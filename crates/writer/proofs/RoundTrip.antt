@@ -24,7 +24,8 @@ use Rattle.volume.specs.State.{start}
 use Rattle.volume.specs.Fault.{mostFiles}
 use Rattle.volume.specs.Step.{Event, isDue}
 use Rattle.volume.specs.Run.{Run, ended, runs, answerOf, imageVerdict}
-use Rattle.volume.specs.Meaning.{File, Meaning, joined, Collected, fieldsFrom, collect, setFrom, meaningOf, handedOut, content}
+use Rattle.volume.specs.Meaning.{File, Meaning, joined, Collected, fieldsFrom, collect, setFrom, meaningOf, handedOut, content, Means}
+use Rattle.volume.proofs.Accepted.{done-accepted}
 use Rattle.sheet.specs.Legal.{Sheet, formatFrom, blockLengthFrom, recordLengthFrom, freshNames, legalFiles, legalMeaning, legalNames, legalQuota, legalSheet}
 use Rattle.sheet.specs.Flat.{Flat, addsUp, sheetOf, sheetNumber}
 use Rattle.writer.specs.Lay.{Laid, laid, short, layFiles, layOn, lay}
@@ -156,11 +157,6 @@ pub written-accepted : (s : Sheet) (xs : List Item) → legalSheet s ≡ true �
     → (es : List Event) × (runs start xs ≡ ended es) × (meaningOf es ≡ s .meaning)
 written-accepted s xs h e = (eventsFrom (s .meaning .set) 1 (s .meaning .files), sheet-ends s h xs e .ends, meaning-back s h)
 
--- an image that is an accepted set with this meaning
-pub record Means (image : List ℕ) (m : Meaning) : Type 0 where
-  pub accepted : imageVerdict image ≡ verdict 0 0 0
-  pub meaning : content image ≡ m
-
 -- The image of these items is an accepted set with the sheet's meaning, where it is not too long.
 pub image-means : (s : Sheet) (xs : List Item) → legalSheet s ≡ true → lay s ≡ laid xs → length (head ++ encode xs) ≤ mostImage
     → Means (head ++ encode xs) (s .meaning)
@@ -172,7 +168,7 @@ image-means s xs h e small =
     let run : runs start (items image) ≡ ended (eventsFrom (s .meaning .set) 1 (s .meaning .files)) = ap (runs start) same ∙ d .ends in
     let framed : framing image ≡ verdict 0 0 0 = framing-image xs (d .whole) small ∙ d .framed 0 false in
     record {
-      accepted = if-true _ _ _ (eq-eqb (framing image .number) 0 (ap (λ (v : Verdict). v .number) framed)) ∙ ap (answerOf 0) run;
+      accepted = done-accepted image (if-true _ _ _ (eq-eqb (framing image .number) 0 (ap (λ (v : Verdict). v .number) framed)) ∙ ap (answerOf 0) run);
       meaning = ap (λ (r : Run). meaningOf (handedOut r)) run ∙ meaning-back s h;
     }
 
