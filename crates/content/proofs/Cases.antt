@@ -12,7 +12,10 @@ use Rattle.content.specs.declared.Begun.{Begun}
 use Rattle.content.specs.declared.Begun.the-variants.{At, Refused as NotBegun}
 use Rattle.content.specs.declared.Step.{Step}
 use Rattle.content.specs.declared.Step.the-variants.{InImage as StepInImage, Joined as StepJoined, Refused as NoStep}
-use Rattle.content.specs.Numbers.{recordOf, noWalk, beginningOf, steppedOf, Said}
+use Rattle.content.specs.declared.NextFile.{NextFile}
+use Rattle.content.specs.declared.NextFile.the-variants.{At as There, Nowhere}
+use Rattle.content.specs.File.{begunBy}
+use Rattle.content.specs.Numbers.{recordOf, noWalk, beginningOf, fileOf, steppedOf, Said}
 use Rattle.content.specs.declared.numbers.Located.{Located}
 use Rattle.content.specs.declared.numbers.Beginning.{Beginning}
 use Rattle.content.specs.declared.numbers.Stepped.{Stepped}
@@ -43,6 +46,17 @@ pub begins-not : (b : Begun) (v : Verdict) → b ≡ NotBegun v → beginningWit
 unfolding beginningOf
 begins-not b v e = sym (ap beginningOf e)
 
+pub file-there : (x : NextFile) (f : FileAt) → x ≡ There f → At f ≡ begunBy x
+unfolding begunBy
+file-there x f e = sym (ap begunBy e)
+
+pub file-nowhere : (x : NextFile) (v : Verdict) → x ≡ Nowhere → v ≡ verdict 13 0 0 → NotBegun v ≡ begunBy x
+unfolding begunBy
+file-nowhere x v e h = ap NotBegun h ∙ sym (ap begunBy e)
+
+pub file-by : (x : NextFile) (b : Begun) (r : Beginning) → b ≡ begunBy x → r ≡ beginningOf b → r ≡ fileOf x
+file-by x b r e h = h ∙ ap beginningOf e
+
 abbrev steppedWith : ℕ → ℕ → ℕ → ℕ → Walk → Stepped
 steppedWith number joined start n w = record { number = number; joined = joined; start = start; len = n; walk = w }
 
@@ -58,7 +72,7 @@ pub step-none : (w : Walk) (x : Step) (k : ℕ) → x ≡ NoStep k → steppedWi
 unfolding steppedOf
 step-none w x k e = sym (ap (steppedOf w) e)
 
-pub ruleset cases = (record-there, record-here, record-none, begins, begins-not, step-there, step-here, step-none, needs)
+pub ruleset cases = (record-there, record-here, record-none, begins, begins-not, file-there, file-nowhere, file-by, step-there, step-here, step-none, needs)
 
 -- a promise of a case is one of its numbers
 pub said : {A B : Type 0} (numbers : A → B) (answer given : A) → answer ≡ given → Said numbers answer given

@@ -266,3 +266,39 @@ unfolding fromFile
 numbered-on s n x y f h e q m = m ∙ ap (λ (z : NextFile). fromFile z (λ f. filesOn s (n - 1) f)) (sym q) ∙ from-first s n x h e
 
 pub ruleset numbereds = (numbered-zero, numbered-none, numbered-on, needs)
+
+-- ---- from file to file, and by number
+
+found-self : (x : NextFile) → fromFile x (λ f. At f) ≡ x
+unfolding fromFile
+found-self (At f) = refl
+found-self Nowhere = refl
+
+-- file 1 is the first
+pub numbered-first : (s : List ℕ) → fileNumbered s 1 ≡ firstFile s
+unfolding fileNumbered filesOn ifB
+numbered-first s = found-self (firstFile s)
+
+on-next : (s : List ℕ) (k : ℕ) (f g : FileAt) → filesOn s k f ≡ At g → filesOn s (suc k) f ≡ nextFile s g
+unfolding filesOn fromFile
+on-next s zero f g e = let same : f ≡ g = cc in found-self (nextFile s f) ∙ ap (nextFile s) same
+on-next s (suc k) f g e = by-next (λ h q. on-next s k h g q) (nextFile s f) e
+  where
+    by-next : ((h : FileAt) → filesOn s k h ≡ At g → filesOn s (suc k) h ≡ nextFile s g) → (x : NextFile) → fromFile x (λ h. filesOn s k h) ≡ At g
+        → fromFile x (λ h. filesOn s (suc k) h) ≡ nextFile s g
+    by-next again (At h) q = again h q
+    by-next again Nowhere q = let z : _≡_ {A = ℕ} 0 1 = cc in absurd (omega arith)
+
+-- the file behind file n is file n + 1
+pub numbered-next : (s : List ℕ) (n : ℕ) (f : FileAt) → fileNumbered s n ≡ At f → nextFile s f ≡ fileNumbered s (n + 1)
+unfolding fromFile
+numbered-next s zero f e = let none : Nowhere ≡ fileNumbered s 0 = numbered-zero s 0 refl in let z : _≡_ {A = ℕ} 0 1 = cc in absurd (omega arith)
+numbered-next s (suc k) f e =
+    by-first (firstFile s) (from-first s (suc k) (firstFile s) (λ z. omega arith) refl ∙ e) ∙ from-first s (suc k + 1) (firstFile s) (λ z. omega arith) refl
+  where
+    by-first : (x : NextFile) → fromFile x (λ h. filesOn s (suc k - 1) h) ≡ At f → nextFile s f ≡ fromFile x (λ h. filesOn s (suc k + 1 - 1) h)
+    by-first (At h) q =
+        let here : suc k - 1 ≡ k = omega arith in
+        let behind : suc k ≡ suc k + 1 - 1 = omega arith in
+        sym (on-next s k h f (ap (λ (j : ℕ). filesOn s j h) (sym here) ∙ q)) ∙ ap (λ (j : ℕ). filesOn s j h) behind
+    by-first Nowhere q = let z : _≡_ {A = ℕ} 0 1 = cc in absurd (omega arith)

@@ -42,17 +42,11 @@ unfolding begunAt
 begun-by s n v x e h k =
     ap begunBy k ∙ sym (if-true _ _ _ (eq-eqb (imageVerdict s .number) 0 (ap (λ (x : Verdict). x .number) (sym e) ∙ h)))
 
-pub begin-at : (s : List ℕ) (n : ℕ) (v : Verdict) (x : NextFile) (f : FileAt) → v ≡ imageVerdict s → v .number ≡ 0 → x ≡ fileNumbered s n → x ≡ Next f
-    → At f ≡ begunAt s n
-unfolding begunBy
-begin-at s n v x f e h k q = ap begunBy (sym q) ∙ begun-by s n v x e h k
+pub begin-done : (s : List ℕ) (n : ℕ) (v : Verdict) (x : NextFile) (b : Begun) → v ≡ imageVerdict s → v .number ≡ 0 → x ≡ fileNumbered s n → b ≡ begunBy x
+    → b ≡ begunAt s n
+begin-done s n v x b e h k q = q ∙ begun-by s n v x e h k
 
-pub begin-nowhere : (s : List ℕ) (n : ℕ) (v : Verdict) (x : NextFile) (a : Verdict) → v ≡ imageVerdict s → v .number ≡ 0 → x ≡ fileNumbered s n → x ≡ NoFile
-    → a ≡ verdict 13 0 0 → NotBegun a ≡ begunAt s n
-unfolding begunBy
-begin-nowhere s n v x a e h k q m = ap NotBegun m ∙ ap begunBy (sym q) ∙ begun-by s n v x e h k
-
-pub ruleset begins = (begin-refused, begin-at, begin-nowhere, said, needs)
+pub ruleset begins = (begin-refused, begin-done, said, needs)
 
 -- ---- records passed
 

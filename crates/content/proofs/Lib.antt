@@ -15,3 +15,4 @@ pub mod Phases
 pub mod Walked
 pub mod Records
 pub mod Unsplit
+pub mod Shown

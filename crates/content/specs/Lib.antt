@@ -4,6 +4,7 @@ pub mod Whole
 pub mod Measure
 pub mod File
 pub mod Numbers
+pub mod Items
 pub mod Found
 pub mod Walked
 pub mod Records

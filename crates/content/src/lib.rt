@@ -2,6 +2,7 @@
 // set it leaves to the layers below.
 mod counting; // counting.rt: how many records, how long, and where they end
 mod file; // file.rt: the files of a set, one after the other
+mod items; // items.rt: an image item by item
 mod join; // join.rt: segments joined in a buffer
 mod measuring; // measuring.rt: the record at a place, by its numbers
 mod numbers; // numbers.rt: an answer as document 01's number and values
@@ -16,6 +17,8 @@ pub use counting::file_facts;
 pub use file::file_behind;
 pub use file::first_file;
 pub use file::next_file;
+pub use items::ItemAt;
+pub use items::item_at;
 pub use measuring::Measured;
 pub use measuring::at_block;
 pub use measuring::measure;
@@ -24,6 +27,7 @@ pub use numbers::Beginning;
 pub use numbers::Located;
 pub use numbers::Stepped;
 pub use numbers::beginning_of;
+pub use numbers::file_of;
 pub use numbers::record_of;
 pub use numbers::stepped_of;
 pub use segment::first_segment;
@@ -40,6 +44,7 @@ use base::Verdict;
 use base::part_of;
 use file::file_numbered;
 use join::join_record;
+use numbers::begun_by;
 use unit::Place;
 use volume::check;
 
@@ -128,10 +133,7 @@ pub fn begin(image: &[u8], file: u64) -> Begun
     if v.number != 0 {
         return Begun::Refused(v);
     }
-    match file_numbered(image, file) {
-        NextFile::At(f) => Begun::At(f),
-        NextFile::Nowhere => Begun::Refused(answer(13)),
-    }
+    begun_by(file_numbered(image, file))
 }
 
 // The walk behind so many records.

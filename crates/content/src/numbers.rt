@@ -1,8 +1,10 @@
 // An answer with cases as document 01's number and values: what C and Rust get of it.
 ghost use mathlib.Core.Path.{_≡_};
-ghost use Rattle.content.specs.Numbers.{recordOf, beginningOf, steppedOf};
+ghost use Rattle.content.specs.File.{begunBy};
+ghost use Rattle.content.specs.Numbers.{recordOf, beginningOf, fileOf, steppedOf};
 use crate::Begun;
 use crate::Found;
+use crate::NextFile;
 use crate::Step;
 use crate::Walk;
 use crate::answer;
@@ -87,6 +89,22 @@ pub fn beginning_of(begun: Begun) -> Beginning
             },
         },
     }
+}
+
+// A file that was looked for: 13 where there is none.
+pub(crate) fn begun_by(x: NextFile) -> Begun
+    ensures { λ r. ⌜ r ≡ begunBy x ⌝ }
+{
+    match x {
+        NextFile::At(f) => Begun::At(f),
+        NextFile::Nowhere => Begun::Refused(answer(13)),
+    }
+}
+
+pub fn file_of(x: NextFile) -> Beginning
+    ensures { λ r. ⌜ r ≡ fileOf x ⌝ }
+{
+    beginning_of(begun_by(x))
 }
 
 pub fn stepped_of(from: Walk, step: Step) -> Stepped

@@ -7,14 +7,19 @@ use Prim.Native.Nat.{ℕ, _+_, _≤_}
 use lib.ListN.{length, take}
 use Rattle.base.specs.Answer.{verdict}
 use Rattle.base.specs.declared.Verdict.{Verdict}
-use Rattle.image.specs.Framing.{framing}
+use Rattle.image.specs.Framing.{framing, items}
+use Rattle.order.specs.Kind.{kind}
+use Rattle.order.specs.Group.{amongLabels}
+use Rattle.label.specs.Judged.{fieldWith}
 use Rattle.output.specs.Output.{Written, fitted, placed, imageIn}
 use Rattle.simh.specs.Set.{tapeVerdict, fromSimh, toSimh}
+use Rattle.volume.specs.State.{start}
 use Rattle.volume.specs.Accepted.{Accepted, FirstFault, Placed}
 use Rattle.volume.specs.Meaning.{File, content, Means}
 use Rattle.sheet.specs.Flat.{Flat, reelsNumber, sheetOf, sheetNumber}
 use Rattle.content.specs.Walk.{stepAt, joinAt}
 use Rattle.content.specs.File.{begunAt}
+use Rattle.content.specs.Items.{itemAt, Met}
 use Rattle.content.specs.Found.{partOf}
 use Rattle.content.specs.Records.{recordsAt, factsOf}
 use Rattle.content.specs.Numbers.{beginningOf, steppedOf}
@@ -37,6 +42,8 @@ pub record Demand1 (p : Operations) : Type 0 where
   -- (`unknown-number`).
   pub check : (s : List ℕ) → Placed (p .check s .number) (p .check s .byte)
   pub begin : (s : List ℕ) (n : ℕ) → Answered (p .check s) (13 ∷ []) (p .begin s n .verdict) (p .begin s n ≡ beginningOf (NotBegun (p .begin s n .verdict)))
+  pub first : (s : List ℕ) → Answered noneGiven (13 ∷ []) (p .first s .verdict) (p .first s ≡ beginningOf (NotBegun (p .first s .verdict)))
+  pub further : (s : List ℕ) (a b : ℕ) → Answered noneGiven (13 ∷ []) (p .further s a b .verdict) (p .further s a b ≡ beginningOf (NotBegun (p .further s a b .verdict)))
   pub find : (s : List ℕ) (n r : ℕ) (old : List ℕ)
       → Answered (p .check s) (13 ∷ 10 ∷ []) (p .find s n r old .at .verdict) (p .find s n r old ≡ noRecord (p .find s n r old .at .verdict) old)
   pub step : (s : List ℕ) (w : Walk) (old : List ℕ)
@@ -76,6 +83,13 @@ pub record Demand2 (p : Operations) : Type 0 where
   pub no-file : (s : List ℕ) (n : ℕ) → Accepted s → OutOf (length (content s .files)) n
       → (p .begin s n ≡ beginningOf (NotBegun (verdict 13 0 0))) × ((r : ℕ) (old : List ℕ) → p .find s n r old ≡ noRecord (verdict 13 0 0) old)
   pub begin : (s : List ℕ) (n : ℕ) → p .begin s n ≡ beginningOf (begunAt s n)
+  -- From file to file it is the same way as by their numbers. Ruled out: a search that stays at its file (`same-file-again`).
+  pub first : (s : List ℕ) → Accepted s → p .first s ≡ p .begin s 1
+  pub further : (s : List ℕ) (n : ℕ) → p .begin s n .verdict .number ≡ 0 → p .further s (p .begin s n .first) (p .begin s n .second) ≡ p .begin s (n + 1)
+  -- From item to item these are the items of the set, each of the kind by which it was judged; on any bytes the definition decides, and which field holds a byte, the tables of the labels.
+  pub items : (s : List ℕ) → Accepted s → Met (p .item s) s 5 amongLabels start (items s)
+  pub item : (s : List ℕ) (at g : ℕ) → p .item s at g ≡ itemAt s at g
+  pub field : (family number byte : ℕ) → p .field family number byte ≡ fieldWith (kind family number) byte
   pub step : (s : List ℕ) (w : Walk) (old : List ℕ) → p .step s w old ≡ record { answer = steppedOf w (stepAt s (length old) w); left = joinAt s old w }
   pub facts : (s : List ℕ) (w : Walk) → p .facts s w ≡ factsOf (recordsAt s w)
   pub part : (s join : List ℕ) (x : Found) → p .part s join x ≡ partOf s join x

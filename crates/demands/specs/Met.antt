@@ -8,12 +8,13 @@ use Rattle.volume.proofs.Accepted.{accepted-done, accepted-iff, done-accepted}
 use Rattle.volume.proofs.Refusals.{first-fault, verdict-placed}
 use Rattle.sheet.specs.Flat.{reelsNumber}
 use Rattle.content.specs.Found.{partOf}
+use Rattle.content.proofs.Shown.{items-met}
 use Rattle.writer.specs.Rewrite.{sheetFrom}
 use Rattle.writer.proofs.RoundTrip.{write-reads-back}
 use Rattle.demands.specs.Operations.{ours}
 use Rattle.demands.specs.Terms.{Fits}
-use Rattle.demands.specs.Refusals.{begin-refused, find-refused, step-refused, by-reader, no-facts, list-refused, write-refused, rewrite-refused, import-refused, export-refused}
-use Rattle.demands.specs.Records.{file-given, no-file, set-listed, none-begun, none-found, none-listed, none-rewritten}
+use Rattle.demands.specs.Refusals.{begin-refused, search-refused, find-refused, step-refused, by-reader, no-facts, list-refused, write-refused, rewrite-refused, import-refused, export-refused}
+use Rattle.demands.specs.Records.{file-given, no-file, first-begun, further-begun, set-listed, none-begun, none-found, none-listed, none-rewritten}
 use Rattle.demands.specs.Normal.{write-done, write-outcome, rewrite-outcome, rewrite-done, rewrite-means, rewrite-again, equal-images}
 use Rattle.demands.specs.Demands.{Demand1, Demand2, Normal, Demand3}
 
@@ -23,6 +24,8 @@ demand-1 =
     record {
       check = verdict-placed;
       begin = begin-refused;
+      first = λ s. search-refused _;
+      further = λ s a b. search-refused _;
       find = find-refused;
       step = step-refused;
       reader = by-reader;
@@ -44,6 +47,11 @@ demand-2 =
       files = file-given;
       no-file = no-file;
       begin = λ s n. refl;
+      first = first-begun;
+      further = further-begun;
+      items = items-met;
+      item = λ s at g. refl;
+      field = λ family number byte. refl;
       step = λ s w old. refl;
       facts = λ s w. refl;
       part = λ s join x. refl;

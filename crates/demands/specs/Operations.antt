@@ -1,6 +1,6 @@
 -- The operations that a caller can reach, each as a function of what it is given: an image, an order sheet, a lent buffer is a list of bytes. `ours` are the
--- definitions that the promises of the public functions cite: what these say of lists, the functions do with slices. The searches and measures of `content` by which these are made, and the
--- line of a refusal, are no operations of their own: each function's promise is its definition, on any bytes.
+-- definitions that the promises of the public functions cite: what these say of lists, the functions do with slices. The measures of `content` by which these are made, its search from
+-- a file's data on and the line of a refusal are no operations of their own: each function's promise is its definition, on any bytes.
 use mathlib.Core.List.{List}
 use Prim.Native.Nat.{ℕ}
 use lib.ListN.{length}
@@ -10,12 +10,15 @@ use Rattle.simh.specs.Set.{Converted, fromSimh, toSimh}
 use Rattle.volume.specs.Run.{imageVerdict}
 use Rattle.sheet.specs.Flat.{Flat}
 use Rattle.content.specs.Walk.{stepAt, joinAt}
-use Rattle.content.specs.File.{begunAt}
+use Rattle.label.specs.Judged.{fieldWith}
+use Rattle.content.specs.File.{begunAt, firstFile, nextFile}
+use Rattle.content.specs.Items.{itemAt}
 use Rattle.content.specs.Found.{foundAt, leftAt, partOf}
 use Rattle.content.specs.Records.{recordsAt, factsOf}
-use Rattle.content.specs.Numbers.{recordOf, beginningOf, steppedOf}
+use Rattle.content.specs.Numbers.{recordOf, noWalk, beginningOf, fileOf, steppedOf}
 use Rattle.content.specs.declared.Walk.{Walk}
 use Rattle.content.specs.declared.Found.{Found}
+use Rattle.content.specs.declared.items.ItemAt.{ItemAt}
 use Rattle.content.specs.declared.numbers.Located.{Located}
 use Rattle.content.specs.declared.numbers.Beginning.{Beginning}
 use Rattle.content.specs.declared.numbers.Stepped.{Stepped}
@@ -43,6 +46,9 @@ pub record Operations : Type 0 where
   pub check : List ℕ → Verdict
   -- file n of an image
   pub begin : List ℕ → ℕ → Beginning
+  -- the first file of an image, and the one behind a file whose HDR1 and HDR2 stand at two places
+  pub first : List ℕ → Beginning
+  pub further : List ℕ → ℕ → ℕ → Beginning
   -- record r of file n, with a joining buffer
   pub find : List ℕ → ℕ → ℕ → List ℕ → Handing
   -- the record at a walk's place, with a joining buffer
@@ -55,6 +61,9 @@ pub record Operations : Type 0 where
   pub opened : List ℕ → Walk → ℕ → Opened
   pub next : List ℕ → Walk → List ℕ → Moving
   pub count : List ℕ → ℕ → FileFacts
+  -- the item at a place of an image in a group, and the field of a kind of label, by family and number, in which a byte stands
+  pub item : List ℕ → ℕ → ℕ → ItemAt
+  pub field : ℕ → ℕ → ℕ → ℕ
   -- the listing of an image in a buffer
   pub list : List ℕ → List ℕ → Written
   -- an order sheet written into a buffer
@@ -82,6 +91,8 @@ ours =
     record {
       check = imageVerdict;
       begin = λ s n. beginningOf (begunAt s n);
+      first = λ s. fileOf (firstFile s);
+      further = λ s hdr1 hdr2. fileOf (nextFile s (record { first = hdr1; second = hdr2; walk = noWalk }));
       find = λ s n r old. record { at = recordOf (foundAt s n r (length old)); left = leftAt s n r old };
       step = λ s w old. record { answer = steppedOf w (stepAt s (length old) w); left = joinAt s old w };
       part = partOf;
@@ -89,6 +100,8 @@ ours =
       opened = openedAt;
       next = λ s w old. record { answer = readingOf (readAt s (length old) w); left = joinAt s old w };
       count = countAt;
+      item = itemAt;
+      field = λ family number byte. fieldWith (record { family = family; number = number }) byte;
       list = λ s out. fitted (textOf s) out;
       write = write;
       rewrite = rewrite;

@@ -6,10 +6,10 @@ use Prim.Native.Nat.{ℕ, zero, suc, _+_, _-_, _≤_, _<_}
 use native.Mathlib.Omega.{arith}
 use native.Mathlib.Numerals.{add-one}
 use native.Mathlib.Decide.{decLt}
-use borrow.Author.Tests.{eq-eqb, ne-eqb}
+use borrow.Author.Tests.{eq-eqb, ne-eqb, eqb-false}
 use lib.Dec.{leb, eqb}
 use lib.ListN.{length}
-use Rattle.base.specs.If.{ifB, if-true, if-false}
+use Rattle.base.specs.If.{ifB, if-true, if-false, if-case}
 use Rattle.base.specs.Part.{part, putAt}
 use Rattle.base.specs.Answer.{verdict}
 use Rattle.base.proofs.Parts.{length-part}
@@ -19,14 +19,16 @@ use Rattle.volume.specs.Accepted.{Accepted}
 use Rattle.volume.specs.Meaning.{File, fieldsFrom, content}
 use Rattle.volume.proofs.Accepted.{accepted-iff}
 use Rattle.content.specs.Walk.{ends, fails, Record, whole, split, nothing as noRecordHere, recordAt, stepBy, joinBy, stepAt, joinAt}
-use Rattle.content.specs.File.{begunAt}
+use Rattle.content.specs.File.{firstFile, nextFile, fileNumbered, begunBy, begunAt}
 use Rattle.content.specs.Found.{passedBy, passed, foundBy, foundIn, leftIn, foundFrom, leftFrom, foundAt, leftAt}
 use Rattle.content.specs.Measure.{measuredBy}
 use Rattle.content.specs.Walked.{handed, Walks, FileIs}
 use Rattle.content.specs.Records.{factsOf}
-use Rattle.content.specs.Numbers.{recordOf, beginningOf, steppedOf}
+use Rattle.content.specs.Numbers.{recordOf, noWalk, beginningOf, steppedOf}
 use Rattle.content.specs.declared.Walk.{Walk}
 use Rattle.content.specs.declared.FileAt.{FileAt}
+use Rattle.content.specs.declared.NextFile.{NextFile}
+use Rattle.content.specs.declared.NextFile.the-variants.{At as There, Nowhere as NoFile}
 use Rattle.content.specs.declared.Begun.{Begun}
 use Rattle.content.specs.declared.Begun.the-variants.{At as Begins, Refused as NotBegun}
 use Rattle.content.specs.declared.Found.the-variants.{Refused as NotFound}
@@ -34,6 +36,7 @@ use Rattle.content.specs.declared.Step.{Step}
 use Rattle.content.specs.declared.Step.the-variants.{InImage, Joined, Refused as NoStep}
 use Rattle.content.specs.declared.unit.Place.{Place}
 use Rattle.content.specs.declared.unit.Place.the-variants.{At, Nowhere}
+use Rattle.content.proofs.Files.{numbered-first, numbered-next}
 use Rattle.content.proofs.Records.{whole-within, walks-records}
 use Rattle.content.proofs.Walked.{walk-records, walk-none}
 use Rattle.listing.specs.Text.{textOf, listingOf, refusalLine}
@@ -222,6 +225,36 @@ unfolding foundAt leftAt foundFrom leftFrom
 no-file s n a out =
     let none : begunAt s n ≡ NotBegun (verdict 13 0 0) = walk-none s n (accepted-iff s .1 a) out in
     (ap beginningOf none, λ r old. ap (handingFrom s r old) none)
+
+-- ---- from file to file
+
+first-begun-by : (s : List ℕ) → Accepted s → begunBy (firstFile s) ≡ begunAt s 1
+unfolding begunAt
+first-begun-by s a = ap begunBy (sym (numbered-first s)) ∙ sym (if-true _ _ _ (eq-eqb (imageVerdict s .number) 0 (accepted-iff s .1 a)))
+
+pub first-begun : (s : List ℕ) → Accepted s → ours .first s ≡ ours .begin s 1
+first-begun s a = ap beginningOf (first-begun-by s a)
+
+-- the search looks at the two places of a file alone
+next-at : (s : List ℕ) (f : FileAt) → nextFile s (record { first = f .first; second = f .second; walk = noWalk }) ≡ nextFile s f
+unfolding nextFile
+next-at s f = refl
+
+pub further-begun : (s : List ℕ) (n : ℕ) → ours .begin s n .verdict .number ≡ 0 → ours .further s (ours .begin s n .first) (ours .begin s n .second) ≡ ours .begin s (n + 1)
+unfolding begunAt beginningOf
+further-begun s n =
+    if-case (λ (b : Begun). Goal b) (eqb (imageVerdict s .number) 0) _ _ (λ e. by-file e (fileNumbered s n) refl) (λ e z. absurd (eqb-false (imageVerdict s .number) 0 e z))
+  where
+    Goal : Begun → Type 0
+    Goal b = beginningOf b .verdict .number ≡ 0 → ours .further s (beginningOf b .first) (beginningOf b .second) ≡ ours .begin s (n + 1)
+
+    next-begun : eqb (imageVerdict s .number) 0 ≡ true → begunAt s (n + 1) ≡ begunBy (fileNumbered s (n + 1))
+    next-begun e = if-true (eqb (imageVerdict s .number) 0) _ _ e
+
+    by-file : eqb (imageVerdict s .number) 0 ≡ true → (x : NextFile) → fileNumbered s n ≡ x → Goal (begunBy x)
+    by-file e (There f) q = unfold begunBy beginningOf in λ _.
+        ap (λ (y : NextFile). beginningOf (begunBy y)) (next-at s f ∙ numbered-next s n f q) ∙ ap beginningOf (sym (next-begun e))
+    by-file e NoFile q = unfold begunBy beginningOf verdict in λ z. absurd (omega arith)
 
 -- its listing
 pub set-listed : (s out : List ℕ) → Accepted s → ours .list s out ≡ fitted (listingOf (content s)) out

@@ -21,7 +21,7 @@ use Rattle.content.specs.Walk.{Record, whole, split, nothing as noRecordHere, r
 use Rattle.content.specs.File.{fileNumbered, begunBy, begunAt}
 use Rattle.content.specs.Found.{passed, foundBy, foundIn, leftIn, foundFrom, leftFrom, foundAt, leftAt}
 use Rattle.content.specs.Records.{recordsAt, factsOf}
-use Rattle.content.specs.Numbers.{noWalk, recordOf, beginningOf, steppedOf}
+use Rattle.content.specs.Numbers.{noWalk, recordOf, beginningOf, fileOf, steppedOf}
 use Rattle.content.specs.declared.Walk.{Walk}
 use Rattle.content.specs.declared.Begun.{Begun}
 use Rattle.content.specs.declared.Begun.the-variants.{At, Refused as NotBegun}
@@ -88,6 +88,12 @@ begin-refused s n = if-case Q (eqb (imageVerdict s .number) 0) _ _ (λ _. by-fil
     by-file : (x : NextFile) → Q (begunBy x)
     by-file (There f) = unfold begunBy in is-done _ _ _
     by-file NoFile = unfold begunBy isIn ifB in is-other _ _ _ 13 refl refl
+
+-- a search, whatever it found
+pub search-refused : (x : NextFile) → Answered noneGiven (13 ∷ []) (fileOf x .verdict) (fileOf x ≡ beginningOf (NotBegun (fileOf x .verdict)))
+unfolding begunBy beginningOf isIn ifB
+search-refused (There f) = is-done _ _ _
+search-refused NoFile = is-other _ _ _ 13 refl refl
 
 pub find-refused : (s : List ℕ) (n r : ℕ) (old : List ℕ)
     → Answered (imageVerdict s) (13 ∷ 10 ∷ []) (ours .find s n r old .at .verdict) (ours .find s n r old ≡ noRecord (ours .find s n r old .at .verdict) old)

@@ -26,6 +26,7 @@ use Rattle.content.specs.Walk.{recordAt, stepBy, stepAt}
 use Rattle.content.specs.Found.{passed, leftAt}
 use Rattle.content.specs.File.{fileNumbered, begunBy}
 use Rattle.content.specs.Numbers.{noWalk, recordOf, beginningOf, steppedOf}
+use Rattle.content.specs.declared.Begun.the-variants.{Refused as NotBegun}
 use Rattle.content.specs.declared.Found.{Found}
 use Rattle.content.specs.declared.Found.the-variants.{Joined}
 use Rattle.content.specs.declared.Step.the-variants.{InImage}
@@ -38,18 +39,20 @@ use Rattle.writer.specs.Write.{write}
 use Rattle.writer.specs.Lay.{laid, lay}
 use Rattle.writer.specs.Rewrite.{sheetFrom, rewrite}
 use Rattle.demands.specs.Operations.{Handing, Moving, Operations, ours}
-use Rattle.demands.specs.Terms.{noRecord, Handed, one, several, locatedIn, handing, Fits, image, Outcome, fits, illegal, fewReels, tooLong, noRoom}
+use Rattle.demands.specs.Terms.{OutOf, noRecord, Handed, one, several, locatedIn, handing, Fits, image, Outcome, fits, illegal, fewReels, tooLong, noRoom}
 use Rattle.demands.specs.Normal.{written, write-outcome, rewritten, sheet-same}
 use Rattle.demands.specs.NewYear.{first, reel, ledger, newYear, oldYear, imageOf, new-year}
 use Rattle.demands.specs.Demands.{Demand1, Demand2, Demand3}
 use Rattle.demands.specs.Witness.{set, names, document01, set-accepted, reels-legal, set-fits, sheet-legal, sheet-fits, size, set-long, three-legal, three-laid, miscounted, ledgerFile, set-files, record-found, lostReel, lost, noSheet, no-sheet-legal}
 
--- ours, with another checker, beginning of a file, search for a record, step, writer and rewriter
-abbrev pub program : (List ℕ → Verdict) → (List ℕ → ℕ → Beginning) → (List ℕ → ℕ → ℕ → List ℕ → Handing) → (List ℕ → Walk → List ℕ → Moving) → (Flat → List ℕ → Written) → (List ℕ → ℕ → List ℕ → List ℕ → Result) → Operations
-program check begin find step write rewrite =
+-- ours, with another checker, beginning of a file, search for the next file, search for a record, step, writer and rewriter
+abbrev pub program : (List ℕ → Verdict) → (List ℕ → ℕ → Beginning) → (List ℕ → ℕ → ℕ → Beginning) → (List ℕ → ℕ → ℕ → List ℕ → Handing) → (List ℕ → Walk → List ℕ → Moving) → (Flat → List ℕ → Written) → (List ℕ → ℕ → List ℕ → List ℕ → Result) → Operations
+program check begin further find step write rewrite =
     record {
       check = check;
       begin = begin;
+      first = ours .first;
+      further = further;
       find = find;
       step = step;
       part = ours .part;
@@ -57,6 +60,8 @@ program check begin find step write rewrite =
       opened = ours .opened;
       next = ours .next;
       count = ours .count;
+      item = ours .item;
+      field = ours .field;
       list = ours .list;
       write = write;
       rewrite = rewrite;
@@ -65,22 +70,25 @@ program check begin find step write rewrite =
     }
 
 abbrev pub checking : (List ℕ → Verdict) → Operations
-checking check = program check (ours .begin) (ours .find) (ours .step) write rewrite
+checking check = program check (ours .begin) (ours .further) (ours .find) (ours .step) write rewrite
 
 abbrev pub beginning : (List ℕ → ℕ → Beginning) → Operations
-beginning begin = program imageVerdict begin (ours .find) (ours .step) write rewrite
+beginning begin = program imageVerdict begin (ours .further) (ours .find) (ours .step) write rewrite
+
+abbrev pub searching : (List ℕ → ℕ → ℕ → Beginning) → Operations
+searching further = program imageVerdict (ours .begin) further (ours .find) (ours .step) write rewrite
 
 abbrev pub finding : (List ℕ → ℕ → ℕ → List ℕ → Handing) → Operations
-finding find = program imageVerdict (ours .begin) find (ours .step) write rewrite
+finding find = program imageVerdict (ours .begin) (ours .further) find (ours .step) write rewrite
 
 abbrev pub stepping : (List ℕ → Walk → List ℕ → Moving) → Operations
-stepping step = program imageVerdict (ours .begin) (ours .find) step write rewrite
+stepping step = program imageVerdict (ours .begin) (ours .further) (ours .find) step write rewrite
 
 abbrev pub writing : (Flat → List ℕ → Written) → Operations
-writing write = program imageVerdict (ours .begin) (ours .find) (ours .step) write rewrite
+writing write = program imageVerdict (ours .begin) (ours .further) (ours .find) (ours .step) write rewrite
 
 abbrev pub rewriting : (List ℕ → ℕ → List ℕ → List ℕ → Result) → Operations
-rewriting rewrite = program imageVerdict (ours .begin) (ours .find) (ours .step) write rewrite
+rewriting rewrite = program imageVerdict (ours .begin) (ours .further) (ours .find) (ours .step) write rewrite
 
 -- an answer without the walk's move
 unfoldable pub still : Walk → Stepped → Stepped
@@ -163,6 +171,19 @@ stands-still d =
         → ours .step set (ours .begin set 1 .walk) (replicate 10 0) .answer .number ≡ 0
     taken (one start v stood is at) = ap (λ (h : Handing). h .at .verdict .number) (at (replicate 10 0))
     taken (several v stood at) = ap (λ (h : Handing). h .at .verdict .number) (at (replicate 10 0))
+
+-- a search that stays at its file, and so finds it again and again: here there is one file
+pub same-file-again : Demand2 (searching (λ s a b. ours .first s)) → ⊥
+unfolding verdict beginningOf
+same-file-again d =
+    let one : ours .begin set 1 .verdict .number ≡ 0 = ap (λ (v : Verdict). v .number) (d .files set [] ledgerFile [] set-accepted set-files .begun) in
+    let again : ours .begin set 1 ≡ ours .begin set 2 = sym (d .first set set-accepted) ∙ d .further set 1 one in
+    let over : ours .begin set 2 ≡ beginningOf (NotBegun (verdict 13 0 0)) = d .no-file set 2 set-accepted behind .0 in
+    let z : _≡_ {A = ℕ} 0 13 = sym one ∙ ap (λ (b : Beginning). b .verdict .number) (again ∙ over) in
+    omega arith
+  where
+    behind : OutOf (length (content set .files)) 2
+    behind i l e = let few : length (content set .files) ≡ 1 = ap length set-files in omega (arith, few)
 
 -- a search that joins every record in the buffer, be it one unit, and so gives 10 for it
 unfoldable pub copied : List ℕ → List ℕ → Located → Handing

@@ -1,9 +1,10 @@
--- The judgement of one label: its first wrong field (number 4), its accessibility (5), and the lowest unequal field of two labels (for 6).
+-- The judgement of one label: its first wrong field (number 4), its accessibility (5), and the lowest unequal field of two labels (for 6); and the field in
+-- which a byte stands, for whoever shows a label.
 -- Document 01, "Numbers given back": within one item the smallest number; for 4, 5 and 6 the place is the first BP of the lowest wrong field.
 use mathlib.Core.Bool.{Bool, true, false}
 use mathlib.Core.List.{List, [], _∷_}
 use Prim.Native.Nat.{ℕ, _+_, _-_}
-use lib.Dec.{eqb}
+use lib.Dec.{eqb, ltb}
 use lib.ListN.{getD}
 use Rattle.base.specs.If.{ifB}
 use Rattle.base.specs.Part.{part, same}
@@ -35,6 +36,18 @@ wrongFrom l at rows = firstBad (goodAt l) at rows
 -- the BP of the first field, from place `at` on, that is to be equal in both labels and is not, or 0
 abbrev pub unequalFrom : List ℕ → List ℕ → ℕ → List ℕ → ℕ
 unequalFrom a b at rows = firstBad (agreeAt a b) at rows
+
+-- whether the field, whatever its rule, ends before BP b
+unfoldable pub endsBefore : ℕ → ℕ → ℕ → Bool
+endsBefore b at w = ltb (at + w) b
+
+-- the BP of the field, from place `at` on, in which BP b stands, or 0
+abbrev pub fieldFrom : ℕ → ℕ → List ℕ → ℕ
+fieldFrom b at rows = firstBad (λ _. endsBefore b) at rows
+
+-- the first BP of the field in which BP b of such a label stands, or 0 where b is no BP or the label has no fields
+unfoldable pub fieldWith : Kind → ℕ → ℕ
+fieldWith k b = ifB (eqb b 0) 0 (fieldFrom b 0 (fieldsOf k))
 
 -- the BP of the accessibility of a kind of label, or 0 where it has none
 unfoldable pub accessOf : Kind → ℕ

@@ -6,6 +6,7 @@ mod judged; // judged.rt: one label by itself
 mod made; // made.rt: the labels that the writer makes
 mod name; // name.rt: the kind of a label
 mod table; // table.rt: the fields of each label
+mod within; // within.rt: the field in which a byte stands
 
 pub use compared::unequal_section_first;
 pub use compared::unequal_section_second;
@@ -25,3 +26,4 @@ pub use made::first_label;
 pub use made::second_label;
 pub use made::volume_label;
 pub use name::kind;
+pub use within::field_with;

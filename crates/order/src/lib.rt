@@ -6,6 +6,7 @@ ghost use lib.Dec.{ltb};
 ghost use Rattle.base.specs.If.{ifB};
 ghost use Rattle.order.specs.Kind.{kind, isKind};
 ghost use Rattle.order.specs.Due.{dueAfter};
+ghost use Rattle.order.specs.Group.{groupAfter};
 
 // The families of kinds.
 pub const OTHER: u32 = 0;
@@ -31,6 +32,14 @@ pub const TAPE_MARK: u32 = 9;
 pub const END_OF_REEL: u32 = 10;
 
 pub const END_OF_IMAGE: u32 = 11;
+
+// Where an item stands, as far as it decides what a block is: among labels, among those of a header, behind which a mark opens the data, or among data
+// blocks.
+pub const AMONG_LABELS: u32 = 0;
+
+pub const AMONG_HEADERS: u32 = 1;
+
+pub const AMONG_DATA: u32 = 2;
 
 // What an item is to the order: a family and, for numbered labels, the number; else number 0.
 pub struct Kind {
@@ -228,4 +237,27 @@ pub fn due_after(p: Phase, k: Kind) -> Due
         Phase::Over => either(k, END_OF_IMAGE, 0, Phase::Accepted, Due::Wrong),
         Phase::Accepted => Due::Wrong,
     }
+}
+
+// Where the item behind one of kind k stands, whatever stood before.
+pub fn group_after(group: u32, k: Kind) -> u32
+    ensures { λ r. ⌜ r ≡ groupAfter group k ⌝ }
+{
+    let family = k.family;
+    if family == TAPE_MARK {
+        if group == AMONG_HEADERS {
+            return AMONG_DATA;
+        }
+        return AMONG_LABELS;
+    }
+    if family == DATA_BLOCK {
+        return AMONG_DATA;
+    }
+    if family == HDR {
+        return AMONG_HEADERS;
+    }
+    if family == UHL {
+        return AMONG_HEADERS;
+    }
+    AMONG_LABELS
 }

@@ -4,11 +4,13 @@ ghost use lib.ListN.{length};
 ghost use Rattle.output.specs.Output.{Answers, AnswersAt, fitted};
 ghost use Rattle.simh.specs.Set.{fromSimh, toSimh, Converts};
 ghost use Rattle.volume.specs.Run.{imageVerdict};
-ghost use Rattle.content.specs.File.{begunAt};
+ghost use Rattle.label.specs.Judged.{fieldWith};
+ghost use Rattle.content.specs.File.{begunAt, firstFile, nextFile};
+ghost use Rattle.content.specs.Items.{itemAt};
 ghost use Rattle.content.specs.Records.{recordsAt, factsOf};
 ghost use Rattle.content.specs.Found.{foundAt, leftAt};
 ghost use Rattle.content.specs.Walk.{stepAt, joinAt};
-ghost use Rattle.content.specs.Numbers.{recordOf, beginningOf, steppedOf};
+ghost use Rattle.content.specs.Numbers.{recordOf, noWalk, beginningOf, fileOf, steppedOf};
 ghost use Rattle.listing.specs.Text.{textOf};
 ghost use Rattle.writer.specs.Write.{write};
 ghost use Rattle.writer.specs.Sets.{flat};
@@ -16,15 +18,22 @@ ghost use Rattle.writer.specs.Rewrite.{rewrite};
 use base::Verdict;
 use content::Beginning;
 use content::Facts;
+use content::FileAt;
+use content::ItemAt;
 use content::Located;
 use content::Stepped;
 use content::Walk;
 use content::begin;
 use content::beginning_of;
 use content::file_facts;
+use content::file_of;
+use content::first_file;
+use content::item_at;
+use content::next_file;
 use content::record;
 use content::record_of;
 use content::stepped_of;
+use order::Kind;
 use output::Written;
 use simh::Tapes;
 
@@ -51,6 +60,50 @@ pub extern "C" fn tardorelga_begin(image: &[u8], n: u64) -> Beginning
     ensures { λ x. ⌜ x ≡ beginningOf (begunAt (now (image .entry)) n) ⌝ }
 {
     beginning_of(begin(image, n))
+}
+
+// The first file of an image, by the order of its items alone; of an accepted set file 1.
+#[no_mangle]
+pub extern "C" fn tardorelga_first_file(image: &[u8]) -> Beginning
+    ensures { λ x. ⌜ x ≡ fileOf (firstFile (now (image .entry))) ⌝ }
+{
+    file_of(first_file(image))
+}
+
+// The file behind the one whose HDR1 and HDR2 stand at these places, be they right or forged; in an accepted set the file of the next number.
+#[no_mangle]
+pub extern "C" fn tardorelga_next_file(image: &[u8], hdr1: u64, hdr2: u64) -> Beginning
+    ensures { λ x. ⌜ x ≡ fileOf (nextFile (now (image .entry)) (record { first = hdr1; second = hdr2; walk = noWalk })) ⌝ }
+{
+    let walk = Walk {
+        format: 0,
+        size: 0,
+        offset: 0,
+        at: 0,
+        left: 0,
+    };
+    let f = FileAt {
+        first: hdr1 as usize,
+        second: hdr2 as usize,
+        walk,
+    };
+    file_of(next_file(image, f))
+}
+
+// What stands at a place between two items, in a group: any place and any group.
+#[no_mangle]
+pub extern "C" fn tardorelga_item_at(image: &[u8], at: u64, group: u32) -> ItemAt
+    ensures { λ x. ⌜ x ≡ itemAt (now (image .entry)) at group ⌝ }
+{
+    item_at(image, at as usize, group)
+}
+
+// The first byte of the field in which a byte of such a label stands, both counted from 1, or 0.
+#[no_mangle]
+pub extern "C" fn tardorelga_field_at(family: u32, number: u32, byte: u32) -> u32
+    ensures { λ x. ⌜ x ≡ fieldWith (record { family = family; number = number }) byte ⌝ }
+{
+    label::field_with(Kind { family, number }, byte)
 }
 
 // How many records, and record bytes, there are from a walk on, whatever its state.

@@ -115,7 +115,7 @@ end-over p h = by-due (dueAfter p endOfImage) refl h
     by-due Wrong e f = absurd (false≢true f)
 
 -- a broken item is never due
-broken-undue : (p q : Phase) → dueAfter p other ≡ To q → ⊥
+pub broken-undue : (p q : Phase) → dueAfter p other ≡ To q → ⊥
 unfolding isKind ifB
 broken-undue p q e = false≢true (row p other q e)
 
