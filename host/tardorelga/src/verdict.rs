@@ -31,6 +31,34 @@ impl Verdict {
         self.number == 0
     }
 
+    /// The sentence of its number.
+    ///
+    /// ```
+    /// let verdict = tardorelga::check(b"no tape");
+    /// assert_eq!(verdict.words(), "this is no image of a tape set");
+    /// ```
+    pub fn words(self) -> &'static str {
+        match self.number {
+            0 => "accepted, or done",
+            1 => "this is no image of a tape set",
+            2 => "an item is torn, or the reels do not end as they must",
+            3 => "an item stands where the order of a reel forbids it",
+            4 => "a label field has a wrong content",
+            5 => "access to the volume or file is restricted",
+            6 => "labels, counts or names do not agree with each other",
+            7 => "a data block cannot be cut into records",
+            8 => "the segments of a record are out of turn, or it is too long",
+            9 => "over a limit: 16777215 bytes, 64 files, 16 reels",
+            10 => "a buffer is too short",
+            11 => "the order sheet is illegal",
+            12 => "more reels are needed than are named",
+            13 => "there is no such file or record",
+            14 => "the image would be longer than 16777215 bytes",
+            15 => "no good record, tape mark or end of the medium stands there, or bytes follow the end",
+            _ => "an unknown number",
+        }
+    }
+
     /// The value of an answer that is done, else the refusal.
     pub(crate) fn then<T>(self, value: impl FnOnce() -> T) -> Result<T, Verdict> {
         match self.is_accepted() {
