@@ -71,14 +71,12 @@ fn put(image: &[u8], head: &Head, form: Form, folder: &Path) -> io::Result<()> {
 /// The records of each file, and the sheet.
 fn fill(image: &[u8], head: &Head, form: Form, folder: &Path) -> io::Result<()> {
     let mut text = Vec::new();
-    let mut number = 1;
-    while let Ok(file) = tardorelga::file(image, number) {
-        if number == 1 {
-            text = sheet::head_text(file.set(), head.quota, &head.names);
+    for file in tardorelga::files(image).map_err(io::Error::other)? {
+        if text.is_empty() {
+            text = sheet::head_text(&file.set_entry(), head.quota, &head.names);
         }
         text.extend(sheet::file_text(&file.entry()));
-        text.extend(records(image, number, form, folder)?.as_bytes());
-        number += 1;
+        text.extend(records(&file, form, folder)?.as_bytes());
     }
     let mut sheet = Output::new(folder.join("sheet"))?;
     sheet.put(&text)?;
@@ -87,7 +85,8 @@ fn fill(image: &[u8], head: &Head, form: Form, folder: &Path) -> io::Result<()> 
 
 /// Writes the records of one file, and gives the line that the sheet has for them; no line where there
 /// are none.
-fn records(image: &[u8], number: u64, form: Form, folder: &Path) -> io::Result<String> {
+fn records(of: &tardorelga::File, form: Form, folder: &Path) -> io::Result<String> {
+    let number = u64::from(of.sequence());
     let name = |ending: &str| format!("{number:04}.{ending}");
     let file = name(match form {
         Form::Raw => "records",
@@ -97,7 +96,7 @@ fn records(image: &[u8], number: u64, form: Form, folder: &Path) -> io::Result<S
     let mut out = Output::new(folder.join(&file))?;
     let mut lengths = Lengths::new(folder.join(name("lengths")));
     let mut count = 0;
-    for record in tardorelga::records(image, number).map_err(io::Error::other)? {
+    for record in of.records() {
         count += 1;
         match form {
             Form::Raw => lengths.push(record.len() as u64)?,

@@ -56,6 +56,25 @@ pub struct Tapes {
     pub files: u64,
 }
 
+#[repr(C)]
+#[derive(Clone, Copy, Debug, PartialEq, Eq)]
+pub struct Item {
+    pub kind: u32,
+    pub number: u32,
+    pub group: u32,
+    pub start: u64,
+    pub len: u64,
+    pub behind: u64,
+}
+
+#[repr(C)]
+#[derive(Clone, Copy, Debug, PartialEq, Eq)]
+pub struct Field {
+    pub first: u32,
+    pub len: u32,
+    pub rule: u32,
+}
+
 extern "C" {
     pub fn tardorelga_check(image: *const u8, image_len: usize) -> Verdict;
     pub fn tardorelga_record(
@@ -67,6 +86,15 @@ extern "C" {
         join_len: usize,
     ) -> Found;
     pub fn tardorelga_begin(image: *const u8, image_len: usize, file: u64) -> Begun;
+    pub fn tardorelga_first_file(image: *const u8, image_len: usize) -> Begun;
+    pub fn tardorelga_next_file(
+        image: *const u8,
+        image_len: usize,
+        first: u64,
+        second: u64,
+    ) -> Begun;
+    pub fn tardorelga_item_at(image: *const u8, image_len: usize, at: u64, group: u32) -> Item;
+    pub fn tardorelga_field_at(kind: u32, number: u32, byte: u32) -> Field;
     pub fn tardorelga_count(image: *const u8, image_len: usize, walk: Walk) -> Facts;
     pub fn tardorelga_step(
         image: *const u8,

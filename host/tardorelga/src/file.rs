@@ -1,88 +1,109 @@
-//! What a set says of one of its files.
+//! A file of a set: what its labels say of it, by name, and its records.
 
 use crate::ffi::Begun;
-use crate::records::begun;
-use crate::{Facts, Verdict};
+use crate::records::{begun, Facts, Records};
+use crate::{Format, Verdict};
+use std::fmt;
 
-/// A file of an accepted set: the fields of its first header labels that have a meaning, as they stand
-/// there, and how much it holds.
+/// A file of an accepted set: the fields of its first header labels that have a meaning, and its records.
 ///
 /// ```
+/// use tardorelga::Format;
 /// let image = include_bytes!("../doc/ledger.tgi");
 /// let file = tardorelga::file(image, 1).unwrap();
-/// assert_eq!((file.set(), file.identifier()), (&b"SET001"[..], &b"LEDGER           "[..]));
-/// assert_eq!((file.format(), file.block_length(), file.record_length()), (b'F', &b"00020"[..], &b"00010"[..]));
-/// assert_eq!((file.records, file.bytes), (1, 10));
+/// assert_eq!((file.set(), file.identifier()), ("SET001", "LEDGER"));
+/// assert_eq!((file.format(), file.block_length(), file.record_length()), (Format::Fixed, 20, 10));
+/// assert_eq!((file.records().len(), file.bytes()), (1, 10));
 /// ```
-#[derive(Clone, Copy, Debug, PartialEq, Eq)]
+#[derive(Clone, Copy, PartialEq, Eq)]
 pub struct File<'a> {
-    first: &'a [u8],
-    second: &'a [u8],
-    /// The number of its records.
-    pub records: u64,
-    /// The bytes of all its records.
-    pub bytes: u64,
+    image: &'a [u8],
+    begun: Begun,
+    facts: Facts,
 }
 
 /// File number `number`, from 1, or the image's own number, then 13.
+///
+/// ```
+/// let image = include_bytes!("../doc/ledger.tgi");
+/// assert_eq!(tardorelga::file(image, 1).unwrap().identifier(), "LEDGER");
+/// assert_eq!(tardorelga::file(image, 2).unwrap_err().number, 13);
+/// ```
 pub fn file(image: &[u8], number: u64) -> Result<File<'_>, Verdict> {
-    let Begun { verdict, first, second, walk } = begun(image, number);
-    let label = |at: u64| &image[at as usize..][..80];
-    verdict.then(|| {
-        let Facts { records, bytes } = walk.count(image);
-        File { first: label(first), second: label(second), records, bytes }
-    })
+    let begun = begun(image, number);
+    begun.verdict.then(|| File::new(image, begun))
 }
 
 impl<'a> File<'a> {
-    /// The set identifier, 6 bytes.
-    pub fn set(&self) -> &'a [u8] {
-        &self.first[21..27]
+    /// The file that the library began in this accepted image.
+    pub(crate) fn new(image: &'a [u8], begun: Begun) -> File<'a> {
+        File { image, begun, facts: begun.walk.count(image) }
     }
 
-    /// The file identifier, 17 bytes.
-    pub fn identifier(&self) -> &'a [u8] {
-        &self.first[4..21]
+    /// The set identifier, without the SPACEs that fill its field.
+    pub fn set(&self) -> &'a str {
+        text(&self.first()[21..27]).trim_end_matches(' ')
     }
 
-    /// The sequence number of the file in its set, 4 digits.
-    pub fn sequence(&self) -> &'a [u8] {
-        &self.first[31..35]
+    /// The file identifier, without the SPACEs that fill its field.
+    pub fn identifier(&self) -> &'a str {
+        text(&self.first()[4..21]).trim_end_matches(' ')
     }
 
-    /// The generation, 4 digits.
-    pub fn generation(&self) -> &'a [u8] {
-        &self.first[35..39]
+    /// The sequence number of the file in its set, from 1.
+    pub fn sequence(&self) -> u32 {
+        number(&self.first()[31..35])
     }
 
-    /// The version of the generation, 2 digits.
-    pub fn version(&self) -> &'a [u8] {
-        &self.first[39..41]
+    /// The generation number.
+    pub fn generation(&self) -> u32 {
+        number(&self.first()[35..39])
     }
 
-    /// The creation date, of section 0001: SPACE or `0`, year and day.
-    pub fn creation(&self) -> &'a [u8] {
-        &self.first[41..47]
+    /// The version of the generation.
+    pub fn version(&self) -> u32 {
+        number(&self.first()[39..41])
     }
 
-    /// The expiration date, of section 0001: SPACE or `0`, year and day.
-    pub fn expiration(&self) -> &'a [u8] {
-        &self.first[47..53]
+    /// The creation date of section 0001, six characters: SPACE or `0`, year and day. They stay as they
+    /// stand there, since ` 00000` and `000000` are two values.
+    pub fn created(&self) -> &'a str {
+        text(&self.first()[41..47])
     }
 
-    /// `F`, `D` or `S`.
-    pub fn format(&self) -> u8 {
-        self.second[4]
+    /// The expiration date of section 0001, in the same form.
+    pub fn expires(&self) -> &'a str {
+        text(&self.first()[47..53])
     }
 
-    /// The block length B, 5 digits.
-    pub fn block_length(&self) -> &'a [u8] {
-        &self.second[5..10]
+    /// How its records stand in its blocks.
+    pub fn format(&self) -> Format {
+        Format::of(self.second()[4]).expect("an accepted file has a format")
     }
 
-    /// The record length R, 5 digits.
-    pub fn record_length(&self) -> &'a [u8] {
-        &self.second[10..15]
+    /// The block length B.
+    pub fn block_length(&self) -> u32 {
+        number(&self.second()[5..10])
+    }
+
+    /// The record length R.
+    pub fn record_length(&self) -> u32 {
+        number(&self.second()[10..15])
+    }
+
+    /// Its records, in order; their number is the iterator's `len()`.
+    ///
+    /// ```
+    /// let file = tardorelga::file(include_bytes!("../doc/ledger.tgi"), 1).unwrap();
+    /// assert!(file.records().eq([&b"0123456789"[..]]));
+    /// ```
+    pub fn records(&self) -> Records<'a> {
+        Records::new(self.image, self.begun.walk, self.facts.records)
+    }
+
+    /// The bytes of all its records.
+    pub fn bytes(&self) -> u64 {
+        self.facts.bytes
     }
 
     /// The file's 46 bytes of an order sheet, see [`Sheet::files`](crate::Sheet::files).
@@ -93,9 +114,52 @@ impl<'a> File<'a> {
     /// ```
     pub fn entry(&self) -> [u8; 46] {
         let mut entry = [0; 46];
-        entry[..17].copy_from_slice(self.identifier());
-        entry[17..35].copy_from_slice(&self.first[35..53]);
-        entry[35..].copy_from_slice(&self.second[4..15]);
+        entry[..17].copy_from_slice(&self.first()[4..21]);
+        entry[17..35].copy_from_slice(&self.first()[35..53]);
+        entry[35..].copy_from_slice(&self.second()[4..15]);
         entry
     }
+
+    /// The set identifier's 6 bytes of an order sheet, see [`Sheet::set`](crate::Sheet::set).
+    ///
+    /// ```
+    /// let file = tardorelga::file(include_bytes!("../doc/ledger.tgi"), 1).unwrap();
+    /// assert_eq!(&file.set_entry(), b"SET001");
+    /// ```
+    pub fn set_entry(&self) -> [u8; 6] {
+        let mut entry = [0; 6];
+        entry.copy_from_slice(&self.first()[21..27]);
+        entry
+    }
+
+    /// Its first HDR1 label.
+    fn first(&self) -> &'a [u8] {
+        &self.image[self.begun.first as usize..][..80]
+    }
+
+    /// Its first HDR2 label.
+    fn second(&self) -> &'a [u8] {
+        &self.image[self.begun.second as usize..][..80]
+    }
+}
+
+/// Without the image, which may be long.
+impl fmt::Debug for File<'_> {
+    fn fmt(&self, f: &mut fmt::Formatter) -> fmt::Result {
+        f.debug_struct("File")
+            .field("set", &self.set())
+            .field("entry", &text(&self.entry()))
+            .field("records", &self.facts.records)
+            .field("bytes", &self.facts.bytes)
+            .finish()
+    }
+}
+
+/// The labels of an accepted set have a-characters and digits in these fields.
+fn text(field: &[u8]) -> &str {
+    std::str::from_utf8(field).expect("a label field is text")
+}
+
+fn number(digits: &[u8]) -> u32 {
+    digits.iter().fold(0, |number, digit| 10 * number + u32::from(digit - b'0'))
 }

@@ -36,6 +36,8 @@
 #[doc(hidden)]
 pub mod ffi;
 mod file;
+mod files;
+mod format;
 mod listing;
 mod records;
 mod rewrite;
@@ -44,9 +46,22 @@ mod simh;
 mod verdict;
 
 pub use file::{file, File};
+pub use files::{files, Files};
+pub use format::Format;
 pub use listing::listing;
 pub use records::{begin, place, record, records, Facts, Place, Records, Walk};
 pub use rewrite::rewrite;
 pub use sheet::{write, Sheet};
 pub use simh::{from_simh, to_simh, Tapes};
 pub use verdict::{check, Verdict};
+
+/// No image has more bytes.
+pub const LONGEST_IMAGE: usize = 16_777_215;
+/// No set has more files.
+pub const MOST_FILES: usize = 64;
+/// No set has more reels.
+pub const MOST_REELS: usize = 16;
+/// No record has more bytes: a joining buffer of so many takes any.
+pub const LONGEST_RECORD: usize = 99_999;
+/// No listing has more bytes.
+pub const LONGEST_LISTING: usize = 4_096;

@@ -2,6 +2,8 @@
 
 use crate::{ffi, Verdict};
 use std::borrow::Cow;
+use std::fmt;
+use std::iter::FusedIterator;
 
 /// Where a record is: a record of one unit is a part of the image, one of several segments was joined
 /// into the front of the lent buffer.
@@ -151,20 +153,36 @@ impl Walk {
 ///
 /// ```
 /// let image = include_bytes!("../doc/ledger.tgi");
-/// let records: Vec<_> = tardorelga::records(image, 1).unwrap().collect();
-/// assert_eq!(records, [&b"0123456789"[..]]);
+/// let records = tardorelga::records(image, 1).unwrap();
+/// assert_eq!(records.len(), 1);
+/// assert_eq!(records.collect::<Vec<_>>(), [&b"0123456789"[..]]);
 /// ```
-#[derive(Clone, Debug)]
+#[derive(Clone)]
 pub struct Records<'a> {
     image: &'a [u8],
     walk: Walk,
+    /// How many records the walk has before it.
+    left: u64,
     /// Empty until a record must be joined, then of R bytes, which hold every record of the file.
     join: Vec<u8>,
 }
 
 /// The records of file number `file`, from 1, or the image's own number, then 13.
+///
+/// ```
+/// let none = tardorelga::records(include_bytes!("../doc/ledger.tgi"), 2);
+/// assert_eq!(none.unwrap_err().number, 13);
+/// ```
 pub fn records(image: &[u8], file: u64) -> Result<Records<'_>, Verdict> {
-    Ok(Records { image, walk: begin(image, file)?, join: Vec::new() })
+    let walk = begin(image, file)?;
+    Ok(Records::new(image, walk, walk.count(image).records))
+}
+
+impl<'a> Records<'a> {
+    /// The records of a walk that has so many before it.
+    pub(crate) fn new(image: &'a [u8], walk: Walk, left: u64) -> Records<'a> {
+        Records { image, walk, left, join: Vec::new() }
+    }
 }
 
 impl<'a> Iterator for Records<'a> {
@@ -178,9 +196,24 @@ impl<'a> Iterator for Records<'a> {
         }
         let (place, walk) = step.ok()?;
         self.walk = walk;
+        self.left -= 1;
         Some(match place {
             Place::InImage { start, len } => Cow::Borrowed(&self.image[start..start + len]),
             Place::Joined { len } => Cow::Owned(self.join[..len].to_vec()),
         })
+    }
+
+    fn size_hint(&self) -> (usize, Option<usize>) {
+        (self.left as usize, Some(self.left as usize))
+    }
+}
+
+impl ExactSizeIterator for Records<'_> {}
+impl FusedIterator for Records<'_> {}
+
+/// Without the image, which may be long.
+impl fmt::Debug for Records<'_> {
+    fn fmt(&self, f: &mut fmt::Formatter) -> fmt::Result {
+        f.debug_struct("Records").field("walk", &self.walk).field("left", &self.left).finish()
     }
 }

@@ -1,6 +1,6 @@
 //! The safe library on generated sets: its answers are those of the archive, put into types.
 
-use cases::ledger::base;
+use cases::ledger::{base, files};
 use oracle::generate::{illegal_order, image_of, legal_order, whole, Rng};
 use oracle::{meaning, Answer, Meaning, Order};
 use std::borrow::Cow;
@@ -18,11 +18,11 @@ fn the_set_of_the_examples() {
 
 /// By iterator, by number and by walk the records are those of the meaning.
 fn reads(image: &[u8], Meaning { set, files }: &Meaning) {
-    assert_eq!(tardorelga::file(image, 1).expect("a file").set(), set);
-    let mut join = vec![0; 100_000];
+    assert_eq!(tardorelga::file(image, 1).expect("a file").set_entry()[..], set[..]);
+    let mut join = vec![0; tardorelga::LONGEST_RECORD];
     for (number, file) in (1..).zip(files) {
         let records = tardorelga::records(image, number).expect("the file is there");
-        assert!(records.map(Cow::into_owned).eq(file.records.iter().cloned()), "the iterator");
+        hands_out(records, &file.records);
         let mut walk = tardorelga::begin(image, number).expect("the file is there");
         for (at, bytes) in (1..).zip(&file.records) {
             let record = tardorelga::record(image, number, at, &mut join).expect("the record");
@@ -40,21 +40,49 @@ fn reads(image: &[u8], Meaning { set, files }: &Meaning) {
     assert_eq!(tardorelga::file(image, none).map_err(|v| v.number), Err(13));
 }
 
+/// The iterator says before each record how many are left, and stays at its end.
+fn hands_out(mut records: tardorelga::Records, due: &[Vec<u8>]) {
+    for (at, bytes) in due.iter().enumerate() {
+        assert_eq!(records.len(), due.len() - at);
+        assert_eq!(records.next().map(Cow::into_owned).as_ref(), Some(bytes), "the iterator");
+    }
+    assert_eq!((records.len(), records.next(), records.next()), (0, None, None));
+}
+
+/// The files of a set one after the other are those by number, and `size_hint` never lies.
+fn files_of(image: &[u8], Meaning { set, files }: &Meaning) {
+    let mut iterator = tardorelga::files(image).expect("an accepted set");
+    for (number, due) in (1..).zip(files) {
+        let (least, most) = iterator.size_hint();
+        let left = files.len() + 1 - number;
+        assert!(least <= left && most.is_some_and(|most| left <= most && most <= 64));
+        let file = iterator.next().expect("as many files");
+        assert_eq!(Ok(file), tardorelga::file(image, number as u64));
+        assert_eq!((file.sequence(), &file.set_entry()[..]), (number as u32, &set[..]));
+        hands_out(file.records(), &due.records);
+    }
+    assert_eq!(iterator.size_hint(), (0, Some(0)));
+    assert_eq!((iterator.next(), iterator.next()), (None, None));
+}
+
+/// Each field in the words of its type is the field as it stands in the label.
 fn says(found: &tardorelga::File, file: &oracle::File) {
     assert_eq!(found.entry(), file.facts);
-    let fields: [(&[u8], &[u8]); 7] = [
-        (found.identifier(), file.identifier()),
-        (found.generation(), file.generation()),
-        (found.version(), file.version()),
-        (found.creation(), file.creation()),
-        (found.expiration(), file.expiration()),
-        (found.block_length(), file.block_length()),
-        (found.record_length(), file.record_length()),
+    let fields = [
+        (format!("{:17}", found.identifier()), file.identifier()),
+        (format!("{:04}", found.generation()), file.generation()),
+        (format!("{:02}", found.version()), file.version()),
+        (found.created().into(), file.creation()),
+        (found.expires().into(), file.expiration()),
+        (found.format().to_string(), &[file.format()]),
+        (format!("{:05}", found.block_length()), file.block_length()),
+        (format!("{:05}", found.record_length()), file.record_length()),
+        (format!("{:6}", found.set()), &found.set_entry()),
     ];
-    fields.iter().for_each(|(field, due)| assert_eq!(field, due));
-    assert_eq!(found.format(), file.format());
+    fields.iter().for_each(|(field, due)| assert_eq!(field.as_bytes(), *due));
+    assert!(!found.identifier().ends_with(' ') && !found.set().ends_with(' '));
     let bytes: usize = file.records.iter().map(Vec::len).sum();
-    assert_eq!((found.records, found.bytes), (file.records.len() as u64, bytes as u64));
+    assert_eq!((found.records().len(), found.bytes()), (file.records.len(), bytes as u64));
 }
 
 #[test]
@@ -62,8 +90,20 @@ fn records() {
     let rng = &mut Rng::new(31);
     for _ in 0..1_000 {
         let image = whole(rng);
-        reads(&image, &meaning(&image).expect("a whole set"));
+        let meaning = meaning(&image).expect("a whole set");
+        reads(&image, &meaning);
+        files_of(&image, &meaning);
     }
+}
+
+#[test]
+fn sixty_four_files() {
+    let image = image_of(&files(64));
+    let sequences: Vec<u32> =
+        tardorelga::files(&image).unwrap().map(|file| file.sequence()).collect();
+    assert!(sequences.iter().copied().eq(1..=64));
+    let too_many = tardorelga::files(&image_of(&files(65))).map(|_| ()).unwrap_err();
+    assert_eq!((too_many.number, too_many.item), (9, 449));
 }
 
 #[test]
@@ -78,6 +118,7 @@ fn refusals() {
             assert_eq!(tardorelga::file(&image, 1), Err(verdict));
             assert_eq!(tardorelga::rewrite(&image, 1, b"GATE01", &mut []), Err(verdict));
             assert_eq!(tardorelga::records(&image, 1).map(|_| ()), Err(verdict));
+            assert_eq!(tardorelga::files(&image).map(|_| ()), Err(verdict));
         }
     }
 }
