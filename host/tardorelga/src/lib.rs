@@ -31,7 +31,8 @@
 //! # Lent buffers
 //!
 //! A buffer that is lent to be written to keeps every byte with a refusal, and behind what was
-//! written. Nothing is kept of any buffer behind a call, and nothing is allocated but by [`Records`].
+//! written. Nothing is kept of any buffer behind a call, and nothing is allocated but by [`Records`] and
+//! [`Order`].
 
 #[doc(hidden)]
 pub mod ffi;
@@ -39,6 +40,7 @@ mod file;
 mod files;
 mod format;
 mod listing;
+mod order;
 mod records;
 mod rewrite;
 mod sheet;
@@ -49,6 +51,7 @@ pub use file::{file, File};
 pub use files::{files, Files};
 pub use format::Format;
 pub use listing::listing;
+pub use order::{Order, OrderedFile};
 pub use records::{begin, place, record, records, Facts, Place, Records, Walk};
 pub use rewrite::rewrite;
 pub use sheet::{write, Sheet};
