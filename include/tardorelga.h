@@ -14,32 +14,79 @@
  *   With a refusal every byte and every number of every lent buffer is as it was, and places, lengths and
  *   counts are 0. Else only those of the answer change, at the front of the buffer; what is behind them
  *   stays.
- *
- * Numbers given back
- *    0  done
- *    1  no image: under five bytes, or mark or version wrong
- *    2  torn items: a bad length, an item cut short, no reel, more than 16, no end of reel at the end
- *    3  an item, or the end of the image, where the order of a reel forbids it
- *    4  a label field with a wrong content
- *    5  a volume or file that is not accessible to all
- *    6  a cross-check fails
- *    7  a data block can't be cut into units, or is too long
- *    8  segments out of turn, a record of segments that is too long, or one that is never ended
- *    9  an image over 16,777,215 bytes, a 65th file, more than 16 reel names
- *   10  a lent buffer or list is too short
- *   11  an illegal order sheet
- *   12  too few reel names
- *   13  no such file or record, or no further step of a walk
- *   14  the written image would pass 16,777,215 bytes
- *   15  a torn SIMH tape file: a word or block cut short, a length that is none of a good record, unequal
- *       lengths of a record, a pad byte that is not 0, no end of the medium or bytes behind it; or lengths
- *       that don't add up
  */
 #ifndef TARDORELGA_H
 #define TARDORELGA_H
 
 #include <stddef.h>
 #include <stdint.h>
+
+/* The version of this header and of the archive that goes with it. */
+#define TARDORELGA_VERSION_MAJOR 0
+#define TARDORELGA_VERSION_MINOR 1
+#define TARDORELGA_VERSION_PATCH 0
+#define TARDORELGA_VERSION "0.1.0"
+
+/*
+ * Numbers given back
+ *
+ *    0  DONE
+ *    1  NO_IMAGE       under five bytes, or mark or version wrong
+ *    2  TORN_ITEM      a bad length, an item cut short, no reel, more than 16, no end of reel at the end
+ *    3  OUT_OF_ORDER   an item, or the end of the image, where the order of a reel forbids it
+ *    4  WRONG_FIELD    a label field with a wrong content
+ *    5  NO_ACCESS      a volume or file that is not accessible to all
+ *    6  CROSS_CHECK    labels, counts or names that don't agree with each other
+ *    7  WRONG_BLOCK    a data block that can't be cut into units, or is too long
+ *    8  WRONG_SEGMENT  segments out of turn, a record of them that is too long, or one that is never ended
+ *    9  OVER_LIMIT     an image over 16,777,215 bytes, a 65th file, more than 16 reel names
+ *   10  SHORT_BUFFER   a lent buffer or list that is too short
+ *   11  ILLEGAL_SHEET  an illegal order sheet
+ *   12  FEW_REELS      too few reel names
+ *   13  NOT_THERE      no such file or record, or no further step of a walk
+ *   14  LONG_IMAGE     an image to be written that would pass 16,777,215 bytes
+ *   15  TORN_TAPE      a torn SIMH tape file: a word or block cut short, a length that is none of a good
+ *                      record, unequal lengths of a record, a pad byte that is not 0, no end of the medium or
+ *                      bytes behind it; or lengths that don't add up
+ */
+#define TARDORELGA_DONE 0
+#define TARDORELGA_NO_IMAGE 1
+#define TARDORELGA_TORN_ITEM 2
+#define TARDORELGA_OUT_OF_ORDER 3
+#define TARDORELGA_WRONG_FIELD 4
+#define TARDORELGA_NO_ACCESS 5
+#define TARDORELGA_CROSS_CHECK 6
+#define TARDORELGA_WRONG_BLOCK 7
+#define TARDORELGA_WRONG_SEGMENT 8
+#define TARDORELGA_OVER_LIMIT 9
+#define TARDORELGA_SHORT_BUFFER 10
+#define TARDORELGA_ILLEGAL_SHEET 11
+#define TARDORELGA_FEW_REELS 12
+#define TARDORELGA_NOT_THERE 13
+#define TARDORELGA_LONG_IMAGE 14
+#define TARDORELGA_TORN_TAPE 15
+
+/*
+ * Limits
+ *
+ * LONGEST_IMAGE    bytes of an image
+ * LONGEST_RECORD   bytes of a record: a joining buffer of so many takes any
+ * LONGEST_LISTING  bytes of a listing
+ * MOST_FILES       files of a set
+ * MOST_REELS       reels of a set
+ * HIGHEST_QUOTA    data blocks that an order sheet may allow a reel
+ */
+#define TARDORELGA_LONGEST_IMAGE 16777215
+#define TARDORELGA_LONGEST_RECORD 99999
+#define TARDORELGA_LONGEST_LISTING 4096
+#define TARDORELGA_MOST_FILES 64
+#define TARDORELGA_MOST_REELS 16
+#define TARDORELGA_HIGHEST_QUOTA 999999
+
+/* Widths: bytes of a label, of a file on an order sheet, and of a set identifier or reel name. */
+#define TARDORELGA_LABEL 80
+#define TARDORELGA_FILE_ENTRY 46
+#define TARDORELGA_NAME 6
 
 #ifdef __cplusplus
 extern "C" {
@@ -107,6 +154,20 @@ typedef struct tardorelga_begun {
 
 /* File number file, from 1: the image's own number, then 13. */
 tardorelga_begun tardorelga_begin(const uint8_t *image, size_t image_len, uint64_t file);
+
+/*
+ * The first file of an image, whatever its bytes: the set is not checked, and the file is where the first
+ * header labels seem to stand. 13 where there is none.
+ */
+tardorelga_begun tardorelga_first_file(const uint8_t *image, size_t image_len);
+
+/*
+ * The file behind the one whose HDR1 and HDR2 stand at these places, which are first and second of the
+ * answer before; behind the last one 13. The set is not checked: after tardorelga_begin(image, image_len,
+ * 1) has accepted it, the files come one by one in one pass. The places may be anything.
+ */
+tardorelga_begun tardorelga_next_file(const uint8_t *image, size_t image_len, uint64_t first,
+                                      uint64_t second);
 
 /*
  * A step: number 0, 10 or 13; the record as in tardorelga_found; and the walk moved on, or with 10 and 13
@@ -208,6 +269,84 @@ typedef struct tardorelga_tapes {
  */
 tardorelga_tapes tardorelga_to_simh(const uint8_t *image, size_t image_len, uint8_t *out,
                                     size_t out_len, uint64_t *lengths, size_t lengths_len);
+
+/*
+ * Kinds of items. OTHER is a block that is no label where one is due; UVL, UHL and UTL are labels of users;
+ * END_OF_IMAGE is at or past the end of the image; TORN is a bad length, or an item cut short.
+ */
+#define TARDORELGA_KIND_OTHER 0
+#define TARDORELGA_KIND_VOL 1
+#define TARDORELGA_KIND_UVL 2
+#define TARDORELGA_KIND_HDR 3
+#define TARDORELGA_KIND_UHL 4
+#define TARDORELGA_KIND_EOF 5
+#define TARDORELGA_KIND_EOV 6
+#define TARDORELGA_KIND_UTL 7
+#define TARDORELGA_KIND_DATA_BLOCK 8
+#define TARDORELGA_KIND_TAPE_MARK 9
+#define TARDORELGA_KIND_END_OF_REEL 10
+#define TARDORELGA_KIND_END_OF_IMAGE 11
+#define TARDORELGA_KIND_TORN 12
+
+/* Groups of items: where labels are due, behind header labels of a file, and its data. */
+#define TARDORELGA_GROUP_LABELS 0
+#define TARDORELGA_GROUP_HEADER 1
+#define TARDORELGA_GROUP_DATA 2
+
+/* The place of the first item of an image; its group is TARDORELGA_GROUP_LABELS. */
+#define TARDORELGA_FIRST_ITEM 5
+
+/*
+ * An item of an image.
+ *
+ * kind    one of TARDORELGA_KIND_..
+ * number  of a numbered label, such as 1 of VOL1; else 0.
+ * group   the group of the item behind it.
+ * start   the place of the block's bytes, len of them. For TORN the place that was asked for, and all the
+ *         bytes that are left.
+ * behind  the place of the item behind it; for TORN the end of the image.
+ */
+typedef struct tardorelga_item {
+    uint32_t kind;
+    uint32_t number;
+    uint32_t group;
+    uint64_t start;
+    uint64_t len;
+    uint64_t behind;
+} tardorelga_item;
+
+/*
+ * What stands at a place between two items, whatever the bytes: the first item is at
+ * TARDORELGA_FIRST_ITEM, the next one at behind of the answer, with its group. The set is not checked, and
+ * place and group may be anything.
+ */
+tardorelga_item tardorelga_item_at(const uint8_t *image, size_t image_len, uint64_t at,
+                                   uint32_t group);
+
+/* Rules of label fields: what a field may hold. */
+#define TARDORELGA_RULE_FREE 0
+#define TARDORELGA_RULE_A_CHARACTERS 1
+#define TARDORELGA_RULE_SPACES 2
+#define TARDORELGA_RULE_DIGITS 3
+#define TARDORELGA_RULE_ZEROS 4
+#define TARDORELGA_RULE_AT_LEAST_ONE 5    /* digits, not all of them ZERO */
+#define TARDORELGA_RULE_DATE 6            /* SPACE or 0, year and day, or five ZEROs */
+#define TARDORELGA_RULE_LABEL_STANDARD 7  /* the label standard version */
+#define TARDORELGA_RULE_FORMAT 8          /* F, D or S */
+#define TARDORELGA_RULE_RECORD_LENGTH 9   /* digits that suit format, block length and offset */
+
+/* A field of a label: its first byte position, from 1, how many bytes it has, and its rule. */
+typedef struct tardorelga_field {
+    uint32_t first;
+    uint32_t len;
+    uint32_t rule;
+} tardorelga_field;
+
+/*
+ * The field of a label of this kind and number, as tardorelga_item_at gives them, in which byte position
+ * byte, from 1, stands. All is 0 where there is none. The numbers may be anything.
+ */
+tardorelga_field tardorelga_field_at(uint32_t kind, uint32_t number, uint32_t byte);
 
 #ifdef __cplusplus
 }

@@ -2,28 +2,31 @@
 
 use cases::ledger::{base, base_with, set_of};
 use oracle::generate::image_of;
+use std::fs;
 use std::io::Write;
 use std::path::{Path, PathBuf};
 use std::process::{Command, Stdio};
 
-/// The small program of `tests/c`, compiled as this language and linked with the archive.
-fn compiled(compiler: &str, language: &[&str]) -> PathBuf {
-    let here = Path::new(env!("CARGO_MANIFEST_DIR"));
-    let root = here.join("../..");
-    let program = Path::new(env!("CARGO_TARGET_TMPDIR")).join(format!("check-{compiler}"));
-    let status = Command::new(compiler)
-        .args(language)
-        .args(["-Wall", "-Wextra", "-Werror", "-pedantic", "-I"])
-        .arg(root.join("include"))
-        .arg(here.join("tests/c/check.c"))
+/// A source of this repository, compiled as this language into a program of this name.
+fn compiled(source: &str, name: &str, compiler: &[&str]) -> PathBuf {
+    let program = Path::new(env!("CARGO_TARGET_TMPDIR")).join(name);
+    let status = Command::new(compiler[0])
+        .args(&compiler[1..])
+        .args(["-Wall", "-Wextra", "-Wpedantic", "-Werror", "-I"])
+        .arg(root().join("include"))
+        .arg(root().join(source))
         .args(["-x", "none"])
-        .arg(root.join("target/staticlib/libtardorelga.a"))
+        .arg(root().join("target/staticlib/libtardorelga.a"))
         .arg("-o")
         .arg(&program)
         .status()
         .expect("a compiler");
-    assert!(status.success(), "{compiler} compiles and links");
+    assert!(status.success(), "{compiler:?} compiles and links {source}");
     program
+}
+
+fn root() -> PathBuf {
+    Path::new(env!("CARGO_MANIFEST_DIR")).join("../..")
 }
 
 /// What the program writes on this image, and its exit status.
@@ -120,12 +123,119 @@ fn says_refusal(program: &Path, image: &[u8], what: &str, tape: &str) {
     says(program, image, &lines, 1);
 }
 
+const CHECK: &str = "host/tardorelga/tests/c/check.c";
+
 #[test]
 fn a_program_in_c() {
-    says_what_is_due(&compiled("gcc", &["-std=c99"]));
+    says_what_is_due(&compiled(CHECK, "check-c", &["gcc", "-std=c99"]));
 }
 
 #[test]
 fn a_program_in_cpp() {
-    says_what_is_due(&compiled("g++", &["-std=c++11", "-x", "c++"]));
+    says_what_is_due(&compiled(CHECK, "check-cpp", &["g++", "-std=c++11", "-x", "c++"]));
+}
+
+/// The header needs no other before it, in either language, and may be included twice.
+#[test]
+fn the_header_alone() {
+    for (compiler, standard, language) in
+        [("gcc", "-std=c99", "c"), ("gcc", "-std=c17", "c"), ("g++", "-std=c++11", "c++")]
+    {
+        let mut child = Command::new(compiler)
+            .args([standard, "-Wall", "-Wextra", "-Wpedantic", "-Werror", "-fsyntax-only", "-I"])
+            .arg(root().join("include"))
+            .args(["-x", language, "-"])
+            .stdin(Stdio::piped())
+            .spawn()
+            .expect("a compiler");
+        let text = "#include \"tardorelga.h\"\n#include \"tardorelga.h\"\n";
+        child.stdin.take().expect("a pipe").write_all(text.as_bytes()).expect("it reads");
+        assert!(child.wait().expect("it ends").success(), "{compiler} {standard}");
+    }
+}
+
+/// What the example for users prints of a file, on both streams, and its exit status.
+fn example_says(program: &Path, image: &Path) -> (String, String, Option<i32>) {
+    let output = Command::new(program).arg(image).output().expect("the example starts");
+    let text = |bytes| String::from_utf8(bytes).expect("text");
+    (text(output.stdout), text(output.stderr), output.status.code())
+}
+
+#[test]
+fn the_example() {
+    let example = compiled("bindings/c/example.c", "example", &["gcc", "-std=c99"]);
+    let messages = "0001 MESSAGES          S 4 54\n\
+                    0002 INDEX             D 2 15\n\
+                    LINE OPEN\nFLOOD AT THE LOWER GATE, SEND HELP\n\nLINE CLOSED\n";
+    let said = example_says(&example, &root().join("samples/messages.tgi"));
+    assert_eq!(said, (messages.into(), String::new(), Some(0)));
+    let refused = root().join("samples/refused-6.tgi");
+    let sentence = format!("{}: refused 6 at item 6 byte 55\n", refused.display());
+    assert_eq!(example_says(&example, &refused), (String::new(), sentence, Some(1)));
+    let folder = example_says(&example, &root());
+    assert_eq!((&folder.0[..], folder.2), ("", Some(2)));
+    assert_eq!(example_says(&example, &root().join("samples/none")).2, Some(2));
+    let long = Path::new(env!("CARGO_TARGET_TMPDIR")).join("too-long-for-the-example.tgi");
+    fs::write(&long, vec![0; tardorelga::LONGEST_IMAGE + 1]).expect("a file");
+    let sentence = format!("{}: refused 9 at item 0 byte 0\n", long.display());
+    assert_eq!(example_says(&example, &long), (String::new(), sentence, Some(1)));
+}
+
+/// The constants of the header, without the front that they share.
+fn constants() -> Vec<(String, String)> {
+    let header = fs::read_to_string(root().join("include/tardorelga.h")).expect("the header");
+    let constant = |line: &str| {
+        let (name, value) = line.strip_prefix("#define TARDORELGA_")?.split_once(' ')?;
+        Some((name.into(), value.split_whitespace().next()?.into()))
+    };
+    header.lines().filter_map(constant).collect()
+}
+
+#[track_caller]
+fn constant(name: &str) -> String {
+    let found: Vec<_> = constants().into_iter().filter(|(named, _)| named == name).collect();
+    assert_eq!(found.len(), 1, "{name}");
+    found[0].1.clone()
+}
+
+#[test]
+fn the_version_is_that_of_the_library() {
+    let version = env!("CARGO_PKG_VERSION");
+    assert_eq!(constant("VERSION"), format!("\"{version}\""));
+    let parts = ["MAJOR", "MINOR", "PATCH"].map(|part| constant(&format!("VERSION_{part}")));
+    assert_eq!(parts.join("."), version);
+}
+
+#[test]
+fn the_limits_are_those_of_the_library() {
+    let limits = [
+        ("LONGEST_IMAGE", tardorelga::LONGEST_IMAGE),
+        ("LONGEST_RECORD", tardorelga::LONGEST_RECORD),
+        ("LONGEST_LISTING", tardorelga::LONGEST_LISTING),
+        ("MOST_FILES", tardorelga::MOST_FILES),
+        ("MOST_REELS", tardorelga::MOST_REELS),
+    ];
+    limits.iter().for_each(|(name, limit)| assert_eq!(constant(name), limit.to_string()));
+}
+
+/// Each number, kind, group and rule has one name, and the table above the numbers has the same names.
+#[test]
+fn every_number_has_one_name() {
+    let values = |front: &str| -> Vec<usize> {
+        let named = constants().into_iter().filter(|(name, _)| name.starts_with(front));
+        named.map(|(_, value)| value.parse().expect("a number")).collect()
+    };
+    assert!(values("KIND_").into_iter().eq(0..=12));
+    assert!(values("GROUP_").into_iter().eq(0..=2));
+    assert!(values("RULE_").into_iter().eq(0..=9));
+    let header = fs::read_to_string(root().join("include/tardorelga.h")).expect("the header");
+    let rows: Vec<Vec<&str>> = header
+        .lines()
+        .skip_while(|line| !line.contains("Numbers given back"))
+        .take_while(|line| !line.starts_with("#define"))
+        .map(|line| line.split_whitespace().skip(1).take(2).collect())
+        .filter(|row: &Vec<&str>| row.first().is_some_and(|word| word.parse::<u32>().is_ok()))
+        .collect();
+    assert_eq!(rows.len(), 16);
+    rows.iter().for_each(|row| assert_eq!(constant(row[1]), row[0]));
 }
