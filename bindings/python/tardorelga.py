@@ -1,159 +1,359 @@
 """Labelled magnetic tape sets (ECMA-13, label standard version 4), for Python: the proved library, called
-through ctypes alone. bindings/python/build makes the shared object beside this file.
+through ctypes alone.
 
     >>> import tardorelga
-    >>> image = tardorelga.write("SET001", [tardorelga.File("LEDGER", "F", 20, 10, [b"0123456789"])], 1, ["GATE01"])
+    >>> ledger = tardorelga.File("LEDGER", "F", 20, 10, [b"0123456789"])
+    >>> image = tardorelga.write("SET001", [ledger], 1, ["GATE01"])
     >>> tardorelga.check(image)
     Verdict(number=0, item=0, byte=0)
-    >>> [bytes(record) for record in tardorelga.records(image, 1)]
-    [b'0123456789']
+    >>> for file in tardorelga.files(image):
+    ...     print(file.sequence, file.identifier, len(file.records), *file.records)
+    1 LEDGER 1 b'0123456789'
 
-Images and records are bytes. What can't be done raises Refused, with the library's number and place.
+Images and records are bytes, or any object that lends its bytes. What the library refuses raises Refused; a value
+of a wrong type raises TypeError, and one that a field or a number of 64 bits can't hold ValueError.
+
+The shared object is looked for as TARDORELGA_LIBRARY names it, else beside this file, in the lib folder that
+this file is installed in, and where the system's loader looks for libtardorelga.so.0.
+
+Everything here is annotated. mypy reads that where the folder of this file is on MYPYPATH; a module of one
+file has no place for the mark (py.typed) by which it would take an installed one.
 """
 
 import array
 import ctypes
 import dataclasses
 import itertools
+import operator
 import os
 import typing
 
-LONGEST_IMAGE = 16_777_215
-_MOST_REELS = 16
-# Room for the heading and a line for each of 64 files.
-_LONGEST_LISTING = 4096
+__all__ = [
+    "LONGEST_IMAGE",
+    "File",
+    "Records",
+    "Refused",
+    "TapeFile",
+    "Verdict",
+    "check",
+    "file",
+    "files",
+    "from_simh",
+    "listing",
+    "record",
+    "records",
+    "rewrite",
+    "to_simh",
+    "write",
+]
+__version__ = "0.1.0"
 
-_u8, _u32, _u64, _size, _bytes = ctypes.c_uint8, ctypes.c_uint32, ctypes.c_uint64, ctypes.c_size_t, ctypes.c_char_p
+LONGEST_IMAGE = 16_777_215
+_LONGEST_RECORD = 99_999
+_LONGEST_LISTING = 4_096
+_MOST_REELS = 16
+
+_WORDS = {
+    0: "accepted, or done",
+    1: "this is no image of a tape set",
+    2: "an item is torn, or the reels do not end as they must",
+    3: "an item stands where the order of a reel forbids it",
+    4: "a label field has a wrong content",
+    5: "access to the volume or file is restricted",
+    6: "labels, counts or names do not agree with each other",
+    7: "a data block cannot be cut into records",
+    8: "the segments of a record are out of turn, or it is too long",
+    9: "over a limit: 16777215 bytes, 64 files, 16 reels",
+    10: "a buffer is too short",
+    11: "the order sheet is illegal",
+    12: "more reels are needed than are named",
+    13: "there is no such file or record",
+    14: "the image would be longer than 16777215 bytes",
+    15: "no good record, tape mark or end of the medium stands there, or bytes follow the end",
+}
+# These say nothing of a place.
+_WITHOUT_PLACE = range(10, 15)
+
+_BytesLike = typing.Union[bytes, bytearray, memoryview]
+_Text = typing.Union[str, bytes]
 
 
 class Verdict(typing.NamedTuple):
-    """The answer on an image: number 0 where it is accepted, else why and where it is not."""
+    """The answer on an image: number 0 where it is accepted, else why and where it is not. It is true exactly
+    where the image is accepted."""
 
     number: int
     item: int
     byte: int
 
-    @property
-    def accepted(self):
+    def __bool__(self) -> bool:
         return self.number == 0
+
+    @property
+    def accepted(self) -> bool:
+        """Every rule holds."""
+        return self.number == 0
+
+    @property
+    def words(self) -> str:
+        """The sentence of its number."""
+        return _WORDS.get(self.number, "an unknown number")
 
 
 class Refused(Exception):
-    """The library refused; see include/tardorelga.h for its numbers."""
+    """The library refused: verdict has the number and the place, words the sentence of the number."""
 
-    def __init__(self, verdict):
+    def __init__(self, verdict: Verdict) -> None:
+        # What the exception was made of is what makes it again in another process.
+        super().__init__(verdict)
         self.verdict = verdict
         self.number, self.item, self.byte = verdict
-        super().__init__("refused {} at item {} byte {}".format(*verdict))
+
+    @property
+    def words(self) -> str:
+        """The sentence of its number."""
+        return self.verdict.words
+
+    def __str__(self) -> str:
+        place = "" if self.number in _WITHOUT_PLACE else f" at item {self.item} byte {self.byte}"
+        return f"refused {self.number}{place}: {self.words}"
 
 
 @dataclasses.dataclass
 class File:
-    """A file of an order sheet. Texts are filled up with SPACEs behind them, numbers with ZEROs before them;
-    a date is its six characters, such as " 85335" for day 335 of the year 85."""
+    """A file as it is ordered. Texts are filled up with SPACEs behind them, numbers with ZEROs before them; the
+    format is "F", "D" or "S"; a date is its six characters, such as " 85335" for day 335 of the year 85."""
 
-    identifier: str
-    format: str
+    identifier: _Text
+    record_format: _Text
     block_length: int
     record_length: int
-    records: typing.Iterable[bytes]
+    records: typing.Iterable[_BytesLike]
     generation: int = 1
     version: int = 0
+    created: _Text = " 00000"
+    expires: _Text = " 00000"
+
+    def entry(self) -> bytes:
+        """Its fields as the library takes them, 46 bytes."""
+        fields = [
+            _text(self.identifier, 17, "identifier"),
+            _digits(self.generation, 4, "generation"),
+            _digits(self.version, 2, "version"),
+            _text(self.created, 6, "created"),
+            _text(self.expires, 6, "expires"),
+            _text(self.record_format, 1, "record_format"),
+            _digits(self.block_length, 5, "block_length"),
+            _digits(self.record_length, 5, "record_length"),
+        ]
+        return b"".join(fields)
+
+
+class Records:
+    """The records of a file that was read: each time they are asked for, one after the other."""
+
+    def __init__(self, image: bytes, walk: "_Walk") -> None:
+        self._image, self._walk = image, walk
+        facts = _call("count", image, len(image), walk)
+        self._count: int = facts.records
+        self.byte_count: int = facts.bytes
+
+    def __len__(self) -> int:
+        return self._count
+
+    def __iter__(self) -> typing.Iterator[bytes]:
+        return _walked(self._image, self._walk)
+
+    def __repr__(self) -> str:
+        return f"<{self._count} records of {self.byte_count} bytes>"
+
+
+@dataclasses.dataclass
+class TapeFile(File):
+    """A file as it was read: its fields without what fills them up, and its records. It can be ordered again."""
+
+    identifier: str
+    record_format: str
+    records: Records
     created: str = " 00000"
     expires: str = " 00000"
+    sequence: int = 1
+    set_identifier: str = ""
 
-    def entry(self):
-        """Its fields as the library takes them."""
-        numbers = [(self.generation, 4), (self.version, 2), (self.block_length, 5), (self.record_length, 5)]
-        generation, version, block, record = (_number(value, width) for value, width in numbers)
-        identifier, created, expires, kind = (
-            _text(value, width)
-            for value, width in [(self.identifier, 17), (self.created, 6), (self.expires, 6), (self.format, 1)]
-        )
-        return identifier + generation + version + created + expires + kind + block + record
+    @property
+    def byte_count(self) -> int:
+        """The bytes of all its records."""
+        return self.records.byte_count
 
 
-def check(image):
+def check(image: _BytesLike) -> Verdict:
     """The verdict on an image, whatever its bytes."""
-    image = bytes(image)
-    return _call("check", image, len(image)).tuple()
+    image = _bytes(image, "image")
+    verdict: Verdict = _call("check", image, len(image)).verdict()
+    return verdict
 
 
-def list(image):
+def listing(image: _BytesLike) -> str:
     """The listing: a heading, and a line for each file with its number, identifier, format, records and bytes."""
-    image = bytes(image)
+    image = _bytes(image, "image")
     _call("check", image, len(image)).raise_refused()
     return _written("listing", _LONGEST_LISTING, image, len(image)).decode("ascii")
 
 
-def records(image, file):
-    """The records of file number file, from 1, one after the other."""
-    image = bytes(image)
-    begun = _call("begin", image, len(image), file)
-    begun.verdict.raise_refused()
-    return _walk(image, begun.walk)
+def file(image: _BytesLike, number: int) -> TapeFile:
+    """File number number, from 1."""
+    image = _bytes(image, "image")
+    return _tape_file(image, _begun(image, number))
 
 
-def write(set, files, quota, reels):
+def files(image: _BytesLike) -> typing.Iterator[TapeFile]:
+    """The files of a set, one after the other. The set is checked once, at the call."""
+    image = _bytes(image, "image")
+    return _following(image, _begun(image, 1))
+
+
+def record(image: _BytesLike, file_number: int, number: int) -> bytes:
+    """Record number number of file number file_number, both from 1."""
+    image = _bytes(image, "image")
+    wanted = _number(file_number, "file_number"), _number(number, "number")
+    join = ctypes.create_string_buffer(_LONGEST_RECORD)
+    found = _call("record", image, len(image), *wanted, join, _LONGEST_RECORD)
+    found.verdict.raise_refused()
+    return _part(image, join, found)
+
+
+def records(image: _BytesLike, file_number: int) -> typing.Iterator[bytes]:
+    """The records of file number file_number, from 1, one after the other. The set is checked at the call."""
+    image = _bytes(image, "image")
+    return _walked(image, _begun(image, file_number, "file_number").walk)
+
+
+def write(set_identifier: _Text, files: typing.Iterable[File], quota: int, reels: typing.Iterable[_Text]) -> bytes:
     """The image of an order sheet: a set identifier, files, how many data blocks a reel may hold, reel names."""
     entries, counts, lengths, data = b"", array.array("Q"), array.array("Q"), bytearray()
-    for file in files:
-        entries += file.entry()
+    for ordered in _several(files, "files"):
+        if not isinstance(ordered, File):
+            raise TypeError(f"files is a row of File, and this is {_kind(ordered)}")
+        entries += ordered.entry()
         before = len(lengths)
-        for record in file.records:
-            lengths.append(len(record))
-            data += record
+        for content in _several(ordered.records, "records"):
+            content = _bytes(content, "a record")
+            lengths.append(len(content))
+            data += content
         counts.append(len(lengths) - before)
-    set, names, data = _text(set, 6), _names(reels), bytes(data)
-    sheet = [set, len(set), entries, len(entries), *_numbers(counts), *_numbers(lengths), data, len(data)]
-    return _written("write", LONGEST_IMAGE, *sheet, quota, names, len(names))
+    sheet = _lent(_text(set_identifier, 6, "set_identifier"), entries, counts, lengths, bytes(data))
+    return _written("write", LONGEST_IMAGE, *sheet, _number(quota, "quota"), *_lent(_names(reels)))
 
 
-def rewrite(image, quota, reels):
+def rewrite(image: _BytesLike, quota: int, reels: typing.Iterable[_Text]) -> bytes:
     """The normal form of a set: the same for all sets of one meaning."""
-    image, names = bytes(image), _names(reels)
-    return _written("rewrite", LONGEST_IMAGE, image, len(image), quota, names, len(names))
+    image = _bytes(image, "image")
+    return _written("rewrite", LONGEST_IMAGE, *_lent(image), _number(quota, "quota"), *_lent(_names(reels)))
 
 
-def from_simh(reels):
+def from_simh(reels: typing.Iterable[_BytesLike]) -> bytes:
     """The image of a set whose reels are tape files of SIMH, each as its bytes. Labels are not looked at."""
-    lengths, tape = array.array("Q"), bytearray()
-    for reel in reels:
-        before = len(tape)
-        tape += reel
-        lengths.append(len(tape) - before)
-    tape = bytes(tape)
+    tapes = [_bytes(reel, "a reel") for reel in _several(reels, "reels")]
+    tape, lengths = b"".join(tapes), array.array("Q", map(len, tapes))
     longest = min(5 + len(tape), LONGEST_IMAGE)
-    return _written("from_simh", longest, tape, len(tape), *_numbers(lengths))
+    return _written("from_simh", longest, *_lent(tape, lengths))
 
 
-def to_simh(image):
-    """The reels of an image as tape files of SIMH: a list of bytes, one for each reel. Labels are not looked at."""
-    image = bytes(image)
+def to_simh(image: _BytesLike) -> typing.List[bytes]:
+    """The reels of an image as tape files of SIMH, the bytes of each. Labels are not looked at."""
+    image = _bytes(image, "image")
     longest = min(len(image), LONGEST_IMAGE) * 5 // 2
     out, lengths = ctypes.create_string_buffer(longest or 1), (_u64 * _MOST_REELS)()
     tapes = _call("to_simh", image, len(image), out, longest, lengths, _MOST_REELS)
     tapes.verdict.raise_refused()
-    ends = [*itertools.accumulate(lengths[: tapes.files])]
-    return [out[end - length : end] for end, length in zip(ends, lengths)]
+    tape, ends = ctypes.string_at(out, tapes.len), itertools.accumulate(lengths[: tapes.files])
+    return [tape[end - length : end] for end, length in zip(ends, lengths)]
+
+
+# ---- values as the library takes them
+
+
+def _kind(value: object) -> str:
+    return type(value).__name__
+
+
+def _bytes(value: _BytesLike, what: str) -> bytes:
+    if isinstance(value, bytes):
+        return value
+    try:
+        return bytes(memoryview(value))
+    except TypeError:
+        raise TypeError(f"{what} is bytes, not {_kind(value)}") from None
+
+
+def _several(values: typing.Iterable[typing.Any], what: str) -> typing.Iterator[typing.Any]:
+    """A text is a row of characters to Python, and bytes are a row of numbers; nobody means that here."""
+    if isinstance(values, (str, bytes, bytearray, memoryview)):
+        raise TypeError(f"{what} is a list or another row of values, not one {_kind(values)}")
+    try:
+        return iter(values)
+    except TypeError:
+        raise TypeError(f"{what} is a list or another row of values, not {_kind(values)}") from None
+
+
+def _whole(value: int, what: str) -> int:
+    if isinstance(value, bool):
+        raise TypeError(f"{what} is a whole number, not bool")
+    try:
+        return operator.index(value)
+    except TypeError:
+        raise TypeError(f"{what} is a whole number, not {_kind(value)}") from None
+
+
+def _number(value: int, what: str) -> int:
+    value = _whole(value, what)
+    if not 0 <= value < 2**64:
+        raise ValueError(f"{what} is a number from 0 to 2**64 - 1, not {value}")
+    return value
+
+
+def _digits(value: int, width: int, what: str) -> bytes:
+    value = _whole(value, what)
+    if not 0 <= value < 10**width:
+        raise ValueError(f"{what} is a number of at most {width} digits, not {value}")
+    return b"%0*d" % (width, value)
+
+
+def _text(value: _Text, width: int, what: str) -> bytes:
+    if not isinstance(value, (str, bytes)):
+        raise TypeError(f"{what} is str or bytes, not {_kind(value)}")
+    text = value.encode("latin-1") if isinstance(value, str) else value
+    if len(text) > width:
+        raise ValueError(f"{what} has at most {width} characters, and {value!r} has more")
+    return text.ljust(width)
+
+
+def _names(reels: typing.Iterable[_Text]) -> bytes:
+    return b"".join(_text(name, 6, "a reel name") for name in _several(reels, "reels"))
 
 
 # ---- the library's own structs and functions, as include/tardorelga.h has them
+
+_u8, _u32, _u64, _size, _bytes_at = ctypes.c_uint8, ctypes.c_uint32, ctypes.c_uint64, ctypes.c_size_t, ctypes.c_char_p
 
 
 class _Verdict(ctypes.Structure):
     _fields_ = [("number", _u32), ("item", _u32), ("byte", _u32)]
 
-    def tuple(self):
+    def verdict(self) -> Verdict:
         return Verdict(self.number, self.item, self.byte)
 
-    def raise_refused(self):
+    def raise_refused(self) -> None:
         if self.number:
-            raise Refused(self.tuple())
+            raise Refused(self.verdict())
 
 
 class _Walk(ctypes.Structure):
     _fields_ = [("format", _u32), ("size", _u32), ("offset", _u64), ("at", _u64), ("left", _u64)]
+
+
+class _Found(ctypes.Structure):
+    _fields_ = [("verdict", _Verdict), ("joined", _u32), ("start", _u64), ("len", _u64)]
 
 
 class _Begun(ctypes.Structure):
@@ -164,6 +364,10 @@ class _Stepped(ctypes.Structure):
     _fields_ = [("number", _u32), ("joined", _u32), ("start", _u64), ("len", _u64), ("walk", _Walk)]
 
 
+class _Facts(ctypes.Structure):
+    _fields_ = [("records", _u64), ("bytes", _u64)]
+
+
 class _Written(ctypes.Structure):
     _fields_ = [("verdict", _Verdict), ("len", _u64)]
 
@@ -172,11 +376,13 @@ class _Tapes(ctypes.Structure):
     _fields_ = [("verdict", _Verdict), ("len", _u64), ("files", _u64)]
 
 
-_slice, _out = (_bytes, _size), (ctypes.c_void_p, _size)
+_slice, _out = (_bytes_at, _size), (ctypes.c_void_p, _size)
 _words = (ctypes.c_void_p, _size)
 _FUNCTIONS = {
     "check": (_Verdict, *_slice),
+    "record": (_Found, *_slice, _u64, _u64, *_out),
     "begin": (_Begun, *_slice, _u64),
+    "count": (_Facts, *_slice, _Walk),
     "step": (_Stepped, *_slice, _Walk, *_out),
     "listing": (_Written, *_slice, *_out),
     "rewrite": (_Written, *_slice, _u64, *_slice, *_out),
@@ -185,61 +391,107 @@ _FUNCTIONS = {
     "to_simh": (_Tapes, *_slice, *_out, *_words),
 }
 
+_SHARED_OBJECT = "libtardorelga.so.0"
 
-def _load():
-    beside = os.path.join(os.path.dirname(os.path.abspath(__file__)), "libtardorelga.so")
-    library = ctypes.CDLL(os.environ.get("TARDORELGA_LIBRARY", beside))
-    functions = {}
+
+def _places() -> typing.List[str]:
+    """Where the shared object may be, the first place first. A name without a folder is the system loader's."""
+    named = os.environ.get("TARDORELGA_LIBRARY")
+    if named:
+        return [named]
+    here = os.path.dirname(os.path.abspath(__file__))
+    beside = os.path.join(here, "libtardorelga.so")
+    # An installed module stands in lib/python3/dist-packages or the like.
+    installed = os.path.join(os.path.dirname(os.path.dirname(here)), _SHARED_OBJECT)
+    return [*filter(os.path.exists, [beside, installed]), _SHARED_OBJECT]
+
+
+def _load() -> typing.Dict[str, typing.Any]:
+    place = _places()[0]
+    try:
+        library = ctypes.CDLL(place)
+        functions = {name: getattr(library, "tardorelga_" + name) for name in _FUNCTIONS}
+    except (OSError, AttributeError) as trouble:
+        raise ImportError(
+            f"tardorelga can't use its library {place} ({trouble}): make it with bindings/python/build, "
+            "install it with ./install, or name it in TARDORELGA_LIBRARY"
+        ) from None
     for name, (result, *parameters) in _FUNCTIONS.items():
-        function = getattr(library, "tardorelga_" + name)
-        function.restype, function.argtypes = result, parameters
-        functions[name] = function
+        functions[name].restype, functions[name].argtypes = result, parameters
     return functions
 
 
 _LIBRARY = _load()
 
 
-def _call(name, *words):
+def _call(name: str, *words: typing.Any) -> typing.Any:
     return _LIBRARY[name](*words)
 
 
-def _walk(image, walk):
+def _begun(image: bytes, number: int, what: str = "number") -> _Begun:
+    begun: _Begun = _call("begin", image, len(image), _number(number, what))
+    begun.verdict.raise_refused()
+    return begun
+
+
+def _next_file(image: bytes, first: int, second: int) -> _Begun:
+    """The file behind the one whose HDR1 and HDR2 stand at these places, or 13."""
+    # STAND-IN: the sequence number of an accepted file is its number.
+    begun: _Begun = _call("begin", image, len(image), int(image[first + 31 : first + 35]) + 1)
+    return begun
+
+
+def _following(image: bytes, begun: _Begun) -> typing.Iterator[TapeFile]:
+    while not begun.verdict.number:
+        yield _tape_file(image, begun)
+        begun = _next_file(image, begun.first, begun.second)
+
+
+def _tape_file(image: bytes, begun: _Begun) -> TapeFile:
+    first = image[begun.first : begun.first + 80].decode("latin-1")
+    second = image[begun.second : begun.second + 80].decode("latin-1")
+    return TapeFile(
+        identifier=first[4:21].rstrip(" "),
+        record_format=second[4],
+        block_length=int(second[5:10]),
+        record_length=int(second[10:15]),
+        records=Records(image, begun.walk),
+        generation=int(first[35:39]),
+        version=int(first[39:41]),
+        created=first[41:47],
+        expires=first[47:53],
+        sequence=int(first[31:35]),
+        set_identifier=first[21:27].rstrip(" "),
+    )
+
+
+def _walked(image: bytes, walk: _Walk) -> typing.Iterator[bytes]:
     join = ctypes.create_string_buffer(walk.size or 1)
     while True:
         step = _call("step", image, len(image), walk, join, walk.size)
         if step.number:
             return
-        yield join.raw[: step.len] if step.joined else image[step.start : step.start + step.len]
+        yield _part(image, join, step)
         walk = step.walk
 
 
-def _written(name, longest, *words):
+def _part(image: bytes, join: typing.Any, found: typing.Any) -> bytes:
+    """A record of several segments was joined in the buffer; any other is a part of the image."""
+    return ctypes.string_at(join, found.len) if found.joined else image[found.start : found.start + found.len]
+
+
+def _written(name: str, longest: int, *words: typing.Any) -> bytes:
     out = ctypes.create_string_buffer(longest)
     written = _call(name, *words, out, longest)
     written.verdict.raise_refused()
     return ctypes.string_at(out, written.len)
 
 
-def _numbers(numbers):
-    """The place and the number of these numbers; a place even where there are none."""
-    count = len(numbers)
-    kept = (_u64 * max(count, 1)).from_buffer(numbers if count else array.array("Q", [0]))
-    return kept, count
-
-
-def _text(value, width):
-    value = value.encode("latin-1") if isinstance(value, str) else bytes(value)
-    if len(value) > width:
-        raise ValueError(f"{value!r} has more than {width} bytes")
-    return value.ljust(width)
-
-
-def _number(value, width):
-    if not 0 <= value < 10**width:
-        raise ValueError(f"{value} is no number of {width} digits")
-    return b"%0*d" % (width, value)
-
-
-def _names(reels):
-    return b"".join(_text(name, 6) for name in reels)
+def _lent(*parts: typing.Union[bytes, "array.array[int]"]) -> typing.Iterator[typing.Any]:
+    """The place and the length of each part; numbers have a place even where there are none."""
+    for part in parts:
+        if isinstance(part, bytes):
+            yield part
+        else:
+            yield (_u64 * max(len(part), 1)).from_buffer(part if part else array.array("Q", [0]))
+        yield len(part)

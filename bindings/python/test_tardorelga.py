@@ -1,13 +1,26 @@
 """The Python binding on the samples: python3 -m unittest discover bindings/python"""
 
+import builtins
+import concurrent.futures
+import copy
+import dataclasses
 import doctest
+import inspect
+import mmap
+import os
 import pathlib
+import pickle
+import shutil
+import subprocess
+import sys
+import tempfile
 import threading
 import unittest
 
 import tardorelga
 
-SAMPLES = pathlib.Path(__file__).resolve().parents[2] / "samples"
+HERE = pathlib.Path(__file__).resolve().parent
+SAMPLES = HERE.parents[1] / "samples"
 
 
 def sample(name):
@@ -21,10 +34,46 @@ def expected():
             yield name, answer
 
 
+def accepted():
+    return [(SAMPLES / name).read_bytes() for name, answer in expected() if answer.startswith("accepted")]
+
+
 LEDGER = tardorelga.File("LEDGER", "F", 20, 10, [b"0123456789"], created=" 85335")
 
+# What takes an image, with words that are right behind it.
+TAKES_IMAGE = [
+    (tardorelga.check,),
+    (tardorelga.listing,),
+    (tardorelga.file, 1),
+    (tardorelga.files,),
+    (tardorelga.record, 1, 1),
+    (tardorelga.records, 1),
+    (tardorelga.rewrite, 1, ["GATE01"]),
+    (tardorelga.to_simh,),
+]
 
-class Check(unittest.TestCase):
+# What takes a number, as a function of it alone.
+TAKES_NUMBER = [
+    lambda number: tardorelga.file(sample("ledger"), number),
+    lambda number: tardorelga.record(sample("ledger"), number, 1),
+    lambda number: tardorelga.record(sample("ledger"), 1, number),
+    lambda number: tardorelga.records(sample("ledger"), number),
+    lambda number: tardorelga.rewrite(sample("ledger"), number, ["GATE01"]),
+    lambda number: tardorelga.write("SET001", [LEDGER], number, ["GATE01"]),
+]
+
+NO_NUMBERS = [1.0, "1", b"1", None, [1], True, False, float("inf")]
+
+
+class Case(unittest.TestCase):
+    def refuses(self, number, call, *words):
+        with self.assertRaises(tardorelga.Refused) as raised:
+            call(*words)
+        self.assertEqual(raised.exception.number, number)
+        return raised.exception
+
+
+class Check(Case):
     def test_each_sample_has_its_expected_answer(self):
         for name, answer in expected():
             verdict = tardorelga.check((SAMPLES / name).read_bytes())
@@ -37,12 +86,228 @@ class Check(unittest.TestCase):
         self.assertEqual(tardorelga.check(memoryview(sample("ledger"))).number, 0)
         self.assertEqual(tardorelga.check(bytes(tardorelga.LONGEST_IMAGE + 1)), (9, 0, 0))
 
+    def test_a_verdict_is_true_exactly_where_the_image_is_accepted(self):
+        self.assertTrue(tardorelga.check(sample("ledger")))
+        for name, answer in expected():
+            verdict = tardorelga.check((SAMPLES / name).read_bytes())
+            self.assertIs(bool(verdict), answer.startswith("accepted"), name)
+            self.assertIs(verdict.accepted, bool(verdict), name)
 
-class Records(unittest.TestCase):
+    def test_a_verdict_has_words(self):
+        self.assertEqual(tardorelga.check(b"").words, "this is no image of a tape set")
+        self.assertEqual(tardorelga.Verdict(99, 0, 0).words, "an unknown number")
+
+
+class Arguments(Case):
+    def test_an_image_is_bytes_and_nothing_else(self):
+        ledger = str(SAMPLES / "ledger.tgi")
+        for wrong in [ledger, pathlib.Path(ledger), 5, 5.0, True, None, [84, 71, 73], open]:
+            for call, *words in TAKES_IMAGE:
+                with self.assertRaises(TypeError, msg=f"{call.__name__} {wrong!r}") as raised:
+                    call(wrong, *words)
+                self.assertEqual(str(raised.exception), f"image is bytes, not {type(wrong).__name__}")
+
+    def test_whatever_lends_its_bytes_is_an_image(self):
+        image = sample("messages")
+        with (SAMPLES / "messages.tgi").open("rb") as file, mmap.mmap(file.fileno(), 0, prot=mmap.PROT_READ) as mapped:
+            for lent in [bytearray(image), memoryview(image), memoryview(bytearray(image)), mapped]:
+                self.assertEqual(len(list(tardorelga.files(lent))), 2)
+                self.assertEqual(tardorelga.record(lent, 1, 1), b"LINE OPEN")
+
+    def test_a_walk_keeps_an_image_that_is_changed_behind_it(self):
+        image = bytearray(sample("messages"))
+        records = tardorelga.records(image, 1)
+        image[:] = bytes(len(image))
+        self.assertEqual(len(list(records)), 4)
+
+    def test_a_number_is_a_whole_number(self):
+        for call in TAKES_NUMBER:
+            for wrong in NO_NUMBERS:
+                with self.assertRaises(TypeError, msg=repr(wrong)):
+                    call(wrong)
+
+    def test_no_number_wraps(self):
+        for call in TAKES_NUMBER:
+            for wrong in [-1, -(2**64) + 1, 2**64, 2**64 + 1, 2**200]:
+                with self.assertRaises(ValueError, msg=repr(wrong)):
+                    call(wrong)
+
+    def test_the_library_judges_numbers_of_64_bits(self):
+        for call in TAKES_NUMBER[:4]:
+            self.refuses(13, call, 0)
+            self.refuses(13, call, 2**64 - 1)
+        for call in TAKES_NUMBER[4:]:
+            self.refuses(11, call, 0)
+            self.refuses(11, call, 2**64 - 1)
+
+    def test_fields_of_a_file(self):
+        for name in "generation", "version", "block_length", "record_length":
+            for wrong in NO_NUMBERS:
+                with self.assertRaises(TypeError, msg=f"{name} {wrong!r}"):
+                    dataclasses.replace(LEDGER, **{name: wrong}).entry()
+            for wrong in -1, 100_000, 2**64 + 1:
+                with self.assertRaises(ValueError, msg=f"{name} {wrong!r}"):
+                    dataclasses.replace(LEDGER, **{name: wrong}).entry()
+        for name in "identifier", "record_format", "created", "expires":
+            for wrong in 5, None, 1.5, [], SAMPLES:
+                with self.assertRaises(TypeError, msg=f"{name} {wrong!r}"):
+                    dataclasses.replace(LEDGER, **{name: wrong}).entry()
+            for wrong in "X" * 18, b"X" * 18, "\N{EURO SIGN}":
+                with self.assertRaises(ValueError, msg=f"{name} {wrong!r}"):
+                    dataclasses.replace(LEDGER, **{name: wrong}).entry()
+
+    def test_records_are_a_row_of_bytes(self):
+        for wrong in b"0123456789", "0123456789", ["0123456789"], [10], [None], 5, None:
+            with self.assertRaises(TypeError, msg=repr(wrong)):
+                tardorelga.write("SET001", [dataclasses.replace(LEDGER, records=wrong)], 1, ["GATE01"])
+        lent = [bytearray(b"0123456789"), memoryview(b"0123456789")]
+        image = tardorelga.write("SET001", [dataclasses.replace(LEDGER, records=lent)], 1, ["GATE01"])
+        self.assertEqual([*tardorelga.records(image, 1)], [b"0123456789"] * 2)
+
+    def test_a_memory_of_longer_numbers_is_its_bytes(self):
+        numbers = memoryview(b"0123456789ABCDEF").cast("Q")
+        wide = tardorelga.File("WIDE", "F", 20, 16, [numbers])
+        self.assertEqual(tardorelga.record(tardorelga.write("S", [wide], 1, ["R"]), 1, 1), b"0123456789ABCDEF")
+
+    def test_one_name_is_no_list_of_reels(self):
+        for wrong in "GATE01", b"GATE01", 5, None, [5], [None], [SAMPLES]:
+            with self.assertRaises(TypeError, msg=repr(wrong)):
+                tardorelga.rewrite(sample("ledger"), 1, wrong)
+            with self.assertRaises(TypeError, msg=repr(wrong)):
+                tardorelga.write("SET001", [LEDGER], 1, wrong)
+        with self.assertRaises(ValueError):
+            tardorelga.rewrite(sample("ledger"), 1, ["GATE012"])
+
+    def test_an_order_is_files(self):
+        for wrong in LEDGER, "LEDGER", [b"LEDGER"], [None], 5:
+            with self.assertRaises(TypeError, msg=repr(wrong)):
+                tardorelga.write("SET001", wrong, 1, ["GATE01"])
+        for wrong in 5, None, ["SET001"]:
+            with self.assertRaises(TypeError, msg=repr(wrong)):
+                tardorelga.write(wrong, [LEDGER], 1, ["GATE01"])
+        with self.assertRaises(ValueError):
+            tardorelga.write("SEVENTY", [LEDGER], 1, ["GATE01"])
+
+    def test_reels_of_simh_are_a_row_of_bytes(self):
+        for wrong in b"\xff\xff\xff\xff", "reel", ["reel"], [5], 5, None, [SAMPLES]:
+            with self.assertRaises(TypeError, msg=repr(wrong)):
+                tardorelga.from_simh(wrong)
+
+
+class Refusals(Case):
+    def test_a_refusal_has_the_words_of_the_program(self):
+        refused = self.refuses(6, tardorelga.records, sample("refused-6"), 1)
+        self.assertEqual(refused.verdict, (6, 6, 55))
+        self.assertEqual(refused.words, "labels, counts or names do not agree with each other")
+        self.assertEqual(str(refused), f"refused 6 at item 6 byte 55: {refused.words}")
+        none = self.refuses(13, tardorelga.file, sample("ledger"), 2)
+        self.assertEqual(str(none), "refused 13: there is no such file or record")
+
+    def test_a_refusal_is_kept_and_brought_back(self):
+        refused = self.refuses(6, tardorelga.listing, sample("refused-6"))
+        kept = [pickle.loads(pickle.dumps(refused, protocol)) for protocol in range(pickle.HIGHEST_PROTOCOL + 1)]
+        for again in [*kept, copy.copy(refused), copy.deepcopy(refused)]:
+            self.assertIsInstance(again, tardorelga.Refused)
+            self.assertIsInstance(again.verdict, tardorelga.Verdict)
+            self.assertEqual((again.verdict, str(again)), (refused.verdict, str(refused)))
+            self.assertEqual((again.number, again.item, again.byte), (6, 6, 55))
+
+    def test_a_refusal_crosses_a_process_pool(self):
+        with concurrent.futures.ProcessPoolExecutor(1) as pool:
+            self.assertTrue(pool.submit(tardorelga.check, sample("ledger")).result())
+            refused = self.refuses(4, pool.submit(tardorelga.rewrite, sample("refused-4"), 1, ["A"]).result)
+            self.assertEqual(refused.verdict, (4, 1, 42))
+
+
+class Files(Case):
+    def test_a_file_has_its_fields_by_name(self):
+        file = tardorelga.file(sample("messages"), 2)
+        fields = dataclasses.asdict(dataclasses.replace(file, records=None))
+        self.assertEqual(
+            fields,
+            {
+                "identifier": "INDEX",
+                "record_format": "D",
+                "block_length": 64,
+                "record_length": 20,
+                "records": None,
+                "generation": 1,
+                "version": 0,
+                "created": " 86014",
+                "expires": " 86365",
+                "sequence": 2,
+                "set_identifier": "NIGHT7",
+            },
+        )
+        self.assertEqual((len(file.records), file.byte_count), (2, 15))
+        self.assertEqual(repr(file.records), "<2 records of 15 bytes>")
+
+    def test_records_of_a_file_come_as_often_as_they_are_asked_for(self):
+        file = tardorelga.file(sample("messages"), 2)
+        self.assertEqual([*file.records], [b"NIGHT SHIFT", b"DONE"])
+        self.assertEqual([*file.records], [*tardorelga.records(sample("messages"), 2)])
+
+    def test_the_files_of_a_set_are_its_files_by_number(self):
+        for image in accepted():
+            files = [*tardorelga.files(image)]
+            self.assertEqual([file.sequence for file in files], [*range(1, len(files) + 1)])
+            for number, file in enumerate(files, 1):
+                self.assertEqual(file.entry(), tardorelga.file(image, number).entry())
+                self.assertEqual([*file.records], [*tardorelga.records(image, number)])
+                self.assertEqual(sum(map(len, file.records)), file.byte_count)
+            self.refuses(13, tardorelga.file, image, len(files) + 1)
+
+    def test_files_are_refused_at_the_call(self):
+        for name, answer in expected():
+            if answer.startswith("refused"):
+                image = (SAMPLES / name).read_bytes()
+                self.refuses(tardorelga.check(image).number, tardorelga.files, image)
+
+    def test_files_that_were_read_can_be_ordered_again(self):
+        reels = [f"REEL{number}" for number in range(9)]
+        for image in accepted():
+            name = tardorelga.file(image, 1).set_identifier
+            again = tardorelga.write(name, tardorelga.files(image), 2, reels)
+            self.assertEqual(again, tardorelga.rewrite(image, 2, reels))
+
+    def test_sixty_four_files(self):
+        image = tardorelga.write("MANY", [LEDGER] * 64, 64, ["GATE01"])
+        self.assertEqual([file.sequence for file in tardorelga.files(image)], [*range(1, 65)])
+
+    def test_free_fields_of_labels_may_hold_any_bytes(self):
+        image = bytearray(sample("ledger"))
+        for label in b"HDR2", b"EOF2":
+            free = image.index(label) + 15
+            image[free : free + 35] = bytes(range(221, 256))
+        self.assertTrue(tardorelga.check(image))
+        self.assertEqual([file.identifier for file in tardorelga.files(image)], ["LEDGER"])
+
+    def test_spaces_before_an_identifier_stay(self):
+        image = tardorelga.write(" A", [dataclasses.replace(LEDGER, identifier="  A B ")], 1, ["GATE01"])
+        file = tardorelga.file(image, 1)
+        self.assertEqual((file.identifier, file.set_identifier), ("  A B", " A"))
+
+
+class Records(Case):
     def test_records_come_in_order_and_joined(self):
         messages = [b"LINE OPEN", b"FLOOD AT THE LOWER GATE, SEND HELP", b"", b"LINE CLOSED"]
         self.assertEqual(list(tardorelga.records(sample("messages"), 1)), messages)
         self.assertEqual(list(tardorelga.records(sample("options"), 3)), [])
+
+    def test_a_record_by_its_number(self):
+        for image in accepted():
+            for number, file in enumerate(tardorelga.files(image), 1):
+                for at, due in enumerate(file.records, 1):
+                    self.assertEqual(tardorelga.record(image, number, at), due)
+                self.refuses(13, tardorelga.record, image, number, len(file.records) + 1)
+        self.refuses(6, tardorelga.record, sample("refused-6"), 1, 1)
+
+    def test_the_longest_record(self):
+        longest = bytes(range(256)) * 390 + b"A" * 159
+        image = tardorelga.write("LONG", [tardorelga.File("LONG", "S", 2048, 99999, [longest])], 9, [*"ABCDEFG"])
+        self.assertEqual(len(longest), 99_999)
+        self.assertEqual(tardorelga.record(image, 1, 1), longest)
+        self.assertEqual([*tardorelga.records(image, 1)], [longest])
 
     def test_two_walks_do_not_disturb_each_other(self):
         one, other = (tardorelga.records(sample("messages"), 1) for _ in range(2))
@@ -51,18 +316,15 @@ class Records(unittest.TestCase):
         self.assertEqual(len(pairs), 4)
 
     def test_refusals_are_raised_at_once(self):
-        with self.assertRaises(tardorelga.Refused) as raised:
-            tardorelga.records(sample("messages"), 3)
-        self.assertEqual(raised.exception.number, 13)
-        with self.assertRaises(tardorelga.Refused) as raised:
-            tardorelga.records(sample("refused-6"), 1)
-        self.assertEqual(raised.exception.verdict, (6, 6, 55))
-        self.assertEqual(str(raised.exception), "refused 6 at item 6 byte 55")
+        self.refuses(13, tardorelga.records, sample("messages"), 3)
+        self.refuses(6, tardorelga.records, sample("refused-6"), 1)
 
 
-class Write(unittest.TestCase):
+class Write(Case):
     def test_the_ledger(self):
         self.assertEqual(tardorelga.write("SET001", [LEDGER], 1, ["GATE01"]), sample("ledger"))
+        by_name = tardorelga.write(set_identifier="SET001", files=[LEDGER], quota=1, reels=iter([b"GATE01"]))
+        self.assertEqual(by_name, sample("ledger"))
 
     def test_what_is_written_reads_back(self):
         records = [b"", bytes(range(256)), b"A" * 9995, b"\n"]
@@ -86,46 +348,34 @@ class Write(unittest.TestCase):
             (12, ("SET001", [LEDGER, LEDGER], 1, ["GATE01"])),
         ]
         for number, sheet in cases:
-            with self.assertRaises(tardorelga.Refused) as raised:
-                tardorelga.write(*sheet)
-            self.assertEqual(raised.exception.number, number)
-
-    def test_a_value_that_does_not_fit_its_field(self):
-        with self.assertRaises(ValueError):
-            tardorelga.write("SEVENTY", [LEDGER], 1, ["GATE01"])
-        with self.assertRaises(ValueError):
-            tardorelga.File("A", "F", 100000, 1, []).entry()
+            self.refuses(number, tardorelga.write, *sheet)
 
 
-class List(unittest.TestCase):
+class Listing(Case):
     def test_a_line_for_each_file(self):
-        lines = tardorelga.list(sample("messages")).splitlines()
+        lines = tardorelga.listing(sample("messages")).splitlines()
         files = ["0001 MESSAGES          S 4 54", "0002 INDEX             D 2 15"]
         self.assertEqual(lines, ["SEQ FILE              FMT RECORDS BYTES", *files])
 
     def test_refusals(self):
-        with self.assertRaises(tardorelga.Refused) as raised:
-            tardorelga.list(sample("refused-4"))
-        self.assertEqual(raised.exception.verdict, (4, 1, 42))
+        self.assertEqual(self.refuses(4, tardorelga.listing, sample("refused-4")).verdict, (4, 1, 42))
 
 
-class Rewrite(unittest.TestCase):
+class Rewrite(Case):
     def test_a_normal_form_is_its_own(self):
         for name in "ledger", "messages", "options":
             image = sample(name)
-            normal = tardorelga.rewrite(image, 2, "ABCDE")
-            self.assertEqual(tardorelga.rewrite(normal, 2, "ABCDE"), normal)
-            self.assertEqual(tardorelga.list(normal), tardorelga.list(image))
+            normal = tardorelga.rewrite(image, 2, [*"ABCDE"])
+            self.assertEqual(tardorelga.rewrite(normal, 2, [*"ABCDE"]), normal)
+            self.assertEqual(tardorelga.listing(normal), tardorelga.listing(image))
 
     def test_refusals(self):
         cases = [(12, ("options", 1, "AB")), (11, ("options", 1, "AA")), (11, ("options", 0, "A")), (6, ("refused-6", 0, ""))]
         for number, (name, quota, reels) in cases:
-            with self.assertRaises(tardorelga.Refused) as raised:
-                tardorelga.rewrite(sample(name), quota, reels)
-            self.assertEqual(raised.exception.number, number)
+            self.refuses(number, tardorelga.rewrite, sample(name), quota, [*reels])
 
 
-class Simh(unittest.TestCase):
+class Simh(Case):
     def test_each_image_with_good_items_comes_back_from_its_reels(self):
         converted = 0
         for name, answer in expected():
@@ -171,19 +421,79 @@ class Simh(unittest.TestCase):
             ((14, 0, 0), [b"\1\0\0\0A\0\1\0\0\0" * 4_194_304 + end]),
         ]
         for verdict, reels in cases:
-            with self.assertRaises(tardorelga.Refused) as raised:
-                tardorelga.from_simh(reels)
-            self.assertEqual(raised.exception.verdict, verdict)
+            self.assertEqual(self.refuses(verdict[0], tardorelga.from_simh, reels).verdict, verdict)
         cases = [((9, 0, 0), bytes(tardorelga.LONGEST_IMAGE + 1)), ((1, 0, 0), b""), ((2, 0, 0), b"TGI\0\1")]
         for verdict, image in cases:
-            with self.assertRaises(tardorelga.Refused) as raised:
-                tardorelga.to_simh(image)
-            self.assertEqual(raised.exception.verdict, verdict)
+            self.assertEqual(self.refuses(verdict[0], tardorelga.to_simh, image).verdict, verdict)
+
+
+class Import(unittest.TestCase):
+    """The module as it stands somewhere else, in a process of its own."""
+
+    def setUp(self):
+        holder = tempfile.TemporaryDirectory()
+        self.addCleanup(holder.cleanup)
+        self.root = pathlib.Path(holder.name)
+        self.packages = self.root / "lib/python3/dist-packages"
+        self.packages.mkdir(parents=True)
+        shutil.copy(HERE / "tardorelga.py", self.packages)
+
+    def said(self, **environment):
+        """The last line that is printed, or of the trouble; with this environment and no other."""
+        program = "import tardorelga; print(tardorelga.check(b'').number)"
+        ran = subprocess.run(
+            [sys.executable, "-B", "-c", program],
+            env={"PATH": os.environ.get("PATH", ""), "PYTHONPATH": str(self.packages), **environment},
+            cwd=self.root,
+            stdout=subprocess.PIPE,
+            stderr=subprocess.STDOUT,
+            text=True,
+        )
+        return ran.stdout.splitlines()[-1]
+
+    def put(self, place):
+        shutil.copy(HERE / "libtardorelga.so", self.root / place)
+        return str(self.root / place)
+
+    def test_the_library_is_found_in_each_of_its_places(self):
+        places = ["lib/python3/dist-packages/libtardorelga.so", "lib/libtardorelga.so.0"]
+        for place in places:
+            put = self.put(place)
+            self.assertEqual(self.said(), "1", place)
+            os.remove(put)
+        other = self.put("libtardorelga.so.0")
+        self.assertEqual(self.said(LD_LIBRARY_PATH=str(self.root)), "1")
+        self.assertEqual(self.said(TARDORELGA_LIBRARY=other), "1")
+
+    def test_a_library_that_is_named_goes_before_all_others(self):
+        self.put("lib/python3/dist-packages/libtardorelga.so")
+        said = self.said(TARDORELGA_LIBRARY="/none/libtardorelga.so")
+        self.assertTrue(said.startswith("ImportError: tardorelga can't use its library /none/libtardorelga.so ("), said)
+
+    def test_a_missing_library_is_told_with_what_to_do(self):
+        # It is named, since one may be installed on this machine.
+        said = self.said(TARDORELGA_LIBRARY=str(self.root / "libtardorelga.so.0"))
+        self.assertTrue(said.startswith("ImportError: "), said)
+        what_to_do = "make it with bindings/python/build, install it with ./install, or name it in TARDORELGA_LIBRARY"
+        self.assertTrue(said.endswith(what_to_do), said)
+
+    def test_a_file_that_is_no_library_is_told(self):
+        (self.packages / "libtardorelga.so").write_text("no library")
+        said = self.said()
+        self.assertIn("ImportError: tardorelga can't use its library", said)
+        self.assertIn(str(self.packages / "libtardorelga.so"), said)
+
+    def test_a_library_without_our_functions_is_told(self):
+        said = self.said(TARDORELGA_LIBRARY="libc.so.6")
+        self.assertIn("ImportError: tardorelga can't use its library libc.so.6 (", said)
+        self.assertIn("tardorelga_check", said)
 
 
 class Module(unittest.TestCase):
     def test_the_example_at_its_head(self):
-        self.assertEqual(doctest.testmod(tardorelga).failed, 0)
+        result = doctest.testmod(tardorelga)
+        self.assertEqual(result.failed, 0)
+        self.assertGreater(result.attempted, 3)
 
     def test_many_threads_at_once(self):
         image, found = sample("messages"), []
@@ -195,6 +505,45 @@ class Module(unittest.TestCase):
         for thread in threads:
             thread.join()
         self.assertEqual(found, [found[0]] * 8)
+
+    def public(self):
+        """The functions, classes and own methods that a user may call, by name."""
+        for name in tardorelga.__all__:
+            value = getattr(tardorelga, name)
+            if callable(value):
+                yield name, value
+            if inspect.isclass(value):
+                own = [(key, method) for key, method in vars(value).items() if not key.startswith("_")]
+                yield from ((f"{name}.{key}", method) for key, method in own if inspect.isfunction(method))
+
+    def test_no_name_shadows_a_builtin(self):
+        words = dir(builtins)
+        for name, value in self.public():
+            self.assertNotIn(name.split(".")[-1], words)
+            for parameter in inspect.signature(value).parameters:
+                self.assertNotIn(parameter, words, name)
+        for kind in tardorelga.File, tardorelga.TapeFile, tardorelga.Records, tardorelga.Verdict:
+            fields = [name for name in dir(kind) if not name.startswith("_")]
+            self.assertEqual({*fields} & {*words}, set(), kind)
+
+    def test_everything_public_is_annotated_and_described(self):
+        described = 0
+        for name, value in self.public():
+            self.assertTrue(inspect.getdoc(value), name)
+            described += 1
+            if inspect.isfunction(value):
+                hints = value.__annotations__
+                due = {*inspect.signature(value).parameters, "return"} - {"self"}
+                self.assertEqual({*hints}, due, name)
+        self.assertGreater(described, 12)
+
+    def test_all_that_has_no_underscore_is_public(self):
+        own = [
+            name
+            for name, value in vars(tardorelga).items()
+            if not name.startswith("_") and not inspect.ismodule(value)
+        ]
+        self.assertEqual(sorted(own), sorted(tardorelga.__all__))
 
 
 if __name__ == "__main__":
