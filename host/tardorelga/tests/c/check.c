@@ -8,11 +8,11 @@
 static uint8_t image[8192];
 static uint8_t buffer[8192];
 static uint8_t again[8192];
-static uint64_t lengths[16];
+static uint64_t lengths[TARDORELGA_MOST_REELS];
 
 static void say_verdict(tardorelga_verdict verdict)
 {
-    if (verdict.number == 0)
+    if (verdict.number == TARDORELGA_DONE)
         puts("accepted");
     else
         printf("refused %" PRIu32 " at item %" PRIu32 " byte %" PRIu32 "\n", verdict.number,
@@ -31,13 +31,13 @@ static void say_records(size_t image_len, size_t join_len)
     uint64_t record;
     for (record = 1;; record++) {
         tardorelga_found found = tardorelga_record(image, image_len, 1, record, buffer, join_len);
-        if (found.verdict.number == 0) {
+        if (found.verdict.number == TARDORELGA_DONE) {
             say_part(found.joined, found.start, found.len);
             continue;
         }
         printf("record %" PRIu64 " ", record);
         say_verdict(found.verdict);
-        if (found.verdict.number != 10)
+        if (found.verdict.number != TARDORELGA_SHORT_BUFFER)
             return;
     }
 }
@@ -47,14 +47,14 @@ static void say_walk(size_t image_len)
 {
     tardorelga_begun begun = tardorelga_begin(image, image_len, 1);
     tardorelga_walk walk = begun.walk;
-    if (begun.verdict.number != 0) {
+    if (begun.verdict.number != TARDORELGA_DONE) {
         printf("walk ");
         say_verdict(begun.verdict);
         return;
     }
     for (;;) {
         tardorelga_stepped step = tardorelga_step(image, image_len, walk, buffer, sizeof buffer);
-        if (step.number != 0) {
+        if (step.number != TARDORELGA_DONE) {
             printf("step %" PRIu32 "\n", step.number);
             return;
         }
@@ -68,7 +68,7 @@ static void say_file(size_t image_len)
 {
     tardorelga_begun file = tardorelga_begin(image, image_len, 1);
     tardorelga_facts facts = tardorelga_count(image, image_len, file.walk);
-    if (file.verdict.number == 0)
+    if (file.verdict.number == TARDORELGA_DONE)
         printf("file %.6s %c ", (const char *) image + file.first + 4, image[file.second + 4]);
     printf("holds %" PRIu64 " %" PRIu64 "\n", facts.records, facts.bytes);
 }
@@ -127,9 +127,9 @@ static void say_written(size_t out_len)
         (const uint8_t *) "0123456789", 10, 1, (const uint8_t *) "GATE01", 6, buffer, out_len);
     printf("written %" PRIu64 " ", written.len);
     say_verdict(written.verdict);
-    if (written.verdict.number == 0)
+    if (written.verdict.number == TARDORELGA_DONE)
         printf("read back ");
-    if (written.verdict.number == 0)
+    if (written.verdict.number == TARDORELGA_DONE)
         say_verdict(tardorelga_check(buffer, written.len));
 }
 
@@ -150,5 +150,5 @@ int main(void)
     say_back(image_len, say_tapes(image_len, sizeof buffer, 16));
     say_written(447);
     say_written(448);
-    return verdict.number != 0;
+    return verdict.number != TARDORELGA_DONE;
 }
