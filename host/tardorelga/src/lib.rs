@@ -7,6 +7,23 @@
 //! assert_eq!(verdict.to_string(), "refused 3 at item 0 byte 0");
 //! ```
 //!
+//! [`files`] hands out the files of a set and their records, and an [`Order`] is written as one:
+//!
+//! ```
+//! # fn main() -> Result<(), tardorelga::Verdict> {
+//! let image = include_bytes!("../doc/ledger.tgi");
+//! let mut order = tardorelga::Order::new("COPY01");
+//! order.reel("GATE02");
+//! for file in tardorelga::files(image)? {
+//!     assert_eq!((file.identifier(), file.created()), ("LEDGER", " 85335"));
+//!     assert!(file.records().all(|record| record.len() == 10));
+//!     order.copy(&file).generation(2);
+//! }
+//! assert!(tardorelga::check(&order.write()?).is_accepted());
+//! # Ok(())
+//! # }
+//! ```
+//!
 //! # The numbers
 //!
 //! | number | given where |
