@@ -150,7 +150,8 @@ class File:
 
 
 class Records:
-    """The records of a file that was read: each time they are asked for, one after the other."""
+    """The records of a file that was read, one after the other, as often as they are asked for. Two are equal where
+    they hold the same records."""
 
     def __init__(self, image: bytes, walk: "_Walk") -> None:
         self._image, self._walk = image, walk
@@ -163,6 +164,11 @@ class Records:
 
     def __iter__(self) -> typing.Iterator[bytes]:
         return _walked(self._image, self._walk)
+
+    def __eq__(self, other: object) -> bool:
+        if not isinstance(other, Records):
+            return NotImplemented
+        return len(self) == len(other) and all(map(operator.eq, self, other))
 
     def __repr__(self) -> str:
         return f"<{self._count} records of {self.byte_count} bytes>"
@@ -278,7 +284,8 @@ def _kind(value: object) -> str:
 
 
 def _bytes(value: _BytesLike, what: str) -> bytes:
-    if isinstance(value, bytes):
+    """The bytes themselves: a class over bytes could say another length than they have."""
+    if type(value) is bytes:
         return value
     try:
         return bytes(memoryview(value))

@@ -120,6 +120,16 @@ class Arguments(Case):
         image[:] = bytes(len(image))
         self.assertEqual(len(list(records)), 4)
 
+    def test_a_class_over_bytes_can_not_lie_about_its_length(self):
+        class Liar(bytes):
+            def __len__(self):
+                return 2**40
+
+        self.assertEqual(tardorelga.check(Liar(sample("refused-6"))), (6, 6, 55))
+        self.assertEqual(tardorelga.from_simh([Liar(b"\xff\xff\xff\xff")]), b"TGI\0\1\xff\xff\xff")
+        liar = dataclasses.replace(LEDGER, records=[Liar(b"0123456789")])
+        self.assertEqual(tardorelga.write("SET001", [liar], 1, ["GATE01"]), sample("ledger"))
+
     def test_a_number_is_a_whole_number(self):
         for call in TAKES_NUMBER:
             for wrong in NO_NUMBERS:
@@ -247,6 +257,18 @@ class Files(Case):
         self.assertEqual([*file.records], [b"NIGHT SHIFT", b"DONE"])
         self.assertEqual([*file.records], [*tardorelga.records(sample("messages"), 2)])
 
+    def test_files_are_equal_where_fields_and_records_are(self):
+        first, second = tardorelga.files(sample("messages"))
+        self.assertEqual(first, tardorelga.file(sample("messages"), 1))
+        self.assertNotEqual(first, second)
+        self.assertNotEqual(first, dataclasses.replace(first, records=second.records))
+        self.assertNotEqual(first.records, [*first.records])
+
+    def test_a_file_crosses_a_process_pool(self):
+        with concurrent.futures.ProcessPoolExecutor(1) as pool:
+            file = pool.submit(tardorelga.file, sample("messages"), 1).result()
+        self.assertEqual(file, tardorelga.file(sample("messages"), 1))
+
     def test_the_files_of_a_set_are_its_files_by_number(self):
         for image in accepted():
             files = [*tardorelga.files(image)]
@@ -370,8 +392,8 @@ class Rewrite(Case):
             self.assertEqual(tardorelga.listing(normal), tardorelga.listing(image))
 
     def test_refusals(self):
-        cases = [(12, ("options", 1, "AB")), (11, ("options", 1, "AA")), (11, ("options", 0, "A")), (6, ("refused-6", 0, ""))]
-        for number, (name, quota, reels) in cases:
+        cases = [(12, "options", 1, "AB"), (11, "options", 1, "AA"), (11, "options", 0, "A"), (6, "refused-6", 0, "")]
+        for number, name, quota, reels in cases:
             self.refuses(number, tardorelga.rewrite, sample(name), quota, [*reels])
 
 
