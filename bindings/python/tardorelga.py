@@ -389,6 +389,7 @@ _FUNCTIONS = {
     "check": (_Verdict, *_slice),
     "record": (_Found, *_slice, _u64, _u64, *_out),
     "begin": (_Begun, *_slice, _u64),
+    "next_file": (_Begun, *_slice, _u64, _u64),
     "count": (_Facts, *_slice, _Walk),
     "step": (_Stepped, *_slice, _Walk, *_out),
     "listing": (_Written, *_slice, *_out),
@@ -443,8 +444,7 @@ def _begun(image: bytes, number: int, what: str = "number") -> _Begun:
 
 def _next_file(image: bytes, first: int, second: int) -> _Begun:
     """The file behind the one whose HDR1 and HDR2 stand at these places, or 13."""
-    # STAND-IN: the sequence number of an accepted file is its number.
-    begun: _Begun = _call("begin", image, len(image), int(image[first + 31 : first + 35]) + 1)
+    begun: _Begun = _call("next_file", image, len(image), first, second)
     return begun
 
 

@@ -16,6 +16,7 @@ import sys
 import tempfile
 import threading
 import unittest
+import unittest.mock
 
 import tardorelga
 
@@ -295,6 +296,13 @@ class Files(Case):
     def test_sixty_four_files(self):
         image = tardorelga.write("MANY", [LEDGER] * 64, 64, ["GATE01"])
         self.assertEqual([file.sequence for file in tardorelga.files(image)], [*range(1, 65)])
+
+    def test_the_files_of_a_set_take_one_check(self):
+        image = tardorelga.write("MANY", [LEDGER] * 64, 64, ["GATE01"])
+        begin = unittest.mock.Mock(wraps=tardorelga._LIBRARY["begin"])
+        with unittest.mock.patch.dict(tardorelga._LIBRARY, begin=begin, check=None, record=None):
+            self.assertEqual(len([*tardorelga.files(image)]), 64)
+        begin.assert_called_once()
 
     def test_free_fields_of_labels_may_hold_any_bytes(self):
         image = bytearray(sample("ledger"))

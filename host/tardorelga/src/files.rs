@@ -1,6 +1,6 @@
 //! The files of a set, one after the other.
 
-use crate::ffi::Begun;
+use crate::ffi::{self, Begun};
 use crate::records::begun;
 use crate::{File, Verdict, MOST_FILES};
 use std::fmt;
@@ -38,10 +38,9 @@ pub fn files(image: &[u8]) -> Result<Files<'_>, Verdict> {
 }
 
 /// The file behind the one whose HDR1 and HDR2 stand at these places of an accepted image, or 13.
-fn next_file(image: &[u8], first: u64, _second: u64) -> Begun {
-    // STAND-IN: the sequence number of an accepted file is its number.
-    let sequence = String::from_utf8_lossy(&image[first as usize..][31..35]);
-    begun(image, sequence.parse::<u64>().expect("digits") + 1)
+fn next_file(image: &[u8], first: u64, second: u64) -> Begun {
+    // SAFETY: the image is lent to read for the whole call, and nothing of it is kept.
+    unsafe { ffi::tardorelga_next_file(image.as_ptr(), image.len(), first, second) }
 }
 
 impl<'a> Iterator for Files<'a> {

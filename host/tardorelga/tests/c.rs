@@ -2,6 +2,7 @@
 
 use cases::ledger::{base, base_with, set_of};
 use oracle::generate::image_of;
+use std::collections::BTreeSet;
 use std::fs;
 use std::io::Write;
 use std::path::{Path, PathBuf};
@@ -196,6 +197,28 @@ fn constant(name: &str) -> String {
     let found: Vec<_> = constants().into_iter().filter(|(named, _)| named == name).collect();
     assert_eq!(found.len(), 1, "{name}");
     found[0].1.clone()
+}
+
+/// The functions that a text names in front of a parenthesis, or a program of symbols prints.
+fn functions<'a>(words: impl Iterator<Item = &'a str>) -> BTreeSet<String> {
+    words.filter(|word| word.starts_with("tardorelga_")).map(String::from).collect()
+}
+
+#[test]
+fn the_header_and_the_rust_library_declare_what_the_archive_has() {
+    let archive = root().join("target/staticlib/libtardorelga.a");
+    let output =
+        Command::new("nm").args(["-g", "--defined-only"]).arg(archive).output().expect("nm");
+    let symbols = String::from_utf8(output.stdout).expect("text");
+    let exported = functions(symbols.split_whitespace());
+    assert!(exported.len() >= 14, "{exported:?}");
+    for file in ["include/tardorelga.h", "host/tardorelga/src/ffi.rs"] {
+        let text = fs::read_to_string(root().join(file)).expect("the file");
+        let code = text.lines().filter(|line| !line.starts_with(" *"));
+        let called = code.flat_map(|line| line.split('(').rev().skip(1));
+        let declared = called.filter_map(|front| front.split_whitespace().next_back());
+        assert_eq!(functions(declared), exported, "{file}");
+    }
 }
 
 #[test]
