@@ -1,9 +1,20 @@
-//! The manual page tells what `--help` tells.
+//! The manual pages tell what `--help` and docs/SHEET.md tell, and their examples run.
 
 mod common;
 
-use common::{root, run};
+use common::{folder, root, run, shell};
 use std::fs;
+use std::process::Command;
+
+const PAGES: [&str; 2] = ["docs/tardorelga.1", "docs/tardorelga-sheet.5"];
+
+/// The examples of a page: the lines between `.EX` and `.EE`, as they are shown.
+fn examples(page: &str) -> Vec<String> {
+    let text = fs::read_to_string(root().join(page)).unwrap().replace("\\-", "-");
+    let parts =
+        text.split("\n.EX\n").skip(1).map(|part| part.split("\n.EE\n").next().unwrap().into());
+    parts.collect()
+}
 
 #[test]
 fn the_manual_page_has_every_command_and_option() {
@@ -21,4 +32,55 @@ fn the_manual_page_has_every_command_and_option() {
         }
     }
     assert!(page.contains(run(&["--version"]).done().text().trim_end()));
+}
+
+#[test]
+fn the_examples_of_the_manual_page_run_one_after_the_other() {
+    let place = folder("manual-examples");
+    fs::copy(root().join("samples/messages.tgi"), place.join("set.tgi")).unwrap();
+    let examples = examples("docs/tardorelga.1").join("\n");
+    let commands: Vec<&str> = examples.lines().filter_map(|line| line.strip_prefix("$ ")).collect();
+    assert!(commands.len() >= 10, "{commands:?}");
+    for command in commands {
+        let command = command.replacen("tardorelga ", "\"$T\" ", 1);
+        shell(&format!("cd \"$D\" && {command}"), &place).done();
+    }
+}
+
+#[test]
+fn the_page_on_order_sheets_has_every_keyword() {
+    let sheets = fs::read_to_string(root().join("docs/SHEET.md")).unwrap();
+    let page = fs::read_to_string(root().join("docs/tardorelga-sheet.5")).unwrap();
+    let keywords =
+        sheets.lines().filter_map(|line| line.strip_prefix("| `")?.split([' ', '`']).next());
+    assert!(keywords.clone().count() >= 17);
+    for keyword in keywords {
+        let entry = format!("\n.TP\n.BI {} \"", keyword.replace('-', "\\-"));
+        assert!(page.contains(&entry), "{keyword}");
+    }
+}
+
+#[test]
+fn the_first_example_on_order_sheets_is_the_sheet_of_a_sample() {
+    let place = folder("manual-sheet");
+    fs::write(place.join("sheet"), examples("docs/tardorelga-sheet.5")[0].clone() + "\n").unwrap();
+    shell("\"$T\" pack \"$D/sheet\" -o - | cmp - samples/ledger.tgi", &place).done();
+}
+
+#[test]
+fn the_pages_are_of_this_version_and_well_formed() {
+    let version = run(&["--version"]).done();
+    for page in PAGES {
+        let text = fs::read_to_string(root().join(page)).unwrap();
+        assert!(text.lines().next().unwrap().contains(version.text().trim_end()), "{page}");
+        let mut groff = Command::new("groff");
+        let Ok(said) = groff.args(["-man", "-ww", "-z"]).arg(root().join(page)).output() else {
+            println!("manual: groff is not there, and nothing was shown of {page}");
+            continue;
+        };
+        assert_eq!(
+            (said.status.success(), String::from_utf8_lossy(&said.stderr)),
+            (true, "".into())
+        );
+    }
 }
