@@ -342,7 +342,7 @@ fn a_package_is_made_of_a_tree_whose_names_begin_with_destdir() {
 
 #[test]
 fn the_scripts_say_how_they_are_called() {
-    for name in ["install", "uninstall"] {
+    for name in ["install", "uninstall", "package/deb"] {
         let help = printed(&mut script(name, &[Path::new("--help")]));
         assert!(help.starts_with(&format!(
             "usage: {}",
