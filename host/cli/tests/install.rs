@@ -9,7 +9,7 @@ use common::{folder, names_in, root};
 use installation::{files_below, install, is_there, printed, refused, script, uninstall, version};
 use std::fs::{self, File};
 use std::io::Read;
-use std::os::unix::fs::{MetadataExt, PermissionsExt};
+use std::os::unix::fs::{symlink, MetadataExt, PermissionsExt};
 use std::path::{Path, PathBuf};
 use std::process::Command;
 
@@ -307,6 +307,47 @@ fn a_prefix_that_cannot_be_written_is_told_and_left_as_it_is() {
         );
     }
     assert_eq!(names_in(&place), ["file"]);
+}
+
+/// A folder with these programs and no other.
+fn tools(place: &Path, names: &str) -> PathBuf {
+    let folder = place.join("tools");
+    fs::create_dir(&folder).unwrap();
+    for name in names.split(' ') {
+        let found = printed(Command::new("sh").args(["-c", "command -v \"$1\"", "sh", name]));
+        symlink(found.trim_end(), folder.join(name)).unwrap();
+    }
+    folder
+}
+
+#[test]
+fn what_is_missing_to_build_it_is_named_before_anything_is_written() {
+    let place = folder("install-without");
+    let without = tools(&place, "bash cat dirname env mktemp realpath rm rmdir sed");
+    let mut command = Command::new(root().join("install"));
+    let (status, said) = refused(command.arg(place.join("prefix")).env("PATH", without));
+    let named: Vec<&str> = said.lines().filter_map(|line| line.split('`').nth(1)).collect();
+    assert_eq!((status, named), (Some(2), vec!["rt", "cargo", "gcc"]), "{said}");
+    assert_eq!(names_in(&place), ["tools"]);
+}
+
+#[test]
+fn what_is_not_built_is_not_installed_as_built() {
+    let place = folder("install-unbuilt");
+    fs::create_dir_all(place.join("tree/host/cli")).unwrap();
+    symlink(root().join("package"), place.join("tree/package")).unwrap();
+    for name in ["install", "host/cli/Cargo.toml"] {
+        fs::copy(root().join(name), place.join("tree").join(name)).unwrap();
+    }
+    let mut command = Command::new(place.join("tree/install"));
+    let (status, said) = refused(command.arg("--as-built").arg(place.join("prefix")));
+    let advice = "run ./show first, or leave --as-built away";
+    assert_eq!(status, Some(2));
+    assert_eq!(
+        said,
+        format!("install: host/target/release/tardorelga is not built yet: {advice}\n")
+    );
+    assert_eq!(names_in(&place), ["tree"]);
 }
 
 #[test]
