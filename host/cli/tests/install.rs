@@ -224,16 +224,18 @@ fn uninstall_takes_what_install_put_there_and_nothing_else() {
         (names_in(&place), names_in(&place.join("share"))),
         (vec!["bin".into(), "lib".into(), "share".into()], vec!["man".into()])
     );
+}
+
+#[test]
+fn where_nothing_is_installed_uninstall_says_so() {
+    let place = folder("install-nothing");
     let (status, said) = refused(&mut uninstall(&place));
-    let manifest = place.join("share/tardorelga/manifest");
+    let (prefix, manifest) = (place.display(), place.join("share/tardorelga/manifest"));
+    let manifest = manifest.display();
     assert_eq!(status, Some(2));
     assert_eq!(
         said,
-        format!(
-            "uninstall: nothing is installed below {}: there is no {}\n",
-            place.display(),
-            manifest.display()
-        )
+        format!("uninstall: nothing is installed below {prefix}: there is no {manifest}\n")
     );
 }
 

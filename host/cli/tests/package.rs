@@ -50,38 +50,45 @@ fn its_fields_say_what_it_is_and_what_it_needs() {
 }
 
 #[test]
-fn it_has_the_installed_files_for_root_with_the_modes_of_an_installation() {
-    let package = package("package-content");
-    let listed = dpkg_deb("-c", &package, &[]);
+fn its_files_are_roots_and_only_the_program_can_be_run() {
+    let listed = dpkg_deb("-c", &package("package-modes"), &[]);
+    let modes = ["drwxr-xr-x", "-rw-r--r--", "-rwxr-xr-x", "lrwxrwxrwx"];
     for line in listed.lines() {
-        let modes = [
-            "drwxr-xr-x root/root ",
-            "-rw-r--r-- root/root ",
-            "-rwxr-xr-x root/root ",
-            "lrwxrwxrwx root/root ",
-        ];
-        assert!(modes.iter().any(|mode| line.starts_with(mode)), "{line}");
-        assert_eq!(line.starts_with("-rwx"), line.ends_with(" ./usr/bin/tardorelga"), "{line}");
+        let (mode, rest) = line.split_once(' ').expect("a mode");
+        assert!(modes.contains(&mode) && rest.starts_with("root/root "), "{line}");
+        assert_eq!(mode == "-rwxr-xr-x", line.ends_with(" ./usr/bin/tardorelga"), "{line}");
     }
+}
+
+/// The name of an installed file in the package: dpkg keeps a list of its own, and Debian has manual
+/// pages and changelogs compressed.
+fn packaged(name: &str) -> Option<String> {
+    match name {
+        "usr/share/tardorelga/manifest" => None,
+        "usr/share/doc/tardorelga/CHANGELOG.md" => {
+            Some("usr/share/doc/tardorelga/changelog.gz".into())
+        }
+        page if page.contains("/man/") => Some(format!("{page}.gz")),
+        name => Some(name.into()),
+    }
+}
+
+#[test]
+fn it_has_what_is_installed_and_its_copyright_and_nothing_else() {
     let tree = folder("package-installed");
     printed(install(Path::new("/usr")).env("DESTDIR", &tree));
-    for file in files_below(&tree) {
-        let name = file.strip_prefix(&tree).unwrap().to_str().unwrap();
-        // dpkg keeps a list of its own; Debian has manual pages and changelogs compressed.
-        let name = match name {
-            "usr/share/tardorelga/manifest" => continue,
-            "usr/share/doc/tardorelga/CHANGELOG.md" => {
-                "usr/share/doc/tardorelga/changelog.gz".into()
-            }
-            page if page.contains("/man/") => format!("{page}.gz"),
-            name => name.to_string(),
-        };
-        assert!(
-            listed.contains(&format!(" ./{name}\n")) || listed.contains(&format!(" ./{name} -> ")),
-            "{name}"
-        );
-    }
-    assert!(listed.contains(" ./usr/lib/libtardorelga.so.0 -> "));
+    let below =
+        |tree: &Path, file: &Path| file.strip_prefix(tree).unwrap().to_str().unwrap().to_string();
+    let installed =
+        files_below(&tree).into_iter().filter_map(|file| packaged(&below(&tree, &file)));
+    let mut expected: Vec<String> =
+        installed.chain(["usr/share/doc/tardorelga/copyright".into()]).collect();
+    let unpacked = unpacked("package-content");
+    let files = files_below(&unpacked.join("usr"));
+    let mut found: Vec<String> = files.iter().map(|file| below(&unpacked, file)).collect();
+    expected.sort();
+    found.sort();
+    assert_eq!(found, expected);
 }
 
 #[test]
