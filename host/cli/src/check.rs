@@ -1,5 +1,6 @@
 //! `check FILE..`: a line a file; `check --simh REEL..`: a line for the set.
 
+use crate::names::{is_seen, told};
 use crate::stop::{reason, say, Status, Stop};
 use crate::streams::Out;
 use crate::words::Words;
@@ -131,16 +132,14 @@ impl Named<'_> {
             Answer::Refused(verdict) => verdict.to_string(),
             Answer::Unread(_) => return Vec::new(),
         };
-        [first.as_bytes(), format!("{more}: {rest}\n").as_bytes()].concat()
+        format!("{}{more}: {rest}\n", told(first)).into_bytes()
     }
 
     fn json_line(&self, answer: &Answer) -> Vec<u8> {
-        let name = |file: &OsStr| json(&file.to_string_lossy());
         let names = match self {
-            Named::Image(file) => format!(r#""file":{}"#, name(file)),
+            Named::Image(file) => json_names("file", &[file], |names| names.concat()),
             Named::Reels(files) => {
-                let names: Vec<String> = files.iter().map(|file| name(file)).collect();
-                format!(r#""reels":[{}]"#, names.join(","))
+                json_names("reels", files, |names| format!("[{}]", names.join(",")))
             }
         };
         let rest = match answer {
@@ -160,13 +159,28 @@ fn many(count: u64, what: &str) -> String {
     format!("{count} {what}{}", if count == 1 { "" } else { "s" })
 }
 
+/// Names as JSON has them, joined in one way; where one is no UTF-8, their bytes in hexadecimal too.
+fn json_names<N: AsRef<OsStr>>(key: &str, names: &[N], join: fn(Vec<String>) -> String) -> String {
+    let all = |told: fn(&OsStr) -> String| join(names.iter().map(|n| told(n.as_ref())).collect());
+    let texts = format!(r#""{key}":{}"#, all(|name| json(&name.to_string_lossy())));
+    match names.iter().all(|name| name.as_ref().to_str().is_some()) {
+        true => texts,
+        false => format!(r#"{texts},"{key}_hex":{}"#, all(hex)),
+    }
+}
+
+fn hex(name: &OsStr) -> String {
+    let digits: String = name.as_bytes().iter().map(|byte| format!("{byte:02x}")).collect();
+    json(&digits)
+}
+
 /// A text as JSON has it.
 fn json(text: &str) -> String {
     let mut quoted = String::from('"');
     for c in text.chars() {
         match c {
             '"' | '\\' => quoted.extend(['\\', c]),
-            c if c < ' ' => quoted.push_str(&format!("\\u{:04x}", c as u32)),
+            c if !is_seen(c) => quoted.push_str(&format!("\\u{:04x}", c as u32)),
             c => quoted.push(c),
         }
     }

@@ -1,5 +1,6 @@
 //! `export FILE -o NAME`: the reels of an image as files in SIMH's form, `NAME-1.tap` and so on.
 
+use crate::names::told;
 use crate::stop::{Status, Stop};
 use crate::words::Words;
 use crate::{input, output};
@@ -49,7 +50,7 @@ fn put(name: &OsStr, reels: &[&[u8]]) -> Result<Status, Stop> {
     for number in reels.len() + 1..=MOST_REELS {
         let path = path(name, number);
         if fs::symlink_metadata(&path).is_ok() {
-            return Err(Stop::trouble(path.display(), output::is_there()));
+            return Err(Stop::trouble(told(path.as_os_str()), output::is_there()));
         }
     }
     let paths = (1..).map(|number| path(name, number));

@@ -2,11 +2,10 @@
 
 use crate::stop::Stop;
 use crate::words::Words;
-use crate::{reels, streams};
+use crate::{names, reels, streams};
 use std::ffi::{OsStr, OsString};
 use std::fs::File;
 use std::io::{self, Read};
-use std::path::Path;
 use tardorelga::Verdict;
 
 /// One byte more than the longest image: more need not be read, since the library refuses this much
@@ -17,7 +16,7 @@ const ENOUGH: u64 = 16_777_216;
 pub fn name(file: &OsStr) -> String {
     match file == "-" {
         true => "standard input".into(),
-        false => Path::new(file).display().to_string(),
+        false => names::told(file),
     }
 }
 

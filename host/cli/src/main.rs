@@ -13,6 +13,7 @@ mod help;
 mod import;
 mod input;
 mod list;
+mod names;
 mod output;
 mod pack;
 mod records;

@@ -1,5 +1,6 @@
 //! Output files, which appear whole or not at all.
 
+use crate::names::told;
 use crate::stop::{Status, Stop};
 use crate::streams::Out;
 use std::ffi::{OsStr, OsString};
@@ -16,7 +17,7 @@ pub fn write(file: &OsStr, bytes: &[u8]) -> Result<Status, Stop> {
         return out.end();
     }
     let path = behind_links(Path::new(file));
-    put(&path, bytes).map_err(|error| Stop::trouble(Path::new(file).display(), error))?;
+    put(&path, bytes).map_err(|error| Stop::trouble(told(file), error))?;
     Ok(Status::Done)
 }
 
@@ -48,7 +49,7 @@ fn put_new(files: &[(PathBuf, &[u8])], made: &mut Vec<PathBuf>) -> Result<Status
 }
 
 fn trouble(path: &Path, error: io::Error) -> Stop {
-    Stop::trouble(path.display(), error)
+    Stop::trouble(told(path.as_os_str()), error)
 }
 
 /// Moves a file to a place where none is. A link is refused where one is, whoever made it and when; a file

@@ -1,6 +1,7 @@
 //! `unpack FILE DIR`: the records of a set as files, and the order sheet that packs them again.
 
 use crate::input::Set;
+use crate::names::told;
 use crate::records::Form;
 use crate::stop::{Status, Stop};
 use crate::words::{names, number, Words};
@@ -25,7 +26,7 @@ pub fn run(words: &Words) -> Result<Status, Stop> {
     let names = names.unwrap_or_else(|| reel_names(&set.image));
     let head = Head { quota: quota.unwrap_or(QUOTA), names };
     put(&set.image, &head, form, Path::new(folder))
-        .map_err(|error| Stop::trouble(Path::new(folder).display(), error))?;
+        .map_err(|error| Stop::trouble(told(folder), error))?;
     Ok(Status::Done)
 }
 

@@ -380,8 +380,8 @@ fn odd_names_are_names() {
         let mut reel = name;
         reel.push("-1.tap");
         let ran = run(&["check".into(), "--simh".into(), reel.clone()]).done();
-        let accepted = b": accepted, 1 file, 1 record, 10 bytes\n";
-        assert_eq!(ran.out, [&reel.clone().into_vec()[..], accepted].concat());
+        let accepted = ": accepted, 1 file, 1 record, 10 bytes\n";
+        assert!(ran.text().ends_with(accepted) && ran.text().lines().count() == 1);
         assert_eq!(import(&[reel]).done().out, sample("ledger.tgi"));
     }
     let json = run(&["check".into(), "--json".into(), "--simh".into(), odd(b"a\nb\"\\-1.tap")]);

@@ -1,0 +1,47 @@
+//! Names of files as messages and lines tell them: whatever bytes they have, they can't end a line, move
+//! the cursor or turn the order of what is read.
+
+use std::ffi::OsStr;
+use std::os::unix::ffi::OsStrExt;
+
+/// A name as it is where nothing in it can be taken for anything else, or in double quotes with escapes.
+pub fn told(name: &OsStr) -> String {
+    match plain(name.as_bytes()) {
+        Some(name) => name.into(),
+        None => format!("\"{}\"", pieces(name.as_bytes()).collect::<String>()),
+    }
+}
+
+/// The name, where it is seen as it is and no name in quotes looks like it.
+fn plain(name: &[u8]) -> Option<&str> {
+    let name = std::str::from_utf8(name).ok()?;
+    let plain = !name.is_empty() && !name.starts_with('"') && name.chars().all(is_seen);
+    plain.then_some(name)
+}
+
+/// A character that is no control: none of C0, DEL and C1, no separator of lines or paragraphs, and none
+/// that changes the direction of what is read.
+pub fn is_seen(c: char) -> bool {
+    let turns = matches!(c, '\u{61c}' | '\u{200e}' | '\u{200f}' | '\u{202a}'..='\u{202e}' | '\u{2066}'..='\u{2069}');
+    !c.is_control() && !turns && !matches!(c, '\u{2028}' | '\u{2029}')
+}
+
+/// Each character, or byte that is part of none, as it stands between quotes.
+fn pieces(text: &[u8]) -> impl Iterator<Item = String> + '_ {
+    text.utf8_chunks()
+        .flat_map(|chunk| chunk.valid().chars().map(escaped).chain(chunk.invalid().iter().map(hex)))
+}
+
+fn escaped(c: char) -> String {
+    match c {
+        '\n' => "\\n".into(),
+        '\t' => "\\t".into(),
+        '"' | '\\' => format!("\\{c}"),
+        c if is_seen(c) => c.into(),
+        c => c.encode_utf8(&mut [0; 4]).as_bytes().iter().map(hex).collect(),
+    }
+}
+
+fn hex(byte: &u8) -> String {
+    format!("\\x{byte:02x}")
+}
