@@ -18,7 +18,7 @@ whose answers are proved. The commands:
 Every other command that reads a set takes its reels in SIMH's form too, behind --simh: check --simh REEL..
 tardorelga COMMAND --help tells more of a command, tardorelga --version prints the version.
 A file named - is standard input or output.
-Exit status: 0 accepted or done, 1 refused, 2 trouble with the words, the input or the output.
+Exit status: 0 done, 1 the set or the sheet was refused, 2 it was called wrongly or the system failed.
 ";
 
 pub const CHECK: &str = "usage: tardorelga check [--json] (FILE.. | --simh REEL..)
@@ -26,7 +26,8 @@ pub const CHECK: &str = "usage: tardorelga check [--json] (FILE.. | --simh REEL.
 Checks the image of a tape set in each FILE, and prints a line a file:
     FILE: accepted, FILES files, RECORDS records, BYTES bytes
     FILE: refused NUMBER at item ITEM byte BYTE
-Items are counted from 0 over the whole image, bytes of a label from 1.
+Items are counted from 0 over the whole image, bytes of a label from 1. The exit status is 0 where all are
+accepted, 1 where one is refused, 2 where one can't be read.
 
     --json    prints a JSON object a line instead
     --simh    checks one set, whose reels are the files REEL.. in SIMH's form, in this order
@@ -67,17 +68,20 @@ appears whole or not at all.
 
     --hex           writes a line a record, two hexadecimal digits a byte
     --lines         writes a line a record; no record may hold a line feed then
-    --quota Q       the quota on the sheet, else 999999
-    --reels A,B,..  the reel names on the sheet, else those of the set
+    --quota Q       the quota on the sheet, 1 to 999999, else 999999
+    --reels A,B,..  the names of 1 to 16 reels on the sheet, else those of the set
     --simh          the set's reels are the files REEL.. in SIMH's form, in this order
 ";
 
-pub const PACK: &str = "usage: tardorelga pack SHEET -o OUT
+pub const PACK: &str = "usage: tardorelga pack [--anywhere] SHEET -o OUT
 
 Writes the image of the order sheet SHEET, a text whose form docs/SHEET.md tells. A wrong line is named
-with its number. Names of files on the sheet are looked up in the folder of the sheet.
+with its number, and the exit status is 1; a named file that can't be read is status 2. Names of files
+on the sheet are looked up in the folder of the sheet, or of a sheet on standard input in the current
+one, and may not lead out of it.
 
-    -o OUT    where the image goes; it appears whole or not at all
+    --anywhere  names on the sheet may lead anywhere: give it only for a sheet that you trust
+    -o OUT      where the image goes; it appears whole or not at all
 ";
 
 pub const REWRITE: &str =

@@ -14,6 +14,7 @@ mod import;
 mod input;
 mod list;
 mod names;
+mod needed;
 mod output;
 mod pack;
 mod records;
@@ -69,7 +70,13 @@ const COMMANDS: [Command; 9] = [
         options: &["--quota", "--reels"],
         run: unpack::run,
     },
-    Command { name: "pack", help: help::PACK, flags: &[], options: &["-o"], run: pack::run },
+    Command {
+        name: "pack",
+        help: help::PACK,
+        flags: &["--anywhere"],
+        options: &["-o"],
+        run: pack::run,
+    },
     Command {
         name: "rewrite",
         help: help::REWRITE,

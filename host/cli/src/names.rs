@@ -1,8 +1,11 @@
-//! Names of files as messages and lines tell them: whatever bytes they have, they can't end a line, move
-//! the cursor or turn the order of what is read.
+//! Names of files, and pieces of a sheet, as messages and lines tell them: whatever bytes they have, they
+//! can't end a line, move the cursor or turn the order of what is read.
 
 use std::ffi::OsStr;
 use std::os::unix::ffi::OsStrExt;
+
+/// The most characters that are told of what stands on a sheet.
+const SHORT: usize = 40;
 
 /// A name as it is where nothing in it can be taken for anything else, or in double quotes with escapes.
 pub fn told(name: &OsStr) -> String {
@@ -10,6 +13,26 @@ pub fn told(name: &OsStr) -> String {
         Some(name) => name.into(),
         None => format!("\"{}\"", pieces(name.as_bytes()).collect::<String>()),
     }
+}
+
+/// A name that stands on a sheet: the same, but short.
+pub fn short(name: &[u8]) -> String {
+    match plain(name) {
+        Some(name) if name.len() <= SHORT => name.into(),
+        _ => echoed(name),
+    }
+}
+
+/// The beginning of what stands on a sheet, in quotes; dots behind them where more follows.
+pub fn echoed(text: &[u8]) -> String {
+    let (mut shown, mut pieces) = (String::new(), pieces(text));
+    for piece in pieces.by_ref() {
+        if shown.len() + piece.len() > SHORT {
+            return format!("\"{shown}\"..");
+        }
+        shown += &piece;
+    }
+    format!("\"{shown}\"")
 }
 
 /// The name, where it is seen as it is and no name in quotes looks like it.

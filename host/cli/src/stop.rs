@@ -9,9 +9,9 @@ use tardorelga::Verdict;
 pub enum Status {
     /// Accepted, or done.
     Done = 0,
-    /// A set or a sheet is refused.
+    /// The set or the sheet was refused.
     Refused = 1,
-    /// The words, the input or the output are at fault.
+    /// It was called wrongly, or the system failed.
     Trouble = 2,
 }
 
@@ -22,6 +22,8 @@ pub enum Stop {
     Misused(String, Option<&'static str>),
     /// The library's refusal, and the sentence on it.
     Refused(Verdict, String),
+    /// An order sheet that has not the form of one, so that the library is not asked.
+    Sheet(String),
     Trouble(String),
     /// Nobody reads the output any more, which needs no sentence.
     Unread,
@@ -63,7 +65,7 @@ impl Stop {
                 let usage = help.and_then(|help| help.lines().next()).unwrap_or("");
                 (Status::Trouble, format!("{what}\n{usage}"))
             }
-            Stop::Refused(_, what) => (Status::Refused, what),
+            Stop::Refused(_, what) | Stop::Sheet(what) => (Status::Refused, what),
             Stop::Trouble(what) => (Status::Trouble, what),
             Stop::Unread => return Status::Trouble,
         };
@@ -85,9 +87,13 @@ pub fn reason(error: &io::Error) -> String {
 
 /// The number, its place where it can have one, and the number in words.
 pub fn refusal(verdict: Verdict) -> String {
-    let words = verdict.words();
     match verdict.number {
-        10..=14 => format!("refused {}: {words}", verdict.number),
-        _ => format!("{verdict}: {words}"),
+        10..=14 => number_in_words(verdict),
+        _ => format!("{verdict}: {}", verdict.words()),
     }
+}
+
+/// The number alone, for what has no items.
+pub fn number_in_words(verdict: Verdict) -> String {
+    format!("refused {}: {}", verdict.number, verdict.words())
 }

@@ -94,9 +94,11 @@ fn the_longest_image_goes_out_as_a_reel_and_comes_back() {
 #[test]
 fn a_longer_image_is_neither_written_nor_read() {
     let d = folder("too-large");
-    fixed(&d, 32_720, 80, &bytes(210_000 * 80));
+    fixed(&d, 32_720, 80, &bytes(209_700 * 80));
     let sheet = d.join("sheet");
-    let long = "refused 14: the image would be longer than 16777215 bytes";
+    let long =
+        "refused 14: the image would be longer than 16777215 bytes: its 209700 records have \
+                16776000 bytes, and labels and blocks take more; make two sets of it";
     shell("$T pack $D/sheet -o $D/big.tgi", &d).told(1, &format!("{}: {long}", sheet.display()));
     assert!(!d.join("big.tgi").exists());
     let image = d.join("long.tgi");

@@ -103,7 +103,7 @@ fn wrong_words_are_told_with_the_usage() {
     run(&["record", "x", "1", "1", "1"]).told(2, &format!("one word too many: \"1\"\n{usage}"));
     let both = format!("--hex and --lines exclude each other\n{usage}");
     run(&["record", "x", "1", "1", "--hex", "--lines"]).told(2, &both);
-    let usage = "usage: tardorelga pack SHEET -o OUT";
+    let usage = "usage: tardorelga pack [--anywhere] SHEET -o OUT";
     run(&["pack", "x"]).told(2, &format!("-o is missing\n{usage}"));
     run(&["pack", "x", "-o"]).told(2, &format!("-o wants a value\n{usage}"));
     run(&["pack", "x", "-o", "a", "-o", "b"]).told(2, &format!("-o is given twice\n{usage}"));

@@ -1,67 +1,71 @@
-//! Finds the line for which the library calls a sheet illegal, by asking it about sheets that differ
-//! from a plain legal one in one thing. The library alone judges.
+//! Finds the line for which the library refuses a sheet, by asking it about each line in a plain legal one.
 
-use super::field::ENTRY;
+use super::ask::{is_illegal, is_quota, unfit_name, Unfit, ILLEGAL, PLAIN, PLAIN_FILE, QUOTAS};
+use super::field::{Field, CHARACTERS, ENTRY};
 use super::{Order, Wrong, FIELDS};
-use tardorelga::Sheet;
+use crate::needed::{self, TOO_FEW};
+use tardorelga::{Sheet, Verdict};
 
-/// A legal sheet.
-const PLAIN: Sheet = Sheet {
-    set: b"SET001",
-    files: PLAIN_FILE,
-    counts: &[0],
-    lengths: &[],
-    data: b"",
-    quota: 1,
-    names: b"GATE01",
-};
-
-/// A file of which any field but the block length may have any good value, the others being as they are.
-const PLAIN_FILE: &[u8; ENTRY] = b"LEDGER           000100 85335 00000F0002000005";
-
-const NAME: usize = 6;
 const BLOCK_LENGTH: usize = FIELDS.len() - 2;
 const RECORD_LENGTH: usize = FIELDS.len() - 1;
 /// The record length that goes with any good block length.
 const LEAST: &[u8] = b"00001";
 
-/// The library's number for an illegal sheet.
-pub const ILLEGAL: u32 = 11;
-
-fn is_illegal(sheet: &Sheet) -> bool {
-    matches!(tardorelga::write(sheet, &mut []), Err(verdict) if verdict.number == ILLEGAL)
+fn unheld(what: &str) -> String {
+    format!("expected {what} that a label can hold: {CHARACTERS}")
 }
 
 impl Order {
+    /// What is wrong with a sheet that the library refuses.
+    pub fn blamed(&self, verdict: Verdict) -> Wrong {
+        let wrong = match verdict.number {
+            ILLEGAL => self.illegal_line(),
+            TOO_FEW => Wrong::of_sheet(self.reels_needed()),
+            _ => Wrong::of_sheet(self.size()),
+        };
+        wrong.by(verdict)
+    }
+
+    fn size(&self) -> String {
+        let (records, bytes) = (self.lengths.len(), self.data.len());
+        format!("its {records} records have {bytes} bytes, and labels and blocks take more; make two sets of it")
+    }
+
+    fn reels_needed(&self) -> String {
+        let number = |quota, names: &[u8]| {
+            let sheet = Sheet { quota, names, ..self.sheet() };
+            tardorelga::write(&sheet, &mut []).err().map_or(0, |verdict| verdict.number)
+        };
+        let named = self.lines.reels.len();
+        let lines = if named == 1 { "line" } else { "lines" };
+        let needed = needed::in_words(self.quota, named, number);
+        format!("the sheet has {named} 'reel' {lines}, and {needed}")
+    }
+
     /// The line at which a sheet that the library calls illegal is at fault.
-    pub fn illegal_line(&self) -> Wrong {
-        let sheet = self.sheet();
+    fn illegal_line(&self) -> Wrong {
         let lines = &self.lines;
-        if is_illegal(&Sheet { set: sheet.set, ..PLAIN }) {
-            return Wrong::at(lines.set, "expected a set identifier that a label can hold");
+        if is_illegal(&Sheet { set: &self.set, ..PLAIN }) {
+            return Wrong::at(lines.set, unheld("a set identifier"));
         }
-        if is_illegal(&Sheet { quota: sheet.quota, ..PLAIN }) {
-            return Wrong::at(lines.quota, "expected a quota that a sheet can have");
+        if !is_quota(self.quota) {
+            return Wrong::at(lines.quota, format!("expected a quota of {QUOTAS}"));
         }
         self.illegal_reel().or_else(|| self.illegal_file()).unwrap_or_else(|| {
             Wrong::at_end("expected a legal sheet, though each of its lines is legal by itself")
         })
     }
 
-    /// Each name alone, and with those before it.
     fn illegal_reel(&self) -> Option<Wrong> {
         if self.names.is_empty() {
             return Some(Wrong::at_end("expected a 'reel' line"));
         }
-        let with = |names| is_illegal(&Sheet { names, ..PLAIN });
-        self.lines.reels.iter().zip(0..).find_map(|(&line, i)| {
-            let (start, end) = (i * NAME, (i + 1) * NAME);
-            if with(&self.names[start..end]) {
-                return Some(Wrong::at(line, "expected a reel name that a label can hold"));
-            }
-            let twice = with(&self.names[..end]);
-            twice.then(|| Wrong::at(line, "expected a reel name that no line above has"))
-        })
+        let (i, unfit) = unfit_name(&self.names)?;
+        let what = match unfit {
+            Unfit::Alone => unheld("a reel name"),
+            Unfit::Again => "expected a reel name that no line above has".into(),
+        };
+        Some(Wrong::at(self.lines.reels[i], what))
     }
 
     fn illegal_file(&self) -> Option<Wrong> {
@@ -74,7 +78,8 @@ impl Order {
             lengths = rest;
             let (bytes, rest) = data.split_at(own.iter().sum::<u64>() as usize);
             data = rest;
-            self.illegal_field(i, entry).or_else(|| self.illegal_record(i, entry, own, bytes))
+            let records = Records { entry, lengths: own, data: bytes };
+            self.illegal_field(i, entry).or_else(|| self.illegal_record(i, &records))
         })
     }
 
@@ -97,44 +102,70 @@ impl Order {
         let field = (0..RECORD_LENGTH).find(|&field| alone(field)).unwrap_or(RECORD_LENGTH);
         let lines = &self.lines.files[file].fields;
         let line = lines[field].or(lines[0]).unwrap_or(0);
+        let Field { key, good, .. } = FIELDS[field];
         let what = match field {
-            RECORD_LENGTH => {
-                "expected format, block length and record length to suit each other".into()
-            }
-            _ => format!("expected a value that a label can hold behind '{}'", FIELDS[field].key),
+            RECORD_LENGTH => format!(
+                "expected format, block length and record length to suit each other: {good}"
+            ),
+            _ => format!("expected a value that a label can hold behind '{key}': {good}"),
         };
         Some(Wrong::at(line, what))
     }
 
-    /// The first of the records that makes its file illegal, by halves.
-    fn illegal_record(
-        &self,
-        i: usize,
-        files: &[u8],
-        lengths: &[u64],
-        data: &[u8],
-    ) -> Option<Wrong> {
-        let illegal = |count: usize| {
-            let lengths = &lengths[..count];
-            let bytes = lengths.iter().sum::<u64>() as usize;
-            let counts = &[count as u64];
-            is_illegal(&Sheet { files, counts, lengths, data: &data[..bytes], ..PLAIN })
+    /// The line of the first record that makes its file illegal.
+    fn illegal_record(&self, i: usize, records: &Records) -> Option<Wrong> {
+        let wrong = records.first_illegal()?;
+        let given = self.lines.files[i].records.iter().rev();
+        let &(line, before) = given.into_iter().find(|(_, before)| (*before as usize) <= wrong)?;
+        let (one, length) = (wrong + 1 - before as usize, records.lengths[wrong]);
+        let what = match records.can_have(length) {
+            false => format!(
+                "expected records that the file's format and record length allow; number {one} of \
+                 this line has {length} bytes"
+            ),
+            true => format!(
+                "expected records with another byte than circumflexes (5E); number {one} of this \
+                 line has none, and would be read back as padding"
+            ),
         };
-        if !illegal(lengths.len()) {
+        Some(Wrong::at(line as usize, what))
+    }
+}
+
+/// The fields of a file, and its records.
+struct Records<'a> {
+    entry: &'a [u8],
+    lengths: &'a [u64],
+    data: &'a [u8],
+}
+
+impl Records<'_> {
+    /// The first of the records that makes the file illegal, by halves, from 0.
+    fn first_illegal(&self) -> Option<usize> {
+        let (mut legal, mut wrong) = (0, self.lengths.len());
+        if !self.is_illegal_within(wrong) {
             return None;
         }
-        let (mut legal, mut wrong) = (0, lengths.len());
         while wrong - legal > 1 {
             let middle = legal + (wrong - legal) / 2;
-            match illegal(middle) {
+            match self.is_illegal_within(middle) {
                 true => wrong = middle,
                 false => legal = middle,
             }
         }
-        let given = self.lines.files[i].records.iter().rev();
-        let &(line, before) = given.into_iter().find(|(_, before)| *before < wrong as u64)?;
-        let (one, length) = (wrong as u64 - before, lengths[legal]);
-        let what = "expected records that the file's format and record length allow";
-        Some(Wrong::at(line, format!("{what}; number {one} of this line has {length} bytes")))
+        Some(legal)
+    }
+
+    /// With the first so many records alone.
+    fn is_illegal_within(&self, count: usize) -> bool {
+        let lengths = &self.lengths[..count];
+        let data = &self.data[..lengths.iter().sum::<u64>() as usize];
+        is_illegal(&Sheet { files: self.entry, counts: &[count as u64], lengths, data, ..PLAIN })
+    }
+
+    /// Whether the file can have a record of this length, of other bytes if need be.
+    fn can_have(&self, length: u64) -> bool {
+        let (files, data) = (self.entry, &vec![b'0'; length as usize][..]);
+        !is_illegal(&Sheet { files, counts: &[1], lengths: &[length], data, ..PLAIN })
     }
 }

@@ -23,7 +23,17 @@ pub struct Field {
     fill: Fill,
     /// What stands there where the sheet says nothing.
     pub usual: Option<&'static [u8]>,
+    /// What the library takes there, in words.
+    pub good: &'static str,
 }
+
+/// The characters of a label, in words.
+pub const CHARACTERS: &str =
+    "capital letters, digits, SPACE and ! \" % & ' ( ) * + , - . / : ; < = > ? _";
+const SUITING: &str =
+    "for F 1 to the block length, for D 5 to the block length, for S 1 or more with a \
+    block length of 6 or more";
+const DATES: &str = "a year, and a day of 001 to 366; or 00000 for no date";
 
 const fn field(
     key: &'static str,
@@ -31,24 +41,25 @@ const fn field(
     width: usize,
     fill: Fill,
     usual: Option<&'static [u8]>,
+    good: &'static str,
 ) -> Field {
-    Field { key, at, width, fill, usual }
+    Field { key, at, width, fill, usual, good }
 }
 
 /// The fields in the order of the entry; the first begins a file.
 pub const FIELDS: [Field; 8] = [
-    field("file", 0, 17, Fill::Text, None),
-    field("generation", 17, 4, Fill::Number, Some(b"0001")),
-    field("version", 21, 2, Fill::Number, Some(b"00")),
-    field("created", 23, 6, Fill::Date, Some(b" 00000")),
-    field("expires", 29, 6, Fill::Date, Some(b" 00000")),
-    field("format", 35, 1, Fill::Text, None),
-    field("block-length", 36, 5, Fill::Number, None),
-    field("record-length", 41, 5, Fill::Number, None),
+    field("file", 0, 17, Fill::Text, None, CHARACTERS),
+    field("generation", 17, 4, Fill::Number, Some(b"0001"), "1 to 9999"),
+    field("version", 21, 2, Fill::Number, Some(b"00"), "0 to 99"),
+    field("created", 23, 6, Fill::Date, Some(b" 00000"), DATES),
+    field("expires", 29, 6, Fill::Date, Some(b" 00000"), DATES),
+    field("format", 35, 1, Fill::Text, None, "F, D or S"),
+    field("block-length", 36, 5, Fill::Number, None, "1 to 99999"),
+    field("record-length", 41, 5, Fill::Number, None, SUITING),
 ];
 
-pub const SET: Field = field("set", 0, 6, Fill::Text, None);
-pub const REEL: Field = field("reel", 0, 6, Fill::Text, None);
+pub const SET: Field = field("set", 0, 6, Fill::Text, None, CHARACTERS);
+pub const REEL: Field = field("reel", 0, 6, Fill::Text, None, CHARACTERS);
 
 impl Field {
     /// The value at the field's width, or what was expected in its place.

@@ -1,0 +1,26 @@
+//! How many reels a writing needs, by asking the library with more names.
+
+/// The library's number for a writing that needs more reels than are named.
+pub const TOO_FEW: u32 = 12;
+
+/// As many reels as a set has, and the highest quota of each.
+const MOST_REELS: usize = 16;
+const MOST_QUOTA: u64 = 999_999;
+
+/// How many reels are needed where so many are too few, in words. `number` is the library's for the
+/// writing with a quota and reel names.
+pub fn in_words(quota: u64, few: usize, number: impl Fn(u64, &[u8]) -> u32) -> String {
+    let suffice = |quota, count| number(quota, &names(count)) != TOO_FEW;
+    match (few + 1..=MOST_REELS).find(|&count| suffice(quota, count)) {
+        Some(count) => format!("{count} are needed with quota {quota}"),
+        None if suffice(MOST_QUOTA, MOST_REELS) => {
+            format!("not even {MOST_REELS} suffice with quota {quota}; raise the quota")
+        }
+        None => format!("not even {MOST_REELS} suffice, whatever the quota; make blocks longer"),
+    }
+}
+
+/// So many names of reels, each another one.
+fn names(count: usize) -> Vec<u8> {
+    (1..=count).flat_map(|number| format!("REEL{number:02}").into_bytes()).collect()
+}
