@@ -1,6 +1,6 @@
 //! Sets as they are read: an image from a file, or reels in SIMH's form; `-` is standard input.
 
-use crate::stop::Stop;
+use crate::stop::{refusal, Stop};
 use crate::words::Words;
 use crate::{names, reels, streams};
 use std::ffi::{OsStr, OsString};
@@ -37,6 +37,11 @@ impl Set {
 
     pub fn refused(&self, verdict: Verdict) -> Stop {
         Stop::refused(&self.name, verdict)
+    }
+
+    /// With what there is to say on this set.
+    pub fn refused_for(&self, verdict: Verdict, why: &str) -> Stop {
+        Stop::Refused(verdict, format!("{}: {}: {why}", self.name, refusal(verdict)))
     }
 }
 

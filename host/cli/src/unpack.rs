@@ -4,7 +4,7 @@ use crate::input::Set;
 use crate::names::told;
 use crate::records::Form;
 use crate::stop::{Status, Stop};
-use crate::words::{names, number, Words};
+use crate::words::{names, quota, Words};
 use crate::{output, sheet};
 use std::fs::{self, File};
 use std::io::{self, BufWriter, Write};
@@ -16,7 +16,7 @@ const QUOTA: u64 = 999_999;
 pub fn run(words: &Words) -> Result<Status, Stop> {
     let (files, [folder]) = words.set_and(["folder"])?;
     let form = Form::of(words)?;
-    let quota = words.value("--quota")?.map(|word| number(word, "Q")).transpose()?;
+    let quota = words.value("--quota")?.map(quota).transpose()?;
     let names = words.value("--reels")?.map(names).transpose()?;
     let set = Set::read(words, files)?;
     let verdict = tardorelga::check(&set.image);

@@ -1,6 +1,7 @@
 //! The words behind a command: flags, options with a value, and plain words.
 
-use crate::sheet;
+use crate::names::{echoed, short};
+use crate::sheet::{self, Unfit};
 use crate::stop::Stop;
 use std::ffi::{OsStr, OsString};
 use std::os::unix::ffi::OsStrExt;
@@ -131,11 +132,38 @@ pub fn number(word: &OsStr, what: &str) -> Result<u64, Stop> {
     number.ok_or_else(|| Stop::words(format!("{what} is a number, not {word:?}")))
 }
 
-/// Reel names as the library takes them, from a list with commas.
-pub fn names(list: &OsStr) -> Result<Vec<u8>, Stop> {
-    let names = list.as_bytes().split(|&byte| byte == b',').map(sheet::reel_name);
-    let names: Result<Vec<Vec<u8>>, String> = names.collect();
-    names.map(|names| names.concat()).map_err(|_| {
-        Stop::words(format!("--reels is names of 1 to 6 characters with commas, not {list:?}"))
+/// A quota that the library takes.
+pub fn quota(word: &OsStr) -> Result<u64, Stop> {
+    let number = word.to_str().and_then(|word| word.parse().ok());
+    number.filter(|&quota| sheet::is_quota(quota)).ok_or_else(|| {
+        let told = match word.as_bytes().iter().all(u8::is_ascii_digit) {
+            true => short(word.as_bytes()),
+            false => echoed(word.as_bytes()),
+        };
+        Stop::words(format!("--quota is {}, not {told}", sheet::QUOTAS))
     })
+}
+
+/// Reel names that the library takes, from a list with commas.
+pub fn names(list: &OsStr) -> Result<Vec<u8>, Stop> {
+    let words: Vec<&[u8]> = list.as_bytes().split(|&byte| byte == b',').collect();
+    let wrong = |name: &[u8], why: &str| Stop::words(format!("--reels: {} {why}", echoed(name)));
+    let mut names = Vec::new();
+    for word in &words {
+        let name = sheet::reel_name(word);
+        names.extend(name.map_err(|_| wrong(word, "is no reel name: one has 1 to 6 characters"))?);
+    }
+    if sheet::too_many_names(&names).is_some() {
+        let count = words.len();
+        return Err(Stop::words(format!(
+            "--reels: {count} names are more than a set has reels, 1 to 16"
+        )));
+    }
+    match sheet::unfit_name(&names) {
+        None => Ok(names),
+        Some((i, Unfit::Again)) => Err(wrong(words[i], "is named twice")),
+        Some((i, Unfit::Alone)) => {
+            Err(wrong(words[i], &format!("is no reel name: a label holds {}", sheet::CHARACTERS)))
+        }
+    }
 }
