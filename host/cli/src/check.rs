@@ -155,7 +155,7 @@ impl Named<'_> {
     }
 }
 
-fn many(count: u64, what: &str) -> String {
+pub fn many(count: u64, what: &str) -> String {
     format!("{count} {what}{}", if count == 1 { "" } else { "s" })
 }
 

@@ -16,6 +16,12 @@ pub fn listing(image: &[u8]) -> Vec<u8> {
     text
 }
 
+/// How many files an accepted image has: the lines behind the heading.
+pub fn file_count(image: &[u8]) -> u64 {
+    listing(image).split(|&byte| byte == b'\n').skip(1).filter(|line| !line.is_empty()).count()
+        as u64
+}
+
 pub fn run(words: &Words) -> Result<Status, Stop> {
     let (files, []) = words.set_and([])?;
     let (text, accepted) = match Set::read(words, files) {

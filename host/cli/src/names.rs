@@ -11,7 +11,7 @@ const SHORT: usize = 40;
 pub fn told(name: &OsStr) -> String {
     match plain(name.as_bytes()) {
         Some(name) => name.into(),
-        None => format!("\"{}\"", pieces(name.as_bytes()).collect::<String>()),
+        None => format!("\"{}\"", pieces(name.as_bytes(), is_seen).collect::<String>()),
     }
 }
 
@@ -23,10 +23,11 @@ pub fn short(name: &[u8]) -> String {
     }
 }
 
-/// The beginning of what stands on a sheet, in quotes; dots behind them where more follows.
+/// The beginning of what stands on a sheet or in a word, in quotes and in printable ASCII alone; dots
+/// behind them where more follows.
 pub fn echoed(text: &[u8]) -> String {
-    let (mut shown, mut pieces) = (String::new(), pieces(text));
-    for piece in pieces.by_ref() {
+    let mut shown = String::new();
+    for piece in pieces(text, |c| c == ' ' || c.is_ascii_graphic()) {
         if shown.len() + piece.len() > SHORT {
             return format!("\"{shown}\"..");
         }
@@ -45,22 +46,26 @@ fn plain(name: &[u8]) -> Option<&str> {
 /// A character that is no control: none of C0, DEL and C1, no separator of lines or paragraphs, and none
 /// that changes the direction of what is read.
 pub fn is_seen(c: char) -> bool {
-    let turns = matches!(c, '\u{61c}' | '\u{200e}' | '\u{200f}' | '\u{202a}'..='\u{202e}' | '\u{2066}'..='\u{2069}');
-    !c.is_control() && !turns && !matches!(c, '\u{2028}' | '\u{2029}')
+    let separates = matches!(c, '\u{2028}' | '\u{2029}');
+    let marks_direction = matches!(c, '\u{61c}' | '\u{200e}' | '\u{200f}');
+    let turns = matches!(c, '\u{202a}'..='\u{202e}' | '\u{2066}'..='\u{2069}');
+    !(c.is_control() || separates || marks_direction || turns)
 }
 
-/// Each character, or byte that is part of none, as it stands between quotes.
-fn pieces(text: &[u8]) -> impl Iterator<Item = String> + '_ {
-    text.utf8_chunks()
-        .flat_map(|chunk| chunk.valid().chars().map(escaped).chain(chunk.invalid().iter().map(hex)))
+/// Each character, or byte that is part of none, as it stands between quotes: those to keep as they are.
+fn pieces(text: &[u8], keeps: fn(char) -> bool) -> impl Iterator<Item = String> + '_ {
+    text.utf8_chunks().flat_map(move |chunk| {
+        let valid = chunk.valid().chars().map(move |c| escaped(c, keeps));
+        valid.chain(chunk.invalid().iter().map(hex))
+    })
 }
 
-fn escaped(c: char) -> String {
+fn escaped(c: char, keeps: fn(char) -> bool) -> String {
     match c {
         '\n' => "\\n".into(),
         '\t' => "\\t".into(),
         '"' | '\\' => format!("\\{c}"),
-        c if is_seen(c) => c.into(),
+        c if keeps(c) => c.into(),
         c => c.encode_utf8(&mut [0; 4]).as_bytes().iter().map(hex).collect(),
     }
 }

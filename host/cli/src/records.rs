@@ -1,12 +1,18 @@
 //! `record FILE N R` and `records FILE N`: the bytes of records.
 
+use crate::check::many;
 use crate::input::Set;
+use crate::list;
 use crate::stop::{Status, Stop};
 use crate::streams::Out;
 use crate::words::{number, Words};
+use tardorelga::Verdict;
 
 /// Room for any record: its length is a number of five digits.
 const LONGEST: usize = 99_999;
+
+/// The library's number for a file or a record that is not there.
+const MISSING: u32 = 13;
 
 /// How a record is printed.
 #[derive(Clone, Copy, PartialEq, Eq)]
@@ -56,10 +62,22 @@ pub fn one(words: &Words) -> Result<Status, Stop> {
     let set = Set::read(words, files)?;
     let mut join = vec![0; LONGEST];
     let record = tardorelga::record(&set.image, n, r, &mut join);
-    let record = record.map_err(|verdict| set.refused(verdict))?;
+    let record = record.map_err(|verdict| missing(&set, n, verdict))?;
     let mut out = Out::open()?;
     form.give(record, |bytes| out.put(bytes))?;
     out.end()
+}
+
+/// A refusal; where there is no such file or record, with how many there are.
+fn missing(set: &Set, file: u64, verdict: Verdict) -> Stop {
+    if verdict.number != MISSING {
+        return set.refused(verdict);
+    }
+    let there = match tardorelga::file(&set.image, file) {
+        Ok(found) => format!("file {file} has {}", many(found.records, "record")),
+        Err(_) => format!("the set has {}", many(list::file_count(&set.image), "file")),
+    };
+    set.refused_for(verdict, &format!("{there}, counted from 1"))
 }
 
 /// Each record is written as the walk gets to it.
@@ -68,7 +86,8 @@ pub fn all(words: &Words) -> Result<Status, Stop> {
     let n = number(n, "N")?;
     let form = Form::of(words)?;
     let set = Set::read(words, files)?;
-    let records = tardorelga::records(&set.image, n).map_err(|verdict| set.refused(verdict))?;
+    let records = tardorelga::records(&set.image, n);
+    let records = records.map_err(|verdict| missing(&set, n, verdict))?;
     let mut out = Out::open()?;
     for record in records {
         form.give(&record, |bytes| out.put(bytes))?;

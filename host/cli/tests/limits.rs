@@ -169,6 +169,7 @@ fn what_is_echoed_of_a_line_is_short_and_has_no_control_character() {
     assert_eq!(long, (Some(1), format!("\"{}\"..", "a".repeat(40))));
     assert_eq!(told(b"\x1b[2J\x07\x00"), (Some(1), r#""\x1b[2J\x07\x00""#.into()));
     assert_eq!(told("\u{202e}\u{9b}".as_bytes()).1, r#""\xe2\x80\xae\xc2\x9b""#);
+    assert_eq!(told("\u{feff}set Ü".as_bytes()).1, r#""\xef\xbb\xbfset""#);
     assert_eq!(told(b"\xff\x80\"\\").1, r#""\xff\x80\"\\""#);
     assert_eq!(told(&[7; 1000]).1, format!("\"{}\"..", r"\x07".repeat(10)));
     let named = |name: &[u8]| told(&[HEAD.as_bytes(), FILE.as_bytes(), b"lines ", name].concat());

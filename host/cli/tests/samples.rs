@@ -87,10 +87,13 @@ fn one_record_comes_by_its_number() {
 #[test]
 fn what_is_not_there_is_refused() {
     let none = "samples/messages.tgi: refused 13: there is no such file or record";
-    for words in [["1", "5"], ["3", "1"], ["0", "1"], ["1", "0"], ["1", "18446744073709551615"]] {
-        run(&[&["record", "samples/messages.tgi"], &words[..]].concat()).told(1, none);
+    let files = format!("{none}: the set has 2 files, counted from 1");
+    let records = format!("{none}: file 1 has 4 records, counted from 1");
+    for number in ["5", "0", "18446744073709551615"] {
+        run(&["record", "samples/messages.tgi", "1", number]).told(1, &records);
+        run(&["record", "samples/messages.tgi", number, "1"]).told(1, &files);
+        run(&["records", "samples/messages.tgi", number]).told(1, &files);
     }
-    run(&["records", "samples/messages.tgi", "3"]).told(1, none);
     let own = "samples/refused-6.tgi: refused 6 at item 6 byte 55: \
                labels, counts or names do not agree with each other";
     run(&["records", "samples/refused-6.tgi", "9"]).told(1, own);

@@ -111,7 +111,7 @@ fn wrong_records_are_named() {
     }
     let odd = "expected whole records of 5 bytes; samples/ledger.tgi has 448 bytes";
     wrong(1, &sheet("data samples/ledger.tgi each 5"), &format!("line 8: {odd}"));
-    let none = odd.replace(" 5 ", " 0 ");
+    let none = "expected 1 or more behind 'each'; a file of lengths can say 0";
     wrong(1, &sheet("data samples/ledger.tgi each 0"), &format!("line 8: {none}"));
 }
 

@@ -69,13 +69,12 @@ impl Reading<'_> {
     }
 
     fn each(&mut self, each: u64, of: &str, bytes: u64) -> Result<(), Fault> {
-        match bytes.checked_rem(each) {
-            Some(0) => Ok(self.order.count(each, bytes / each)?),
-            _ => {
-                Err(format!("expected whole records of {each} bytes; {of} has {bytes} bytes")
-                    .into())
-            }
-        }
+        let what = match bytes.checked_rem(each) {
+            Some(0) => return Ok(self.order.count(each, bytes / each)?),
+            Some(_) => format!("expected whole records of {each} bytes; {of} has {bytes} bytes"),
+            None => "expected 1 or more behind 'each'; a file of lengths can say 0".into(),
+        };
+        Err(what.into())
     }
 
     /// The lengths of records, a line each: `LENGTH`, or `LENGTH x COUNT` for so many of one length.
