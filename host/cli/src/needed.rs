@@ -11,7 +11,8 @@ const MOST_QUOTA: u64 = 999_999;
 /// writing with a quota and reel names.
 pub fn in_words(quota: u64, few: usize, number: impl Fn(u64, &[u8]) -> u32) -> String {
     let suffice = |quota, count| number(quota, &names(count)) != TOO_FEW;
-    match (few + 1..=MOST_REELS).find(|&count| suffice(quota, count)) {
+    let counts: Vec<usize> = (few + 1..=MOST_REELS).collect();
+    match counts.get(counts.partition_point(|&count| !suffice(quota, count))) {
         Some(count) => format!("{count} are needed with quota {quota}"),
         None if suffice(MOST_QUOTA, MOST_REELS) => {
             format!("not even {MOST_REELS} suffice with quota {quota}; raise the quota")

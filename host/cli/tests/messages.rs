@@ -108,6 +108,18 @@ fn too_few_reels_are_told_with_how_many_are_needed() {
     refused(&sheet(2, 16, 33), &format!("{few} 16 'reel' lines, and {none}"));
 }
 
+/// 16 reels of the highest quota hold 15,999,984 blocks.
+#[test]
+fn blocks_for_which_no_quota_suffices_are_too_short() {
+    let d = folder("no-quota");
+    fs::write(d.join("sheet"), sheet(7, 1, 1).replace("text A", "data data each 1")).unwrap();
+    fs::write(d.join("data"), vec![b'A'; 15_999_985]).unwrap();
+    let few =
+        "refused 12: more reels are needed than are named: the sheet has 1 'reel' line, and not \
+               even 16 suffice, whatever the quota; make blocks longer";
+    shell("$T pack $D/sheet -o $D/out", &d).told(1, &format!("{}/sheet: {few}", d.display()));
+}
+
 #[test]
 fn too_few_reels_of_a_normal_form_are_told_with_how_many_are_needed() {
     let image = fed(&["pack", "-", "-o", "-"], sheet(999_999, 1, 33).as_bytes()).done().out;
