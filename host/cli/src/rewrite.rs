@@ -1,11 +1,12 @@
 //! `rewrite FILE --quota Q --reels A,B,.. -o OUT`: the normal form of a set.
 
 use crate::input::Set;
-use crate::needed::{self, TOO_FEW};
+use crate::needed::{self, RAISE, TOO_FEW, TOO_LONG};
 use crate::output;
 use crate::pack::LONGEST_IMAGE;
 use crate::stop::{Status, Stop};
 use crate::words::{names, quota, Words};
+use tardorelga::Verdict;
 
 /// The bytes of a reel name.
 const NAME: usize = 6;
@@ -18,18 +19,23 @@ pub fn run(words: &Words) -> Result<Status, Stop> {
     let set = Set::read(words, files)?;
     let mut normal = vec![0; LONGEST_IMAGE];
     let length = tardorelga::rewrite(&set.image, quota, &names, &mut normal);
-    let length = length.map_err(|verdict| match verdict.number {
-        TOO_FEW => set.refused_for(verdict, &reels_needed(&set.image, quota, names.len() / NAME)),
-        _ => set.refused(verdict),
-    })?;
+    let length = length.map_err(|verdict| refused(&set, quota, names.len() / NAME, verdict))?;
     drop(set);
     output::write(out, &normal[..length])
 }
 
-fn reels_needed(image: &[u8], quota: u64, named: usize) -> String {
+/// A refusal, with what the operator can do where another quota or more names help.
+fn refused(set: &Set, quota: u64, named: usize, verdict: Verdict) -> Stop {
     let number = |quota, names: &[u8]| {
-        let answer = tardorelga::rewrite(image, quota, names, &mut []);
+        let answer = tardorelga::rewrite(&set.image, quota, names, &mut []);
         answer.err().map_or(0, |verdict| verdict.number)
     };
-    format!("--reels names {named}, and {}", needed::in_words(quota, named, number))
+    match verdict.number {
+        TOO_FEW => {
+            let needed = needed::in_words(quota, named, number);
+            set.refused_for(verdict, &format!("--reels names {named}, and {needed}"))
+        }
+        TOO_LONG if needed::fits_on_few_reels(number) => set.refused_for(verdict, RAISE),
+        _ => set.refused(verdict),
+    }
 }

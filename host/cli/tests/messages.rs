@@ -133,6 +133,30 @@ fn too_few_reels_of_a_normal_form_are_told_with_how_many_are_needed() {
     rewrite("2", "A").told(1, &format!("{few} 1, and {none}"));
 }
 
+/// 209,688 records of 80 bytes fit on one reel, but not on two.
+#[test]
+fn an_image_that_its_reels_make_too_long_wants_a_higher_quota() {
+    let d = folder("too-many-labels");
+    let file = "file A\nformat F\nblock-length 32720\nrecord-length 80\ndata data each 80\n";
+    let put = |quota: usize| {
+        let head = format!("set SET001\nquota {quota}\nreel A\nreel B\n");
+        fs::write(d.join("sheet"), head + file).unwrap();
+    };
+    fs::write(d.join("data"), vec![b'A'; 209_688 * 80]).unwrap();
+    put(999_999);
+    shell("$T pack $D/sheet -o $D/whole.tgi", &d).done();
+    put(300);
+    let long = "refused 14: the image would be longer than 16777215 bytes";
+    let raise = "raise the quota, since fewer reels have fewer labels";
+    let size = "its 209688 records have 16775040 bytes, and labels and blocks take more";
+    let sentence = format!("{}/sheet: {long}: {size}; {raise}", d.display());
+    shell("$T pack $D/sheet -o $D/out", &d).told(1, &sentence);
+    let sentence = format!("{}/whole.tgi: {long}: {raise}", d.display());
+    let rewrite = "$T rewrite $D/whole.tgi --quota 300 --reels A,B -o $D/out";
+    shell(rewrite, &d).told(1, &sentence);
+    assert_eq!(names_in(&d), ["data", "sheet", "whole.tgi"]);
+}
+
 #[test]
 fn a_record_of_circumflexes_is_not_blamed_for_its_length() {
     let head = "set SET001\nquota 9\nreel GATE01\nfile A\nformat F\nblock-length 20\n\

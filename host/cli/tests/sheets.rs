@@ -103,6 +103,7 @@ fn wrong_records_are_named() {
     wrong(1, &sheet("hex 0"), "line 8: expected pairs of hexadecimal digits");
     wrong(1, &sheet("hex 0g"), "line 8: expected pairs of hexadecimal digits");
     wrong(1, &sheet("lines"), "line 8: expected the name of a file");
+    wrong(1, &sheet("lines a\0b"), "line 8: expected the name of a file");
     let none = "expected a file that can be read; none: No such file or directory";
     wrong(2, &sheet("lines none"), &format!("line 8: {none}"));
     let data = "line 8: expected NAME each LENGTH, or NAME lengths NAME, behind 'data'";

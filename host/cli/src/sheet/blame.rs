@@ -3,7 +3,7 @@
 use super::ask::{is_illegal, is_quota, unfit_name, Unfit, ILLEGAL, PLAIN, PLAIN_FILE, QUOTAS};
 use super::field::{Field, CHARACTERS, ENTRY};
 use super::{Order, Wrong, FIELDS};
-use crate::needed::{self, TOO_FEW};
+use crate::needed::{self, RAISE, TOO_FEW};
 use tardorelga::{Sheet, Verdict};
 
 const BLOCK_LENGTH: usize = FIELDS.len() - 2;
@@ -26,18 +26,25 @@ impl Order {
         wrong.by(verdict)
     }
 
+    /// The library's number for the sheet with another quota and other names.
+    fn number(&self, quota: u64, names: &[u8]) -> u32 {
+        let sheet = Sheet { quota, names, ..self.sheet() };
+        tardorelga::write(&sheet, &mut []).err().map_or(0, |verdict| verdict.number)
+    }
+
     fn size(&self) -> String {
         let (records, bytes) = (self.lengths.len(), self.data.len());
-        format!("its {records} records have {bytes} bytes, and labels and blocks take more; make two sets of it")
+        let fits_on_few_reels = needed::fits_on_few_reels(|quota, names| self.number(quota, names));
+        let to_do = if fits_on_few_reels { RAISE } else { "make two sets of it" };
+        format!(
+            "its {records} records have {bytes} bytes, and labels and blocks take more; {to_do}"
+        )
     }
 
     fn reels_needed(&self) -> String {
-        let number = |quota, names: &[u8]| {
-            let sheet = Sheet { quota, names, ..self.sheet() };
-            tardorelga::write(&sheet, &mut []).err().map_or(0, |verdict| verdict.number)
-        };
         let named = self.lines.reels.len();
         let lines = if named == 1 { "line" } else { "lines" };
+        let number = |quota, names: &[u8]| self.number(quota, names);
         let needed = needed::in_words(self.quota, named, number);
         format!("the sheet has {named} 'reel' {lines}, and {needed}")
     }

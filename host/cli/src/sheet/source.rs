@@ -33,7 +33,7 @@ impl Source<'_> {
 
     /// The name as it is told, and the file opened.
     pub fn open(&self, name: &[u8]) -> Result<(String, File), Fault> {
-        if name.is_empty() {
+        if name.is_empty() || name.contains(&0) {
             return Err("expected the name of a file".to_string().into());
         }
         let told = short(name);
