@@ -39,6 +39,10 @@ impl Set {
         Stop::refused(&self.name, verdict)
     }
 
+    pub fn trouble(&self, error: io::Error) -> Stop {
+        Stop::trouble(&self.name, error)
+    }
+
     /// With what there is to say on this set.
     pub fn refused_for(&self, verdict: Verdict, why: &str) -> Stop {
         Stop::Refused(verdict, format!("{}: {}: {why}", self.name, refusal(verdict)))

@@ -7,11 +7,14 @@ use crate::stop::{Status, Stop};
 use crate::words::{names, quota, Words};
 use crate::{output, sheet};
 use std::fs::{self, File};
-use std::io::{self, BufWriter, Write};
+use std::io::{self, BufWriter, ErrorKind, Write};
 use std::path::{Path, PathBuf};
 
 /// The most that a reel may hold, so that as few reels as can be are needed.
 const QUOTA: u64 = 999_999;
+
+/// The kind of an error that is no fault of the folder: a record that its form can't hold.
+const UNFIT: ErrorKind = ErrorKind::InvalidData;
 
 pub fn run(words: &Words) -> Result<Status, Stop> {
     let (files, [folder]) = words.set_and(["folder"])?;
@@ -25,8 +28,10 @@ pub fn run(words: &Words) -> Result<Status, Stop> {
     }
     let names = names.unwrap_or_else(|| reel_names(&set.image));
     let head = Head { quota: quota.unwrap_or(QUOTA), names };
-    put(&set.image, &head, form, Path::new(folder))
-        .map_err(|error| Stop::trouble(told(folder), error))?;
+    put(&set.image, &head, form, Path::new(folder)).map_err(|error| match error.kind() {
+        UNFIT => set.trouble(error),
+        _ => Stop::trouble(told(folder), error),
+    })?;
     Ok(Status::Done)
 }
 
@@ -120,7 +125,7 @@ fn records(of: &tardorelga::File, form: Form, folder: &Path) -> io::Result<Strin
 
 fn unfit_for_lines(file: u64, record: u64) -> io::Error {
     let what = format!("record {record} of file {file} holds a line feed; unpack without --lines");
-    io::Error::other(what)
+    io::Error::new(UNFIT, what)
 }
 
 /// A file being written.

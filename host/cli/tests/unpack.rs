@@ -84,7 +84,7 @@ fn any_bytes_and_any_lengths_come_back() {
     );
     assert_eq!(fs::read_to_string(d.join("b/0003.lengths")).unwrap(), "0\n");
     let feed = "record 3 of file 1 holds a line feed; unpack without --lines";
-    let feed = format!("{}: {feed}", d.join("c").display());
+    let feed = format!("{}: {feed}", d.join("a.tgi").display());
     shell("$T unpack --lines $D/a.tgi $D/c", &d).told(2, &feed);
     assert_eq!(names_in(&d), ["a", "a.tgi", "b", "b.tgi"]);
 }
