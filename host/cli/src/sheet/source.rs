@@ -79,20 +79,20 @@ pub struct Text<R> {
 }
 
 /// Why a text can't be read on.
-pub enum Unfit {
+pub enum Halt {
     Unread(io::Error),
     /// The number of the line, and what was expected.
     Long(usize, String),
 }
 
 /// Of the sheet itself.
-impl From<Unfit> for Wrong {
-    fn from(unfit: Unfit) -> Wrong {
+impl From<Halt> for Wrong {
+    fn from(unfit: Halt) -> Wrong {
         match unfit {
-            Unfit::Unread(error) => {
+            Halt::Unread(error) => {
                 Wrong::of_sheet(Fault { what: reason(&error), judge: Judge::System })
             }
-            Unfit::Long(line, what) => Wrong::at(line, what),
+            Halt::Long(line, what) => Wrong::at(line, what),
         }
     }
 }
@@ -103,13 +103,13 @@ impl<R: BufRead> Text<R> {
     }
 
     /// The next line with its number, from 1, without its line feed. What it takes goes off `left`.
-    pub fn next(&mut self, left: &mut u64) -> Result<Option<(usize, &[u8])>, Unfit> {
+    pub fn next(&mut self, left: &mut u64) -> Result<Option<(usize, &[u8])>, Halt> {
         self.line.clear();
         self.number += 1;
         let most = LONGEST_LINE.min(*left) + 1;
         let line = (&mut self.source).take(most).read_until(b'\n', &mut self.line);
-        let read = line.map_err(Unfit::Unread)? as u64;
-        let long = |what| Err(Unfit::Long(self.number, format!("expected at most {what}")));
+        let read = line.map_err(Halt::Unread)? as u64;
+        let long = |what| Err(Halt::Long(self.number, format!("expected at most {what}")));
         if read > *left {
             return long(format!("{MOST_TEXT} bytes of text on a sheet and in files of lines"));
         }
@@ -137,8 +137,8 @@ impl Named {
     pub fn next(&mut self, left: &mut u64) -> Result<Option<(usize, &[u8])>, Fault> {
         let name = &self.name;
         self.text.next(left).map_err(|unfit| match unfit {
-            Unfit::Unread(error) => unread(name, error),
-            Unfit::Long(line, what) => format!("{what}, on line {line} of {name}").into(),
+            Halt::Unread(error) => unread(name, error),
+            Halt::Long(line, what) => format!("{what}, on line {line} of {name}").into(),
         })
     }
 }
