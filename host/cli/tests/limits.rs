@@ -74,21 +74,20 @@ fn lines_without_an_end_are_refused() {
     fs::write(d.join("empty"), "").unwrap();
     let wide = " ".repeat(1000);
     let cases = [
-        ("lines pipe", "x".repeat(1023), BYTES.to_string()),
-        ("hex-lines pipe", "41".repeat(1000), format!("{BYTES} on line 16778 of pipe")),
-        ("hex-lines pipe", wide.clone(), format!("{TEXT}, on line 134084 of pipe")),
+        ("lines /dev/stdin", "x".repeat(1023), BYTES.to_string()),
+        ("hex-lines /dev/stdin", "41".repeat(1000), format!("{BYTES} on line 16778 of /dev/stdin")),
+        ("hex-lines /dev/stdin", wide.clone(), format!("{TEXT}, on line 134084 of /dev/stdin")),
         (
-            "data empty lengths pipe",
+            "data empty lengths /dev/stdin",
             format!("0{wide}x 0"),
-            format!("{TEXT}, on line 133550 of pipe"),
+            format!("{TEXT}, on line 133550 of /dev/stdin"),
         ),
     ];
-    shell("mkfifo $D/pipe", &d).done();
     for (line, text, what) in cases {
         put_sheet(&d, line);
         let sentence = format!("{}/sheet: line 8: {what}", d.display());
-        let feed = format!("yes '{text}' > $D/pipe & ");
-        shell(&format!("{feed} {MEMORY} $T pack $D/sheet -o $D/out"), &d).told(1, &sentence);
+        let pack = format!("yes '{text}' | $T pack --anywhere $D/sheet -o $D/out");
+        shell(&format!("{MEMORY} {pack}"), &d).told(1, &sentence);
     }
 }
 
