@@ -1,13 +1,13 @@
 //! `export FILE -o NAME`: the reels of an image as files in SIMH's form, `NAME-1.tap` and so on.
 
-use crate::names::told;
+use crate::input;
+use crate::output::{self, Output};
 use crate::stop::{Status, Stop};
 use crate::words::Words;
-use crate::{input, output};
 use std::ffi::OsStr;
-use std::fs;
 use std::os::unix::ffi::OsStrExt;
-use std::path::PathBuf;
+use std::path::{Path, PathBuf};
+use std::{fs, io};
 
 /// As many reels as an image has.
 const MOST_REELS: usize = 16;
@@ -26,13 +26,13 @@ pub fn run(words: &Words) -> Result<Status, Stop> {
         .map_err(|verdict| Stop::refused(input::name(file), verdict))?;
     let reels = cut(&tapes, &lengths[..written.files]);
     match (&reels[..], name == "-") {
-        ([reel], true) => output::write(name, reel),
+        ([reel], true) => Output::of(words, &[file])?.write(reel),
         (_, true) => Err(Stop::Trouble(format!(
             "{}: has {} reels, and standard output takes one; name their files with -o NAME",
             input::name(file),
             reels.len()
         ))),
-        _ => put(name, &reels),
+        _ => put(name, &reels, file, words.has("--force")),
     }
 }
 
@@ -45,16 +45,38 @@ fn cut<'a>(mut tapes: &'a [u8], lengths: &[u64]) -> Vec<&'a [u8]> {
     lengths.iter().map(reel).collect()
 }
 
-/// A reel of another set behind these would be taken for one of theirs, so none may be there.
-fn put(name: &OsStr, reels: &[&[u8]]) -> Result<Status, Stop> {
-    for number in reels.len() + 1..=MOST_REELS {
+fn put(name: &OsStr, reels: &[&[u8]], input: &OsStr, force: bool) -> Result<Status, Stop> {
+    for number in 1..=MOST_REELS {
         let path = path(name, number);
-        if fs::symlink_metadata(&path).is_ok() {
-            return Err(Stop::trouble(told(path.as_os_str()), output::is_there()));
+        match (number <= reels.len(), force) {
+            (true, false) => output::refuse_old(&path, &[input])?,
+            (true, true) => refuse_odd(&path)?,
+            (false, _) => refuse_behind(&path)?,
         }
     }
     let paths = (1..).map(|number| path(name, number));
-    output::write_new(&paths.zip(reels.iter().copied()).collect::<Vec<_>>())
+    output::write_files(&paths.zip(reels.iter().copied()).collect::<Vec<_>>(), force)
+}
+
+/// Only a file is replaced: two links might lead to one, and a device would hold one reel only.
+fn refuse_odd(path: &Path) -> Result<(), Stop> {
+    match fs::symlink_metadata(path) {
+        Ok(there) if !there.is_file() => in_the_way(path, "is there already, and no plain file"),
+        _ => Ok(()),
+    }
+}
+
+/// A reel of another set behind these would be taken for one of theirs.
+fn refuse_behind(path: &Path) -> Result<(), Stop> {
+    match fs::symlink_metadata(path) {
+        Ok(_) => in_the_way(path, "is there already, and would be taken for a reel of this set"),
+        Err(_) => Ok(()),
+    }
+}
+
+fn in_the_way(path: &Path, what: &str) -> Result<(), Stop> {
+    let what = format!("{what}; remove it, or choose another name with -o");
+    Err(output::trouble(path, io::Error::other(what)))
 }
 
 fn path(name: &OsStr, number: usize) -> PathBuf {

@@ -73,42 +73,47 @@ appears whole or not at all.
     --simh          the set's reels are the files REEL.. in SIMH's form, in this order
 ";
 
-pub const PACK: &str = "usage: tardorelga pack [--anywhere] SHEET -o OUT
+pub const PACK: &str = "usage: tardorelga pack [--force] [--anywhere] SHEET -o OUT
 
 Writes the image of the order sheet SHEET, a text whose form docs/SHEET.md tells. A wrong line is named
 with its number, and the exit status is 1; a named file that can't be read is status 2. Names of files
 on the sheet are looked up in the folder of the sheet, or of a sheet on standard input in the current
 one, and may not lead out of it.
 
+    -o OUT      where the image goes; it appears whole or not at all, and must not be there already
+    --force     replaces an OUT that is there, and keeps its mode and owner
     --anywhere  names on the sheet may lead anywhere: give it only for a sheet that you trust
-    -o OUT      where the image goes; it appears whole or not at all
 ";
 
 pub const REWRITE: &str =
-    "usage: tardorelga rewrite (FILE | --simh REEL..) --quota Q --reels A,B,.. -o OUT
+    "usage: tardorelga rewrite [--force] (FILE | --simh REEL..) --quota Q --reels A,B,.. -o OUT
 
 Writes the normal form of the set in FILE: two sets of one meaning have the same one.
 
     --quota Q       how many data blocks a reel may hold, 1 to 999999
     --reels A,B,..  the names of 1 to 16 reels, of which as many as needed are written
-    -o OUT          where the image goes; it appears whole or not at all
+    -o OUT          where the image goes; it appears whole or not at all, and must not be there already
+    --force         replaces an OUT that is there, and keeps its mode and owner
     --simh          the set's reels are the files REEL.. in SIMH's form, in this order
 ";
 
-pub const IMPORT: &str = "usage: tardorelga import REEL.. -o OUT
+pub const IMPORT: &str = "usage: tardorelga import [--force] REEL.. -o OUT
 
 Writes the image of a set whose reels are the files REEL.. in SIMH's form, in this order; docs/FORMAT.md
 tells both forms. Labels are not looked at: check says of the image whether the set is accepted. A file
 that has anything but good records, tape marks and one end of the medium at its end is refused, and named.
 
-    -o OUT    where the image goes; it appears whole or not at all
+    -o OUT    where the image goes; it appears whole or not at all, and must not be there already
+    --force   replaces an OUT that is there, and keeps its mode and owner
 ";
 
-pub const EXPORT: &str = "usage: tardorelga export FILE -o NAME
+pub const EXPORT: &str = "usage: tardorelga export [--force] FILE -o NAME
 
 Writes the reels of the image in FILE in SIMH's form, a file each: NAME-1.tap, NAME-2.tap and so on. Where
 one of them can't be written, none is left. Labels are not looked at. None of NAME-1.tap to NAME-16.tap may be there already, since the
 reel of another set would be taken for one of this.
 
     -o NAME   how the names of the files begin; - is standard output, for a set of one reel
+    --force   replaces files that are there, and keeps their modes and owners; one behind the last reel of
+              this set is refused all the same
 ";

@@ -9,9 +9,11 @@
 
 mod check;
 mod export;
+mod folder;
 mod help;
 mod import;
 mod input;
+mod kept;
 mod list;
 mod names;
 mod needed;
@@ -23,6 +25,8 @@ mod rewrite;
 mod sheet;
 mod stop;
 mod streams;
+mod system;
+mod temporary;
 mod unpack;
 mod words;
 
@@ -73,19 +77,31 @@ const COMMANDS: [Command; 9] = [
     Command {
         name: "pack",
         help: help::PACK,
-        flags: &["--anywhere"],
+        flags: &["--anywhere", "--force"],
         options: &["-o"],
         run: pack::run,
     },
     Command {
         name: "rewrite",
         help: help::REWRITE,
-        flags: &["--simh"],
+        flags: &["--force", "--simh"],
         options: &["--quota", "--reels", "-o"],
         run: rewrite::run,
     },
-    Command { name: "import", help: help::IMPORT, flags: &[], options: &["-o"], run: import::run },
-    Command { name: "export", help: help::EXPORT, flags: &[], options: &["-o"], run: export::run },
+    Command {
+        name: "import",
+        help: help::IMPORT,
+        flags: &["--force"],
+        options: &["-o"],
+        run: import::run,
+    },
+    Command {
+        name: "export",
+        help: help::EXPORT,
+        flags: &["--force"],
+        options: &["-o"],
+        run: export::run,
+    },
 ];
 
 #[no_mangle]

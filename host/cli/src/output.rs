@@ -1,115 +1,183 @@
-//! Output files, which appear whole or not at all.
+//! Where an output goes. A file appears whole or not at all, and takes the place of another only with
+//! `--force`; an open descriptor, a device or a pipe is written to as it is.
 
+use crate::kept::Old;
 use crate::names::told;
-use crate::stop::{Status, Stop};
-use crate::streams::Out;
-use std::ffi::{OsStr, OsString};
-use std::fs::{self, File, OpenOptions};
-use std::io::{self, Write};
+use crate::stop::{reason, Status, Stop};
+use crate::temporary::{self, Move, Temporary};
+use crate::words::Words;
+use crate::{streams, system};
+use std::ffi::OsStr;
+use std::fs::{self, File, Metadata, OpenOptions};
+use std::io::{self, ErrorKind, Write};
+use std::os::unix::fs::MetadataExt;
 use std::path::{Path, PathBuf};
-use std::process;
 
-/// Writes all of an output: to standard output as `-`, or to a file.
-pub fn write(file: &OsStr, bytes: &[u8]) -> Result<Status, Stop> {
-    if file == "-" {
-        let mut out = Out::open()?;
-        out.put(bytes)?;
-        return out.end();
+/// An output that may be written, as far as can be told before.
+pub struct Output {
+    name: PathBuf,
+    place: Place,
+    force: bool,
+}
+
+enum Place {
+    Open(File),
+    DeviceOrPipe,
+    /// Behind all links, so that a link stays one.
+    File(PathBuf),
+}
+
+impl Output {
+    /// What `-o` names. It is asked before the inputs are read, so that nobody waits for a refusal.
+    pub fn of<I: AsRef<OsStr>>(words: &Words, inputs: &[I]) -> Result<Output, Stop> {
+        let (name, force) = (words.needed("-o")?, words.has("--force"));
+        let (name, place) = match name == "-" {
+            true => (Path::new(streams::OUTPUT), streams::output().map(Place::Open)),
+            false => (Path::new(name), place(Path::new(name))),
+        };
+        let place = place.map_err(|error| trouble(name, error))?;
+        match &place {
+            Place::Open(file) if !force => refuse_input(name, file, inputs)?,
+            Place::File(_) if !force => refuse_old(name, inputs)?,
+            _ => {}
+        }
+        Ok(Output { name: name.into(), place, force })
     }
-    let path = behind_links(Path::new(file));
-    put(&path, bytes).map_err(|error| Stop::trouble(told(file), error))?;
+
+    pub fn write(self, bytes: &[u8]) -> Result<Status, Stop> {
+        let written = match self.place {
+            Place::Open(mut file) => file.write_all(bytes),
+            Place::DeviceOrPipe => write_through(&self.name, bytes),
+            Place::File(path) => put(&[(path, bytes)], self.force).map_err(|(_, error)| error),
+        };
+        written.map_err(|error| trouble(&self.name, error))?;
+        Ok(Status::Done)
+    }
+}
+
+/// Writes files, all of them or none: each is whole beside its place before the first goes there.
+pub fn write_files(files: &[(PathBuf, &[u8])], force: bool) -> Result<Status, Stop> {
+    put(files, force).map_err(|(at, error)| trouble(&files[at].0, error))?;
     Ok(Status::Done)
 }
 
-/// Writes new files, all of them or none: each is written beside its place before the first goes there.
-pub fn write_new(files: &[(PathBuf, &[u8])]) -> Result<Status, Stop> {
-    let mut made = Vec::new();
-    let written = put_new(files, &mut made);
-    if written.is_err() {
-        made.iter().for_each(|path| drop(fs::remove_file(path)));
+/// Why an output can't be written.
+pub fn trouble(name: &Path, error: io::Error) -> Stop {
+    let is_there = "is there already; choose another name, or write over it with --force";
+    match error.kind() {
+        ErrorKind::AlreadyExists => {
+            Stop::trouble(told(name.as_os_str()), io::Error::other(is_there))
+        }
+        _ => Stop::trouble(told(name.as_os_str()), error),
     }
-    written
 }
 
-/// `made` is what there is so far of each file, beside its place or in it.
-fn put_new(files: &[(PathBuf, &[u8])], made: &mut Vec<PathBuf>) -> Result<Status, Stop> {
-    for (path, bytes) in files {
-        let beside = beside(path).map_err(|error| trouble(path, error))?;
-        let mut file = File::create_new(&beside).map_err(|error| trouble(path, error))?;
-        made.push(beside);
-        file.write_all(bytes)
-            .and_then(|()| file.sync_all())
-            .map_err(|error| trouble(path, error))?;
+/// Nothing is written over by surprise: no file, no link, be it one to nowhere, and not the input.
+pub fn refuse_old<I: AsRef<OsStr>>(name: &Path, inputs: &[I]) -> Result<(), Stop> {
+    if fs::symlink_metadata(name).is_err() {
+        return Ok(());
     }
-    for ((path, _), made) in files.iter().zip(made) {
-        put_there(made, path).map_err(|error| trouble(path, error))?;
-        made.clone_from(path);
+    match fs::metadata(name).is_ok_and(|there| is_input(&there, inputs)) {
+        true => Err(trouble(name, io::Error::other(OWN_INPUT))),
+        false => Err(trouble(name, ErrorKind::AlreadyExists.into())),
     }
-    Ok(Status::Done)
 }
 
-fn trouble(path: &Path, error: io::Error) -> Stop {
-    Stop::trouble(told(path.as_os_str()), error)
+/// Nor does a file that is read grow by what is written of it.
+fn refuse_input<I: AsRef<OsStr>>(name: &Path, open: &File, inputs: &[I]) -> Result<(), Stop> {
+    match open.metadata().is_ok_and(|there| there.is_file() && is_input(&there, inputs)) {
+        true => Err(trouble(name, io::Error::other(OWN_INPUT))),
+        false => Ok(()),
+    }
 }
 
-/// Moves a file to a place where none is. A link is refused where one is, whoever made it and when; a file
-/// system without links is asked right before the renaming.
-fn put_there(made: &Path, path: &Path) -> io::Result<()> {
-    match fs::hard_link(made, path) {
-        Ok(()) => {
-            drop(fs::remove_file(made));
+const OWN_INPUT: &str = "is the input itself; choose another name, or write over it with --force";
+
+/// Whether a file is one of the inputs under any name, of which `-` is standard input.
+fn is_input<I: AsRef<OsStr>>(there: &Metadata, inputs: &[I]) -> bool {
+    let is_it = |input: Metadata| (input.dev(), input.ino()) == (there.dev(), there.ino());
+    let of = |input: &OsStr| match input == "-" {
+        true => streams::input().and_then(|file| file.metadata()),
+        false => fs::metadata(input),
+    };
+    inputs.iter().any(|input| of(input.as_ref()).is_ok_and(is_it))
+}
+
+/// As many links behind each other as the system follows, and what it says of more.
+const MOST_LINKS: usize = 40;
+const TOO_MANY_LINKS: i32 = 40;
+
+fn place(name: &Path) -> io::Result<Place> {
+    let mut path = name.to_path_buf();
+    for _ in 0..=MOST_LINKS {
+        if let Some(file) = streams::open_as(&path) {
+            return file.map(Place::Open);
+        }
+        match fs::read_link(&path) {
+            Ok(behind) => path.set_file_name(behind),
+            Err(_) => return place_at(name, path),
+        }
+    }
+    Err(io::Error::from_raw_os_error(TOO_MANY_LINKS))
+}
+
+/// A file renamed onto a device or a pipe would take its place.
+fn place_at(name: &Path, behind_links: PathBuf) -> io::Result<Place> {
+    match fs::metadata(name) {
+        Ok(there) if there.is_dir() => Err(io::Error::other("is a directory")),
+        Ok(there) if !there.is_file() => Ok(Place::DeviceOrPipe),
+        _ => Ok(Place::File(behind_links)),
+    }
+}
+
+fn write_through(name: &Path, bytes: &[u8]) -> io::Result<()> {
+    OpenOptions::new().write(true).open(name)?.write_all(bytes)
+}
+
+/// Of the first file that can't be written, its number and why.
+fn put(files: &[(PathBuf, &[u8])], force: bool) -> Result<(), (usize, io::Error)> {
+    let mut moves = Vec::new();
+    for (at, (place, bytes)) in files.iter().enumerate() {
+        let file = beside(place, bytes, force).map_err(|error| (at, error))?;
+        moves.push(Move { file, place });
+    }
+    temporary::put_files(&moves, force)?;
+    files.first().map_or(Ok(()), |(place, _)| sync_folder_of(place)).map_err(|error| (0, error))
+}
+
+/// A whole file beside its place. One that replaces another is open to its writer alone until it has the
+/// owner and the mode of the other.
+fn beside(place: &Path, bytes: &[u8], force: bool) -> io::Result<Temporary> {
+    let old = if force { Old::at(place).ok() } else { None };
+    let mode = if old.is_some() { 0o600 } else { 0o666 };
+    let (temporary, mut file) = Temporary::file(place, mode)?;
+    old.as_ref().map_or(Ok(()), |old| old.begin(&file))?;
+    file.write_all(bytes)?;
+    old.as_ref().map_or(Ok(()), |old| old.end(&file))?;
+    file.sync_all()?;
+    Ok(temporary)
+}
+
+/// Has the names in a folder on the disk. A file system that can't sync a folder does what it can by itself.
+pub fn sync(folder: &File) -> io::Result<()> {
+    match folder.sync_all() {
+        Err(error) if error.raw_os_error() == Some(system::INVALID) => Ok(()),
+        other => other,
+    }
+}
+
+/// Behind this, a new name outlasts a crash. A folder that may not be read is synced with all else.
+pub fn sync_folder_of(place: &Path) -> io::Result<()> {
+    let folder = place.parent().filter(|folder| *folder != Path::new(""));
+    match File::open(folder.unwrap_or(Path::new("."))).and_then(|folder| sync(&folder)) {
+        Err(error) if error.kind() == ErrorKind::PermissionDenied => {
+            system::sync_all_disks();
             Ok(())
         }
-        Err(error) if error.kind() == io::ErrorKind::AlreadyExists => Err(is_there()),
-        Err(_) if fs::symlink_metadata(path).is_ok() => Err(is_there()),
-        Err(_) => fs::rename(made, path),
-    }
-}
-
-/// Nothing is written over it.
-pub fn is_there() -> io::Error {
-    io::Error::other("is there already; remove it, or choose another name with -o")
-}
-
-/// A link is followed, so that it stays one.
-fn behind_links(path: &Path) -> PathBuf {
-    fs::canonicalize(path).unwrap_or_else(|_| path.to_path_buf())
-}
-
-/// A device or a pipe is written to as it is: a file renamed onto it would take its place.
-fn put(path: &Path, bytes: &[u8]) -> io::Result<()> {
-    match fs::metadata(path) {
-        Ok(there) if there.is_dir() => Err(io::Error::other("is a directory")),
-        Ok(there) if !there.is_file() => {
-            OpenOptions::new().write(true).open(path)?.write_all(bytes)
+        Err(error) => {
+            let what = "is written, but its folder can't be synced, and a crash may lose it";
+            Err(io::Error::other(format!("{what}: {}", reason(&error))))
         }
-        Ok(there) => put_beside(path, bytes, Some(there.permissions())),
-        Err(_) => put_beside(path, bytes, None),
+        Ok(()) => Ok(()),
     }
-}
-
-/// Writes beside the path, then renames; what was begun in vain is removed.
-fn put_beside(path: &Path, bytes: &[u8], rights: Option<fs::Permissions>) -> io::Result<()> {
-    let beside = beside(path)?;
-    let written = fill(&beside, bytes, rights).and_then(|()| fs::rename(&beside, path));
-    if written.is_err() {
-        let _ = fs::remove_file(&beside);
-    }
-    written
-}
-
-fn fill(path: &Path, bytes: &[u8], rights: Option<fs::Permissions>) -> io::Result<()> {
-    let mut file = File::create_new(path)?;
-    file.write_all(bytes)?;
-    rights.map_or(Ok(()), |rights| file.set_permissions(rights))?;
-    file.sync_all()
-}
-
-/// A name in the same folder that nobody else has.
-pub fn beside(path: &Path) -> io::Result<PathBuf> {
-    let name = path.file_name().ok_or_else(|| io::Error::other("is no name for an output"))?;
-    let mut hidden = OsString::from(".");
-    hidden.push(name);
-    hidden.push(format!(".{}.part", process::id()));
-    Ok(path.with_file_name(hidden))
 }

@@ -1,9 +1,10 @@
 //! `pack SHEET -o OUT`: the image of an order sheet.
 
+use crate::output::Output;
 use crate::sheet::{Order, Source};
 use crate::stop::{Status, Stop};
 use crate::words::Words;
-use crate::{input, output, streams};
+use crate::{input, streams};
 use std::ffi::OsStr;
 use std::fs::File;
 use std::io::{self, BufReader};
@@ -14,7 +15,7 @@ pub const LONGEST_IMAGE: usize = 16_777_215;
 
 pub fn run(words: &Words) -> Result<Status, Stop> {
     let [sheet] = words.exactly(["sheet"])?;
-    let out = words.needed("-o")?;
+    let out = Output::of(words, &[sheet])?;
     let name = input::name(sheet);
     let text = open(sheet).map_err(|error| Stop::trouble(&name, error))?;
     let source = Source::new(folder(sheet), words.has("--anywhere"));
@@ -22,7 +23,7 @@ pub fn run(words: &Words) -> Result<Status, Stop> {
     let mut image = vec![0; LONGEST_IMAGE];
     let length = tardorelga::write(&order.sheet(), &mut image);
     let length = length.map_err(|verdict| order.blamed(verdict).stop(&name))?;
-    output::write(out, &image[..length])
+    out.write(&image[..length])
 }
 
 fn open(sheet: &OsStr) -> io::Result<BufReader<File>> {

@@ -74,7 +74,7 @@ fn missing(set: &Set, file: u64, verdict: Verdict) -> Stop {
         return set.refused(verdict);
     }
     let there = match tardorelga::file(&set.image, file) {
-        Ok(found) => format!("file {file} has {}", many(found.records, "record")),
+        Ok(found) => format!("file {file} has {}", many(found.records().len() as u64, "record")),
         Err(_) => format!("the set has {}", many(list::file_count(&set.image), "file")),
     };
     set.refused_for(verdict, &format!("{there}, counted from 1"))

@@ -2,7 +2,7 @@
 
 use crate::input::Set;
 use crate::needed::{self, RAISE, TOO_FEW, TOO_LONG};
-use crate::output;
+use crate::output::Output;
 use crate::pack::LONGEST_IMAGE;
 use crate::stop::{Status, Stop};
 use crate::words::{names, quota, Words};
@@ -15,13 +15,13 @@ pub fn run(words: &Words) -> Result<Status, Stop> {
     let (files, []) = words.set_and([])?;
     let quota = quota(words.needed("--quota")?)?;
     let names = names(words.needed("--reels")?)?;
-    let out = words.needed("-o")?;
+    let out = Output::of(words, files)?;
     let set = Set::read(words, files)?;
     let mut normal = vec![0; LONGEST_IMAGE];
     let length = tardorelga::rewrite(&set.image, quota, &names, &mut normal);
     let length = length.map_err(|verdict| refused(&set, quota, names.len() / NAME, verdict))?;
     drop(set);
-    output::write(out, &normal[..length])
+    out.write(&normal[..length])
 }
 
 /// A refusal, with what the operator can do where another quota or more names help.

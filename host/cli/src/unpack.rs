@@ -1,11 +1,12 @@
 //! `unpack FILE DIR`: the records of a set as files, and the order sheet that packs them again.
 
+use crate::folder::Folder;
 use crate::input::Set;
 use crate::names::told;
 use crate::records::Form;
+use crate::sheet;
 use crate::stop::{Status, Stop};
 use crate::words::{names, quota, Words};
-use crate::{output, sheet};
 use std::fs::{self, File};
 use std::io::{self, BufWriter, ErrorKind, Write};
 use std::path::{Path, PathBuf};
@@ -21,6 +22,8 @@ pub fn run(words: &Words) -> Result<Status, Stop> {
     let form = Form::of(words)?;
     let quota = words.value("--quota")?.map(quota).transpose()?;
     let names = words.value("--reels")?.map(names).transpose()?;
+    let trouble = |error| Stop::trouble(told(folder), error);
+    let place = Folder::at(Path::new(folder)).map_err(trouble)?;
     let set = Set::read(words, files)?;
     let verdict = tardorelga::check(&set.image);
     if !verdict.is_accepted() {
@@ -28,9 +31,10 @@ pub fn run(words: &Words) -> Result<Status, Stop> {
     }
     let names = names.unwrap_or_else(|| reel_names(&set.image));
     let head = Head { quota: quota.unwrap_or(QUOTA), names };
-    put(&set.image, &head, form, Path::new(folder)).map_err(|error| match error.kind() {
+    let written = place.put(|folder| fill(&set.image, &head, form, folder));
+    written.map_err(|error| match error.kind() {
         UNFIT => set.trouble(error),
-        _ => Stop::trouble(told(folder), error),
+        _ => trouble(error),
     })?;
     Ok(Status::Done)
 }
@@ -58,20 +62,6 @@ fn reel_names(image: &[u8]) -> Vec<u8> {
         at += if label_due { 0 } else { length };
     }
     names
-}
-
-/// The folder appears whole or not at all; an empty one may be there already.
-fn put(image: &[u8], head: &Head, form: Form, folder: &Path) -> io::Result<()> {
-    if fs::read_dir(folder).is_ok_and(|mut there| there.next().is_some()) {
-        return Err(io::Error::other("is there already, and not empty"));
-    }
-    let beside = output::beside(folder)?;
-    fs::create_dir(&beside)?;
-    let written = fill(image, head, form, &beside).and_then(|()| fs::rename(&beside, folder));
-    if written.is_err() {
-        let _ = fs::remove_dir_all(&beside);
-    }
-    written
 }
 
 /// The records of each file, and the sheet.

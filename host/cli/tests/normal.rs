@@ -78,7 +78,7 @@ fn rewriting_is_refused_with_its_number() {
 
 #[test]
 fn rewriting_wants_its_words() {
-    let usage = "usage: tardorelga rewrite (FILE | --simh REEL..) --quota Q --reels A,B,.. -o OUT";
+    let usage = "usage: tardorelga rewrite [--force] (FILE | --simh REEL..) --quota Q --reels A,B,.. -o OUT";
     run(&["rewrite", "x"]).told(2, &format!("--quota is missing\n{usage}"));
     run(&["rewrite", "x", "--quota", "1"]).told(2, &format!("--reels is missing\n{usage}"));
 }

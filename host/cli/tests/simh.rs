@@ -108,7 +108,7 @@ fn standard_input_may_be_one_of_the_reels() {
     );
     let alone = fed(&["check", "--simh", "-"], &sample("messages-1.tap"));
     assert_eq!((alone.text(), alone.status), ("-: refused 3 at item 11 byte 0\n", Some(1)));
-    let usage = "usage: tardorelga import REEL.. -o OUT";
+    let usage = "usage: tardorelga import [--force] REEL.. -o OUT";
     let twice = format!("standard input is one reel, and - is named twice\n{usage}");
     import(&["-", first, "-"]).told(2, &twice);
     let closed = "standard input: Bad file descriptor";
@@ -287,13 +287,20 @@ fn a_reel_that_cannot_be_read_is_trouble() {
 #[test]
 fn nothing_is_exported_beside_a_reel_that_is_there() {
     let d = folder("simh-there");
-    for number in [1, 3, 16] {
+    let own = "is there already; choose another name, or write over it with --force";
+    let other =
+        "is there already, and would be taken for a reel of this set; remove it, or choose \
+                 another name with -o";
+    // The set of messages has three reels, the ledger one.
+    for (number, of_messages, of_ledger) in [(1, own, own), (3, own, other), (16, other, other)] {
         let there = d.join(format!("a-{number}.tap"));
         fs::write(&there, "old").unwrap();
-        let why = "is there already; remove it, or choose another name with -o";
-        let why = format!("{}: {why}", there.display());
-        shell("$T export samples/messages.tgi -o $D/a", &d).told(2, &why);
-        shell("$T export samples/ledger.tgi -o $D/a", &d).told(2, &why);
+        let why = |why: &str| format!("{}: {why}", there.display());
+        shell("$T export samples/messages.tgi -o $D/a", &d).told(2, &why(of_messages));
+        shell("$T export samples/ledger.tgi -o $D/a", &d).told(2, &why(of_ledger));
+        if number == 16 {
+            shell("$T export --force samples/messages.tgi -o $D/a", &d).told(2, &why(other));
+        }
         assert_eq!(names_in(&d), [format!("a-{number}.tap")]);
         assert_eq!(fs::read(&there).unwrap(), b"old");
         fs::remove_file(&there).unwrap();
@@ -343,7 +350,7 @@ fn all_reels_are_exported_or_none() {
 
 #[test]
 fn export_wants_a_name_that_the_reels_can_have() {
-    let usage = "usage: tardorelga export FILE -o NAME";
+    let usage = "usage: tardorelga export [--force] FILE -o NAME";
     for name in ["", "samples/", "/"] {
         let why = format!("-o is how the names of the reels begin, not {name:?}\n{usage}");
         run(&["export", "samples/ledger.tgi", "-o", name]).told(2, &why);
@@ -355,7 +362,8 @@ fn export_wants_a_name_that_the_reels_can_have() {
 
 #[test]
 fn a_set_on_reels_wants_one_reel() {
-    run(&["import", "-o", "-"]).told(2, "no reel is named\nusage: tardorelga import REEL.. -o OUT");
+    run(&["import", "-o", "-"])
+        .told(2, "no reel is named\nusage: tardorelga import [--force] REEL.. -o OUT");
     let usage = "usage: tardorelga check [--json] (FILE.. | --simh REEL..)";
     run(&["check", "--simh"]).told(2, &format!("no reel is named\n{usage}"));
     let usage = "usage: tardorelga list (FILE | --simh REEL..)";

@@ -69,8 +69,15 @@ fn a_full_disk_is_trouble() {
     shell("$T pack samples/ledger.sheet -o - > /dev/full", &d).told(2, full);
     let out = "/dev/full: No space left on device";
     shell("$T pack samples/ledger.sheet -o /dev/full", &d).told(2, out);
-    let size = "ulimit -f 0; trap '' XFSZ; $T pack samples/ledger.sheet -o $D/out";
-    shell(size, &d).told(2, &format!("{}/out: File too large", d.display()));
+    let large = |name: &str| format!("{}/{name}: File too large", d.display());
+    for limit in ["ulimit -f 0; trap '' XFSZ", "ulimit -f 0"] {
+        let run = |words: &str| shell(&format!("{limit}; $T {words}"), &d);
+        run("pack samples/ledger.sheet -o $D/out").told(2, &large("out"));
+        run("pack --force samples/ledger.sheet -o $D/out").told(2, &large("out"));
+        run("import samples/messages-1.tap -o $D/out").told(2, &large("out"));
+        run("export samples/ledger.tgi -o $D/out").told(2, &large("out-1.tap"));
+        run("unpack samples/ledger.tgi $D/out").told(2, &large("out"));
+    }
     assert_eq!(common::names_in(&d), [""; 0], "nothing is left behind");
 }
 
@@ -103,7 +110,7 @@ fn wrong_words_are_told_with_the_usage() {
     run(&["record", "x", "1", "1", "1"]).told(2, &format!("one word too many: \"1\"\n{usage}"));
     let both = format!("--hex and --lines exclude each other\n{usage}");
     run(&["record", "x", "1", "1", "--hex", "--lines"]).told(2, &both);
-    let usage = "usage: tardorelga pack [--anywhere] SHEET -o OUT";
+    let usage = "usage: tardorelga pack [--force] [--anywhere] SHEET -o OUT";
     run(&["pack", "x"]).told(2, &format!("-o is missing\n{usage}"));
     run(&["pack", "x", "-o"]).told(2, &format!("-o wants a value\n{usage}"));
     run(&["pack", "x", "-o", "a", "-o", "b"]).told(2, &format!("-o is given twice\n{usage}"));

@@ -2,8 +2,9 @@
 
 mod common;
 
-use common::{fed, folder, names_in, root, run, shell};
+use common::{at_once, fed, folder, give_away, names_in, owner_of, root, run, shell};
 use std::fs;
+use std::os::unix::fs::{symlink, MetadataExt, PermissionsExt};
 use std::path::Path;
 
 const ACCEPTED: [&str; 3] = ["ledger", "messages", "options"];
@@ -102,11 +103,85 @@ fn a_folder_appears_whole_or_not_at_all() {
     assert_eq!(names_in(&d), [""; 0]);
     fs::create_dir(d.join("out")).unwrap();
     shell("$T unpack samples/ledger.tgi $D/out/", &d).done();
-    let there = format!("{}/out: is there already, and not empty", d.display());
+    let there =
+        format!("{}/out: is there already, and not empty; choose another name", d.display());
     shell("$T unpack samples/ledger.tgi $D/out", &d).told(2, &there);
     assert_eq!(names_in(&d), ["out"]);
     fs::write(d.join("file"), "old").unwrap();
-    assert_eq!(shell("$T unpack samples/ledger.tgi $D/file", &d).status, Some(2));
+    let file =
+        format!("{}/file: is there already, and no folder; choose another name", d.display());
+    shell("$T unpack samples/ledger.tgi $D/file", &d).told(2, &file);
     assert_eq!(fs::read(d.join("file")).unwrap(), b"old");
     assert_eq!(names_in(&d), ["file", "out"]);
+}
+
+#[test]
+fn an_empty_folder_keeps_its_mode_and_owner() {
+    let d = folder("kept-folder");
+    for mode in [0o700, 0o750, 0o2770, 0o1777] {
+        let out = d.join(format!("{mode:o}"));
+        fs::create_dir(&out).unwrap();
+        let owner = give_away(&out);
+        fs::set_permissions(&out, fs::Permissions::from_mode(mode)).unwrap();
+        run(&["unpack".as_ref(), "samples/ledger.tgi".as_ref(), out.as_os_str()]).done();
+        assert_eq!(fs::metadata(&out).unwrap().mode() & 0o7777, mode);
+        assert_eq!(owner_of(&out), owner);
+        assert_eq!(names_in(&out), ["0001.records", "sheet"]);
+        let group = owner_of(&out.join("sheet")).1;
+        assert!(mode & 0o2000 == 0 || group == owner.1, "a folder that hands its group on");
+    }
+}
+
+#[test]
+fn a_new_folder_has_the_usual_mode() {
+    let d = folder("usual-folder");
+    for (mask, mode) in [("077", 0o700), ("027", 0o750), ("022", 0o755), ("0", 0o777)] {
+        shell(&format!("umask {mask}; $T unpack samples/ledger.tgi $D/{mask}"), &d).done();
+        assert_eq!(fs::metadata(d.join(mask)).unwrap().mode() & 0o7777, mode);
+    }
+    fs::set_permissions(&d, fs::Permissions::from_mode(0o2755)).unwrap();
+    shell("umask 022; $T unpack samples/ledger.tgi $D/group", &d).done();
+    assert_eq!(fs::metadata(d.join("group")).unwrap().mode() & 0o7777, 0o2755);
+}
+
+#[test]
+fn a_link_to_an_empty_folder_stays_a_link() {
+    let d = folder("linked-folder");
+    fs::create_dir(d.join("empty")).unwrap();
+    symlink("empty", d.join("link")).unwrap();
+    shell("$T unpack samples/ledger.tgi $D/link", &d).done();
+    assert!(fs::symlink_metadata(d.join("link")).unwrap().is_symlink());
+    assert_eq!(names_in(&d.join("empty")), ["0001.records", "sheet"]);
+    symlink("nowhere", d.join("lost")).unwrap();
+    let lost = "is there already, a link to nowhere; choose another name";
+    let lost = format!("{}/lost: {lost}", d.display());
+    shell("$T unpack samples/ledger.tgi $D/lost", &d).told(2, &lost);
+    shell("cd $D && $T unpack $OLDPWD/samples/ledger.tgi .", &d)
+        .told(2, ".: is no name for a new folder");
+    assert_eq!(names_in(&d), ["empty", "link", "lost"]);
+}
+
+#[test]
+fn of_several_that_unpack_at_once_one_is_done() {
+    let d = folder("unpack-at-once");
+    let told = "is there already";
+    for round in 0..20 {
+        let out = d.join(round.to_string());
+        if round % 2 == 0 {
+            fs::create_dir(&out).unwrap();
+        }
+        let ran = at_once(4, &["unpack", "samples/messages.tgi", out.to_str().unwrap()]);
+        let (done, others): (Vec<_>, Vec<_>) = ran.iter().partition(|ran| ran.status == Some(0));
+        assert_eq!(done.len(), 1, "{ran:?}");
+        assert!(
+            others.iter().all(|ran| ran.status == Some(2) && ran.err.contains(told)),
+            "{ran:?}"
+        );
+        let packed = run(&["pack", out.join("sheet").to_str().unwrap(), "-o", "-"]).done().out;
+        assert_eq!(
+            contents(&packed),
+            contents(&fs::read(root().join(sample("messages"))).unwrap())
+        );
+    }
+    assert_eq!(names_in(&d).len(), 20);
 }

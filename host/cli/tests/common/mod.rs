@@ -4,6 +4,7 @@
 use std::ffi::{OsStr, OsString};
 use std::fs;
 use std::io::Write;
+use std::os::unix::fs::{chown, MetadataExt};
 use std::path::{Path, PathBuf};
 use std::process::{Command, Stdio};
 
@@ -71,6 +72,14 @@ pub fn shell(line: &str, folder: &Path) -> Ran {
     ran(command, b"")
 }
 
+/// Runs the program so many times at once.
+pub fn at_once(times: usize, words: &[&str]) -> Vec<Ran> {
+    std::thread::scope(|scope| {
+        let runs: Vec<_> = (0..times).map(|_| scope.spawn(|| run(words))).collect();
+        runs.into_iter().map(|run| run.join().expect("a run")).collect()
+    })
+}
+
 fn ran(mut command: Command, input: &[u8]) -> Ran {
     command.current_dir(root()).env("LC_ALL", "C");
     command.stdin(Stdio::piped()).stdout(Stdio::piped()).stderr(Stdio::piped());
@@ -109,4 +118,16 @@ pub fn import<R: AsRef<OsStr>>(reels: &[R]) -> Ran {
     let mut words: Vec<OsString> = vec!["import".into(), "-o".into(), "-".into()];
     words.extend(reels.iter().map(|reel| reel.as_ref().into()));
     run(&words)
+}
+
+/// User and group of a file or folder.
+pub fn owner_of(path: &Path) -> (u32, u32) {
+    let there = fs::metadata(path).expect("a file");
+    (there.uid(), there.gid())
+}
+
+/// Gives a file or folder another owner, where that may be done, and tells whose it is now.
+pub fn give_away(path: &Path) -> (u32, u32) {
+    let _ = chown(path, Some(1234), Some(5678));
+    owner_of(path)
 }
