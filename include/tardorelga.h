@@ -323,30 +323,12 @@ typedef struct tardorelga_item {
 tardorelga_item tardorelga_item_at(const uint8_t *image, size_t image_len, uint64_t at,
                                    uint32_t group);
 
-/* Rules of label fields: what a field may hold. */
-#define TARDORELGA_RULE_FREE 0
-#define TARDORELGA_RULE_A_CHARACTERS 1
-#define TARDORELGA_RULE_SPACES 2
-#define TARDORELGA_RULE_DIGITS 3
-#define TARDORELGA_RULE_ZEROS 4
-#define TARDORELGA_RULE_AT_LEAST_ONE 5    /* digits, not all of them ZERO */
-#define TARDORELGA_RULE_DATE 6            /* SPACE or 0, year and day, or five ZEROs */
-#define TARDORELGA_RULE_LABEL_STANDARD 7  /* the label standard version */
-#define TARDORELGA_RULE_FORMAT 8          /* F, D or S */
-#define TARDORELGA_RULE_RECORD_LENGTH 9   /* digits that suit format, block length and offset */
-
-/* A field of a label: its first byte position, from 1, how many bytes it has, and its rule. */
-typedef struct tardorelga_field {
-    uint32_t first;
-    uint32_t len;
-    uint32_t rule;
-} tardorelga_field;
-
 /*
  * The field of a label of this kind and number, as tardorelga_item_at gives them, in which byte position
- * byte, from 1, stands. All is 0 where there is none. The numbers may be anything.
+ * byte, from 1, stands: the position of its first byte. 0 where there is none: behind position 80, and in an
+ * item of which no field is known. The numbers may be anything.
  */
-tardorelga_field tardorelga_field_at(uint32_t kind, uint32_t number, uint32_t byte);
+uint32_t tardorelga_field_at(uint32_t kind, uint32_t number, uint32_t byte);
 
 #ifdef __cplusplus
 }

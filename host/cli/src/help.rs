@@ -7,6 +7,7 @@ whose answers are proved. The commands:
 
     check FILE..           says of each image whether it is accepted, or why and where it is not
     list FILE              prints the files of a set
+    show FILE [ITEM]       prints the items of a set, labels with their fields, and marks what is wrong
     record FILE N R        prints record R of file N
     records FILE N         prints all records of file N
     unpack FILE DIR        takes a set apart into files of records and an order sheet
@@ -21,24 +22,42 @@ A file named - is standard input or output.
 Exit status: 0 done, 1 the set or the sheet was refused, 2 it was called wrongly or the system failed.
 ";
 
-pub const CHECK: &str = "usage: tardorelga check [--json] (FILE.. | --simh REEL..)
+pub const CHECK: &str =
+    "usage: tardorelga check [-r] [--json | --quiet] (FILE.. | --simh REEL..)
 
 Checks the image of a tape set in each FILE, and prints a line a file:
     FILE: accepted, FILES files, RECORDS records, BYTES bytes
-    FILE: refused NUMBER at item ITEM byte BYTE
+    FILE: refused NUMBER at item ITEM byte BYTE: what the number says, and the field it is about
 Items are counted from 0 over the whole image, bytes of a label from 1. The exit status is 0 where all are
 accepted, 1 where one is refused, 2 where one can't be read.
 
+    -r        a FILE may be a folder: checks all files below it whose names end in .tgi, and prints totals
     --json    prints a JSON object a line instead
+    --quiet   prints no line: the exit status tells
     --simh    checks one set, whose reels are the files REEL.. in SIMH's form, in this order
 ";
 
-pub const LIST: &str = "usage: tardorelga list (FILE | --simh REEL..)
+pub const LIST: &str = "usage: tardorelga list [--json] (FILE | --simh REEL..)
 
 Prints a line for each file of the set in FILE: its number, identifier and format, how many records and how
 many record bytes it has. Of a refused set it prints only the line that says so.
 
+    --json    prints a JSON object instead, with set, reels, and all fields of each file
     --simh    the set's reels are the files REEL.. in SIMH's form, in this order
+";
+
+pub const SHOW: &str =
+    "usage: tardorelga show [--all] [--json] (FILE [ITEM] | --simh REEL..) [--item ITEM]
+
+Prints the items of the image in FILE, a line each: number, kind and length; of a label the fields too, with
+their positions and names. Many data blocks in a row share a line. Where the set is refused, arrows mark the
+wrong item and field, and what is behind is left out. A byte that is not printable is \\xNN. With ITEM it prints
+this one, a block as a dump in hexadecimal and text. Exit status: 0 the set is accepted, 1 it is refused.
+
+    --all        gives each data block a line, and shows what is behind a wrong item too
+    --item ITEM  prints this item alone, counted from 0
+    --json       prints a JSON object instead
+    --simh       the set's reels are the files REEL.. in SIMH's form, in this order
 ";
 
 pub const RECORD: &str = "usage: tardorelga record [--hex | --lines] (FILE | --simh REEL..) N R

@@ -1,5 +1,6 @@
 //! Sets as they are read: an image from a file, or reels in SIMH's form; `-` is standard input.
 
+use crate::fault::Fault;
 use crate::stop::{refusal, Stop};
 use crate::words::Words;
 use crate::{names, reels, streams};
@@ -35,8 +36,12 @@ impl Set {
         })
     }
 
+    pub fn name(&self) -> &str {
+        &self.name
+    }
+
     pub fn refused(&self, verdict: Verdict) -> Stop {
-        Stop::refused(&self.name, verdict)
+        Stop::Refused(verdict, format!("{}: {}", self.name, Fault::of(&self.image, verdict)))
     }
 
     pub fn trouble(&self, error: io::Error) -> Stop {

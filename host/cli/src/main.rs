@@ -9,10 +9,13 @@
 
 mod check;
 mod export;
+mod fault;
 mod folder;
+mod folders;
 mod help;
 mod import;
 mod input;
+mod json;
 mod kept;
 mod list;
 mod names;
@@ -23,10 +26,12 @@ mod records;
 mod reels;
 mod rewrite;
 mod sheet;
+mod show;
 mod stop;
 mod streams;
 mod system;
 mod temporary;
+mod text;
 mod unpack;
 mod words;
 
@@ -44,15 +49,28 @@ struct Command {
     run: fn(&Words) -> Result<Status, Stop>,
 }
 
-const COMMANDS: [Command; 9] = [
+const COMMANDS: [Command; 10] = [
     Command {
         name: "check",
         help: help::CHECK,
-        flags: &["--json", "--simh"],
+        flags: &["-r", "--json", "--quiet", "--simh"],
         options: &[],
         run: check::run,
     },
-    Command { name: "list", help: help::LIST, flags: &["--simh"], options: &[], run: list::run },
+    Command {
+        name: "list",
+        help: help::LIST,
+        flags: &["--json", "--simh"],
+        options: &[],
+        run: list::run,
+    },
+    Command {
+        name: "show",
+        help: help::SHOW,
+        flags: &["--all", "--json", "--simh"],
+        options: &["--item"],
+        run: show::run,
+    },
     Command {
         name: "record",
         help: help::RECORD,

@@ -1,10 +1,10 @@
 //! `record FILE N R` and `records FILE N`: the bytes of records.
 
-use crate::check::many;
 use crate::input::Set;
 use crate::list;
 use crate::stop::{Status, Stop};
 use crate::streams::Out;
+use crate::text::many;
 use crate::words::{number, Words};
 use tardorelga::Verdict;
 

@@ -2,7 +2,7 @@
 
 use crate::stop::{Status, Stop};
 use std::fs::{self, File, OpenOptions};
-use std::io::{self, BufWriter, Write};
+use std::io::{self, BufWriter, IsTerminal, Write};
 use std::os::fd::{AsFd, BorrowedFd, IntoRawFd, OwnedFd};
 use std::os::unix::fs::OpenOptionsExt;
 use std::path::Path;
@@ -64,6 +64,15 @@ impl Out {
 
     pub fn put(&mut self, bytes: &[u8]) -> Result<(), Stop> {
         self.0.write_all(bytes).map_err(|e| Stop::trouble(OUTPUT, e))
+    }
+
+    /// A line that a person at a terminal sees at once.
+    pub fn put_seen(&mut self, line: &[u8]) -> Result<(), Stop> {
+        self.put(line)?;
+        match self.0.get_ref().is_terminal() {
+            true => self.0.flush().map_err(|e| Stop::trouble(OUTPUT, e)),
+            false => Ok(()),
+        }
     }
 
     /// Nothing is done before the last byte is written.

@@ -10,6 +10,7 @@ use crate::words::{names, quota, Words};
 use std::fs::{self, File};
 use std::io::{self, BufWriter, ErrorKind, Write};
 use std::path::{Path, PathBuf};
+use tardorelga::Files;
 
 /// The most that a reel may hold, so that as few reels as can be are needed.
 const QUOTA: u64 = 999_999;
@@ -18,20 +19,17 @@ const QUOTA: u64 = 999_999;
 const UNFIT: ErrorKind = ErrorKind::InvalidData;
 
 pub fn run(words: &Words) -> Result<Status, Stop> {
-    let (files, [folder]) = words.set_and(["folder"])?;
+    let (inputs, [folder]) = words.set_and(["folder"])?;
     let form = Form::of(words)?;
     let quota = words.value("--quota")?.map(quota).transpose()?;
     let names = words.value("--reels")?.map(names).transpose()?;
     let trouble = |error| Stop::trouble(told(folder), error);
     let place = Folder::at(Path::new(folder)).map_err(trouble)?;
-    let set = Set::read(words, files)?;
-    let verdict = tardorelga::check(&set.image);
-    if !verdict.is_accepted() {
-        return Err(set.refused(verdict));
-    }
-    let names = names.unwrap_or_else(|| reel_names(&set.image));
-    let head = Head { quota: quota.unwrap_or(QUOTA), names };
-    let written = place.put(|folder| fill(&set.image, &head, form, folder));
+    let set = Set::read(words, inputs)?;
+    let files = tardorelga::files(&set.image).map_err(|verdict| set.refused(verdict))?;
+    let own = || tardorelga::reel_names(&set.image).flatten().copied().collect();
+    let head = Head { quota: quota.unwrap_or(QUOTA), names: names.unwrap_or_else(own) };
+    let written = place.put(|folder| fill(files, &head, form, folder));
     written.map_err(|error| match error.kind() {
         UNFIT => set.trouble(error),
         _ => trouble(error),
@@ -45,29 +43,10 @@ struct Head {
     names: Vec<u8>,
 }
 
-/// The names of the reels of an accepted image: its first block, and the block behind each end of a
-/// reel, is a volume label.
-fn reel_names(image: &[u8]) -> Vec<u8> {
-    const HEAD: usize = 5;
-    const END_OF_REEL: usize = 0xFF_FFFF;
-    let mut names = Vec::new();
-    let (mut at, mut label_due) = (HEAD, true);
-    while let Some(&[a, b, c]) = image.get(at..at + 3) {
-        let length = usize::from(a) << 16 | usize::from(b) << 8 | usize::from(c);
-        at += 3;
-        if label_due {
-            names.extend_from_slice(&image[at + 4..at + 10]);
-        }
-        label_due = length == END_OF_REEL;
-        at += if label_due { 0 } else { length };
-    }
-    names
-}
-
 /// The records of each file, and the sheet.
-fn fill(image: &[u8], head: &Head, form: Form, folder: &Path) -> io::Result<()> {
+fn fill(files: Files, head: &Head, form: Form, folder: &Path) -> io::Result<()> {
     let mut text = Vec::new();
-    for file in tardorelga::files(image).map_err(io::Error::other)? {
+    for file in files {
         if text.is_empty() {
             text = sheet::head_text(&file.set_entry(), head.quota, &head.names);
         }

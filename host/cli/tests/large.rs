@@ -104,7 +104,8 @@ fn a_longer_image_is_neither_written_nor_read() {
     let image = d.join("long.tgi");
     fs::write(&image, vec![0; LONGEST + 1]).unwrap();
     let ran = run(&["check", image.to_str().unwrap()]);
-    assert_eq!(ran.text(), format!("{}: refused 9 at item 0 byte 0\n", image.display()));
+    let over = "refused 9 at item 0 byte 0: over a limit: 16777215 bytes, 64 files, 16 reels\n";
+    assert_eq!(ran.text(), format!("{}: {over}", image.display()));
     let endless = shell(&format!("{MEMORY} $T check - < /dev/zero"), &d);
-    assert_eq!((endless.text(), endless.status), ("-: refused 9 at item 0 byte 0\n", Some(1)));
+    assert_eq!((endless.text(), endless.status), (&format!("-: {over}")[..], Some(1)));
 }

@@ -8,7 +8,7 @@ use std::fs;
 use std::os::unix::ffi::OsStringExt;
 
 const REWRITE: &str =
-    "usage: tardorelga rewrite (FILE | --simh REEL..) --quota Q --reels A,B,.. -o OUT";
+    "usage: tardorelga rewrite [--force] (FILE | --simh REEL..) --quota Q --reels A,B,.. -o OUT";
 const UNPACK: &str = "usage: tardorelga unpack [--hex | --lines] [--quota Q] [--reels A,B,..] \
                       (FILE | --simh REEL..) DIR";
 const CHARACTERS: &str =

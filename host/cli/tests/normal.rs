@@ -71,7 +71,7 @@ fn rewriting_is_refused_with_its_number() {
                --reels names 2, and 3 are needed with quota 1";
     shell(&words("1", "A,B"), &d).told(1, few);
     let own = "samples/refused-5.tgi: refused 5 at item 1 byte 54: \
-               access to the volume or file is restricted";
+               access to the volume or file is restricted: the accessibility of HDR1";
     shell("$T rewrite samples/refused-5.tgi --quota 1 --reels A -o $D/out", &d).told(1, own);
     assert_eq!(names_in(&d), [""; 0]);
 }

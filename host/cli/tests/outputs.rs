@@ -262,7 +262,7 @@ fn a_folder_that_is_not_there_is_trouble() {
     let folder = format!("{}: is a directory", d.display());
     shell("$T pack samples/ledger.sheet -o $D", &d).told(2, &folder);
     shell("$T pack --force samples/ledger.sheet -o $D", &d).told(2, &folder);
-    shell("$T pack samples/ledger.sheet -o ''", &d).told(2, ": is no name for an output");
+    shell("$T pack samples/ledger.sheet -o ''", &d).told(2, "\"\": is no name for an output");
 }
 
 /// A folder in which nobody can make a file, be it the owner of the system.

@@ -21,8 +21,10 @@ fn each_image_has_its_expected_answer_and_no_other_is_there() {
     for (name, answer) in expected {
         let file = format!("samples/{name}");
         let ran = run(&["check", &file]);
-        assert_eq!(ran.text(), format!("{file}: {answer}\n"));
-        assert_eq!(ran.status, Some(if answer.starts_with("accepted") { 0 } else { 1 }), "{name}");
+        let is_accepted = answer.starts_with("accepted");
+        let said = format!("{file}: {answer}{}", if is_accepted { "\n" } else { ": " });
+        assert!(ran.text().starts_with(&said) && ran.text().lines().count() == 1, "{}", ran.text());
+        assert_eq!(ran.status, Some(if is_accepted { 0 } else { 1 }), "{name}");
         assert_eq!(ran.err, "", "{name}");
     }
 }
@@ -41,7 +43,8 @@ fn several_files_give_a_line_each_and_the_worst_status() {
     assert_eq!(
         both.text(),
         "samples/ledger.tgi: accepted, 1 file, 1 record, 10 bytes\n\
-         samples/refused-6.tgi: refused 6 at item 6 byte 55\n"
+         samples/refused-6.tgi: refused 6 at item 6 byte 55: labels, counts or names do not agree \
+         with each other: the block count of EOF1\n"
     );
     assert_eq!(both.status, Some(1));
     let trouble = run(&["check", "samples/refused-6.tgi", "nowhere", "samples/ledger.tgi"]);
@@ -57,7 +60,8 @@ fn check_gives_json_a_line_a_file() {
     assert_eq!(
         ran.text(),
         "{\"file\":\"samples/messages.tgi\",\"accepted\":true,\"files\":2,\"records\":6,\"bytes\":69}\n\
-         {\"file\":\"samples/refused-4.tgi\",\"accepted\":false,\"number\":4,\"item\":1,\"byte\":42}\n\
+         {\"file\":\"samples/refused-4.tgi\",\"accepted\":false,\"number\":4,\"item\":1,\"byte\":42,\
+         \"words\":\"a label field has a wrong content\",\"label\":\"HDR1\",\"field\":\"creation date\"}\n\
          {\"file\":\"no\\\"where\",\"trouble\":\"No such file or directory\"}\n"
     );
     assert_eq!(ran.status, Some(2));
@@ -95,7 +99,7 @@ fn what_is_not_there_is_refused() {
         run(&["records", "samples/messages.tgi", number]).told(1, &files);
     }
     let own = "samples/refused-6.tgi: refused 6 at item 6 byte 55: \
-               labels, counts or names do not agree with each other";
+               labels, counts or names do not agree with each other: the block count of EOF1";
     run(&["records", "samples/refused-6.tgi", "9"]).told(1, own);
 }
 

@@ -107,7 +107,9 @@ fn standard_input_may_be_one_of_the_reels() {
         format!("{first} and 2 more: accepted, 2 files, 6 records, 69 bytes\n")
     );
     let alone = fed(&["check", "--simh", "-"], &sample("messages-1.tap"));
-    assert_eq!((alone.text(), alone.status), ("-: refused 3 at item 11 byte 0\n", Some(1)));
+    let early =
+        "-: refused 3 at item 11 byte 0: an item stands where the order of a reel forbids it\n";
+    assert_eq!((alone.text(), alone.status), (early, Some(1)));
     let usage = "usage: tardorelga import [--force] REEL.. -o OUT";
     let twice = format!("standard input is one reel, and - is named twice\n{usage}");
     import(&["-", first, "-"]).told(2, &twice);
@@ -149,12 +151,14 @@ fn a_set_on_reels_has_one_line() {
     );
     let [first, second, third] = MESSAGES;
     let ran = run(&["check", "--simh", first, third]);
-    assert_eq!(ran.text(), "samples/messages-1.tap and 1 more: refused 6 at item 12 byte 28\n");
+    let section =
+        "labels, counts or names do not agree with each other: the section number of HDR1";
+    let gap = "samples/messages-1.tap and 1 more: refused 6 at item 12 byte 28";
+    assert_eq!(ran.text(), format!("{gap}: {section}\n"));
     assert_eq!((ran.status, &ran.err[..]), (Some(1), ""));
     let words = ["records", "--simh", second, first, third, "1"];
-    let order = "samples/messages-2.tap and 2 more: refused 6 at item 1 byte 28: \
-                 labels, counts or names do not agree with each other";
-    run(&words).told(1, order);
+    let order = "samples/messages-2.tap and 2 more: refused 6 at item 1 byte 28";
+    run(&words).told(1, &format!("{order}: {section}"));
 }
 
 /// A reel of a record and a mark, with one thing wrong, and the number of the item that is wrong.
@@ -227,10 +231,12 @@ fn a_torn_reel_is_refused_by_each_command() {
     let list = run(&["list", "--simh", &one, &two]);
     assert_eq!((list.text(), &list.err, list.status), (line, &said, Some(1)));
     let check = run(&["check", "--simh", &one, &two]);
-    assert_eq!(check.text(), format!("{one} and 1 more: {line}"));
+    let words = format!("refused 15 at item 3 byte 0: {TORN}");
+    assert_eq!(check.text(), format!("{one} and 1 more: {words}\n"));
     assert_eq!((&check.err, check.status), (&said, Some(1)));
     let json = run(&["check", "--json", "--simh", &one, &two]);
-    let refused = "\"accepted\":false,\"number\":15,\"item\":3,\"byte\":0}\n";
+    let refused =
+        format!("\"accepted\":false,\"number\":15,\"item\":3,\"byte\":0,\"words\":\"{TORN}\"}}\n");
     assert_eq!(json.text(), format!("{{\"reels\":[\"{one}\",\"{two}\"],{refused}"));
     assert_eq!((&json.err, json.status), (&said, Some(1)));
 }
@@ -254,7 +260,7 @@ fn reels_that_make_too_long_an_image_are_refused() {
     let why = format!("{long}: refused 14: the image would be longer than 16777215 bytes");
     import(&[&long]).told(1, &why);
     let ran = run(&["check", "--simh", &long]);
-    assert_eq!(ran.text(), format!("{long}: refused 14 at item 0 byte 0\n"));
+    assert_eq!(ran.text(), format!("{why}\n"));
 }
 
 #[test]
@@ -364,9 +370,9 @@ fn export_wants_a_name_that_the_reels_can_have() {
 fn a_set_on_reels_wants_one_reel() {
     run(&["import", "-o", "-"])
         .told(2, "no reel is named\nusage: tardorelga import [--force] REEL.. -o OUT");
-    let usage = "usage: tardorelga check [--json] (FILE.. | --simh REEL..)";
+    let usage = "usage: tardorelga check [-r] [--json | --quiet] (FILE.. | --simh REEL..)";
     run(&["check", "--simh"]).told(2, &format!("no reel is named\n{usage}"));
-    let usage = "usage: tardorelga list (FILE | --simh REEL..)";
+    let usage = "usage: tardorelga list [--json] (FILE | --simh REEL..)";
     run(&["list", "--simh"]).told(2, &format!("no reel is named\n{usage}"));
     run(&["list", "a", "b"]).told(2, &format!("one word too many: \"b\"\n{usage}"));
     let usage = "usage: tardorelga record [--hex | --lines] (FILE | --simh REEL..) N R";

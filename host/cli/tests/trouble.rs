@@ -7,7 +7,7 @@ use std::fs;
 
 #[test]
 fn a_directory_is_no_image() {
-    run(&["check", "samples"]).told(2, "samples: Is a directory");
+    run(&["check", "samples"]).told(2, "samples: Is a directory; -r checks the images below it");
     run(&["records", "samples", "1"]).told(2, "samples: Is a directory");
     run(&["pack", "samples", "-o", "-"]).told(2, "samples: Is a directory");
 }
@@ -25,9 +25,9 @@ fn an_empty_file_is_refused() {
     fs::write(&file, b"").unwrap();
     let name = file.display();
     let ran = run(&["check", file.to_str().unwrap()]);
-    assert_eq!(ran.text(), format!("{name}: refused 1 at item 0 byte 0\n"));
-    assert_eq!((ran.status, &ran.err[..]), (Some(1), ""));
     let none = format!("{name}: refused 1 at item 0 byte 0: this is no image of a tape set");
+    assert_eq!(ran.text(), format!("{none}\n"));
+    assert_eq!((ran.status, &ran.err[..]), (Some(1), ""));
     run(&["records", file.to_str().unwrap(), "1"]).told(1, &none);
 }
 
@@ -101,7 +101,7 @@ fn wrong_words_are_told_with_the_usage() {
     let usage = "usage: tardorelga COMMAND ..";
     run::<&str>(&[]).told(2, &format!("no command\n{usage}"));
     run(&["mend"]).told(2, &format!("no command \"mend\"\n{usage}"));
-    let usage = "usage: tardorelga check [--json] (FILE.. | --simh REEL..)";
+    let usage = "usage: tardorelga check [-r] [--json | --quiet] (FILE.. | --simh REEL..)";
     run(&["check"]).told(2, &format!("no file is named\n{usage}"));
     run(&["check", "--all", "x"]).told(2, &format!("no option \"--all\" here\n{usage}"));
     let usage = "usage: tardorelga record [--hex | --lines] (FILE | --simh REEL..) N R";

@@ -67,14 +67,6 @@ pub struct Item {
     pub behind: u64,
 }
 
-#[repr(C)]
-#[derive(Clone, Copy, Debug, PartialEq, Eq)]
-pub struct Field {
-    pub first: u32,
-    pub len: u32,
-    pub rule: u32,
-}
-
 extern "C" {
     pub fn tardorelga_check(image: *const u8, image_len: usize) -> Verdict;
     pub fn tardorelga_record(
@@ -94,7 +86,7 @@ extern "C" {
         second: u64,
     ) -> Begun;
     pub fn tardorelga_item_at(image: *const u8, image_len: usize, at: u64, group: u32) -> Item;
-    pub fn tardorelga_field_at(kind: u32, number: u32, byte: u32) -> Field;
+    pub fn tardorelga_field_at(kind: u32, number: u32, byte: u32) -> u32;
     pub fn tardorelga_count(image: *const u8, image_len: usize, walk: Walk) -> Facts;
     pub fn tardorelga_step(
         image: *const u8,

@@ -53,9 +53,11 @@
 
 #[doc(hidden)]
 pub mod ffi;
+mod fields;
 mod file;
 mod files;
 mod format;
+mod items;
 mod listing;
 mod order;
 mod records;
@@ -64,9 +66,11 @@ mod sheet;
 mod simh;
 mod verdict;
 
+pub use fields::{field, fields, Field};
 pub use file::{file, File};
 pub use files::{files, Files};
 pub use format::Format;
+pub use items::{items, reel_names, Item, Items, Kind};
 pub use listing::listing;
 pub use order::{Order, OrderedFile};
 pub use records::{begin, place, record, records, Facts, Place, Records, Walk};

@@ -241,7 +241,7 @@ fn the_limits_are_those_of_the_library() {
     limits.iter().for_each(|(name, limit)| assert_eq!(constant(name), limit.to_string()));
 }
 
-/// Each number, kind, group and rule has one name, and the table above the numbers has the same names.
+/// Each number, kind and group has one name, and the table above the numbers has the same names.
 #[test]
 fn every_number_has_one_name() {
     let values = |front: &str| -> Vec<usize> {
@@ -250,7 +250,6 @@ fn every_number_has_one_name() {
     };
     assert!(values("KIND_").into_iter().eq(0..=12));
     assert!(values("GROUP_").into_iter().eq(0..=2));
-    assert!(values("RULE_").into_iter().eq(0..=9));
     let header = fs::read_to_string(root().join("include/tardorelga.h")).expect("the header");
     let rows: Vec<Vec<&str>> = header
         .lines()

@@ -1,6 +1,8 @@
 //! Runs the built program as a user does, from the root of the repository.
 #![allow(dead_code)]
 
+pub mod terminal;
+
 use std::ffi::{OsStr, OsString};
 use std::fs;
 use std::io::Write;
@@ -130,4 +132,13 @@ pub fn owner_of(path: &Path) -> (u32, u32) {
 pub fn give_away(path: &Path) -> (u32, u32) {
     let _ = chown(path, Some(1234), Some(5678));
     owner_of(path)
+}
+
+/// What Python finds in a JSON text, by an expression on its value `v`.
+pub fn in_json(text: &[u8], expression: &str) -> String {
+    let mut command = Command::new("python3");
+    let program =
+        format!("import json, sys\nv = json.load(sys.stdin)\nfound = {expression}\nprint(found)");
+    command.args(["-c", &program]);
+    ran(command, text).done().text().trim_end().to_string()
 }
