@@ -1,12 +1,13 @@
 //! `bench`: the times of the archive against the oracle's and a copy of the same bytes, as tables for
-//! docs/PERFORMANCE.md. `bench WHAT..` makes only the tables named: check, labels, linear, walk, write,
-//! rewrite, list, simh.
+//! docs/PERFORMANCE.md. `bench WHAT..` makes only the tables named: check, labels, linear, walk, files,
+//! write, rewrite, list, simh.
 
 use oracle::generate::{image_of, large, large_order, many_files, set_with_all_labels, Large, Rng};
 use oracle::tape::{Tape, END_OF_REEL, HEAD};
 use oracle::{Answer, Found, Records};
 use std::hint::black_box;
 use std::time::Instant;
+use tardorelga::{Format, Order};
 use trials::beside::Beside;
 use trials::{agreed, archive};
 
@@ -16,11 +17,12 @@ const SIZES: [usize; 3] = [1_000_000, 4_000_000, 16_000_000];
 
 type Table = (&'static str, fn());
 
-const TABLES: [Table; 8] = [
+const TABLES: [Table; 9] = [
     ("check", checking),
     ("labels", labels),
     ("linear", linear),
     ("walk", walking),
+    ("files", files),
     ("write", writing),
     ("rewrite", rewriting),
     ("list", listing),
@@ -272,6 +274,38 @@ fn rewriting() {
         ]);
         row(name(kind), records, written.len, times);
     }
+}
+
+/// All files of a set with the facts of each, behind one check, against a check alone and a check a file.
+fn files() {
+    println!("| 64 files | bytes | files ms | check ms | ratio | a check a file ms | ratio |");
+    println!("|---|--:|--:|--:|--:|--:|--:|");
+    for (name, format, block, record) in [
+        ("D 80 in 32,760", Format::Variable, 32_760, 84),
+        ("F 80 in 800", Format::Fixed, 800, 80),
+        ("S 80 in 4,096", Format::Segmented, 4_096, 80),
+    ] {
+        let image = &sixty_four_files(format, block, record);
+        let one_by_one = |number| tardorelga::file(image, number).expect("a file").bytes();
+        let times = Times::of([
+            &mut || _ = black_box(tardorelga::files(black_box(image)).expect("a set").count()),
+            &mut || _ = black_box(archive::check(black_box(image))),
+            &mut || _ = black_box((1..=64).map(one_by_one).sum::<u64>()),
+        ]);
+        let bytes = image.len();
+        let [files, check, each] = [0, 1, 2].map(|run| times.best(run));
+        let (to_check, to_each) = (times.ratio(1), times.ratio(2));
+        println!("| {name} | {bytes} | {files:.2} | {check:.2} | {to_check:.2} | {each:.2} | {to_each:.2} |");
+    }
+}
+
+fn sixty_four_files(format: Format, block: u32, record: u32) -> Vec<u8> {
+    let mut order = Order::new("SET001");
+    order.reel("GATE01");
+    for _ in 0..64 {
+        order.file("FULL", format, block, record).records([[b'R'; 80]; SIZE / 80 / 64]);
+    }
+    order.write().expect("a legal sheet")
 }
 
 fn listing() {
