@@ -10,6 +10,7 @@ use std::os::unix::fs::symlink;
 use std::path::{Path, PathBuf};
 use std::process::Command;
 use std::{env, fs};
+use tardorelga::Kind;
 
 /// A folder outside of any other project, in which the repository's folders can be named as in its root.
 fn workplace(name: &str) -> PathBuf {
@@ -89,10 +90,11 @@ fn the_examples_on_order_sheets_print_what_they_say() {
     assert!(run_document("docs/SHEET.md") >= 5);
 }
 
-/// A row of a table of fields: the first and the last byte, and what the field holds.
+/// A row of a table of fields: the first and the last byte, the name of the field, and what it holds.
 struct Row {
     first: usize,
     last: usize,
+    name: String,
     holds: String,
 }
 
@@ -111,7 +113,8 @@ fn names(head: &str) -> Vec<String> {
 fn row(line: &str) -> Row {
     let cells: Vec<&str> = line.split('|').map(str::trim).collect();
     let (first, last) = cells[1].split_once('-').unwrap_or((cells[1], cells[1]));
-    Row { first: first.parse().unwrap(), last: last.parse().unwrap(), holds: cells[3].into() }
+    let name = cells[2].split(',').next().unwrap().into();
+    Row { first: first.parse().unwrap(), last: last.parse().unwrap(), name, holds: cells[3].into() }
 }
 
 /// A sample that has this label, and where the label begins in it.
@@ -152,6 +155,24 @@ fn the_tables_of_label_fields_are_those_of_the_library() {
             for byte in row.first..=row.last {
                 assert_eq!(answer_to_a_wrong(byte, label), expected, "{label} byte {byte}");
             }
+        }
+    }
+}
+
+/// The kind of a label by its name.
+fn kind(label: &str) -> Kind {
+    let kinds = [Kind::Vol(1), Kind::Uhl, Kind::Utl].into_iter();
+    let of_files = |number| [Kind::Hdr(number), Kind::Eov(number), Kind::Eof(number)];
+    let mut kinds = kinds.chain(of_files(1)).chain(of_files(2));
+    kinds.find(|kind| kind.to_string() == label).expect("a label with fields")
+}
+
+#[test]
+fn the_fields_have_the_names_that_the_program_prints() {
+    for (names, rows) in label_tables() {
+        for label in names {
+            let printed = tardorelga::fields(kind(&label)).map(|field| field.name);
+            assert!(printed.eq(rows.iter().map(|row| &row.name[..])), "{label}");
         }
     }
 }
