@@ -3,7 +3,10 @@
 mod common;
 
 use common::{folder, root, run, shell};
+use std::collections::BTreeSet;
+use std::ffi::OsStr;
 use std::fs;
+use std::os::unix::ffi::OsStrExt;
 use std::process::Command;
 
 const PAGES: [&str; 2] = ["docs/tardorelga.1", "docs/tardorelga-sheet.5"];
@@ -32,6 +35,46 @@ fn the_manual_page_has_every_command_and_option() {
         }
     }
     assert!(page.contains(run(&["--version"]).done().text().trim_end()));
+}
+
+/// The members of the objects in a JSON text.
+fn members(json: &str) -> BTreeSet<&str> {
+    let ends = json.match_indices("\":").map(|(end, _)| &json[..end]);
+    ends.filter_map(|before| before.rsplit_once('"')).map(|(_, name)| name).collect()
+}
+
+/// What `check`, `list` and `show` print as JSON: of sets that are accepted, refused and not there, under a
+/// name that is no UTF-8 too.
+fn objects() -> Vec<String> {
+    let odd = folder("manual-json").join(OsStr::from_bytes(b"\xff.tgi"));
+    fs::copy(root().join("samples/refused-6.tgi"), &odd).unwrap();
+    let samples = ["samples/options.tgi", "samples/refused-6.tgi", "samples/nowhere.tgi"];
+    let names = samples.iter().map(OsStr::new).chain([odd.as_os_str()]);
+    let words = names.flat_map(|name| {
+        let ways: [&[&str]; 6] = [
+            &["check", "-r"],
+            &["list"],
+            &["show"],
+            &["check", "--simh"],
+            &["list", "--simh"],
+            &["show", "--simh"],
+        ];
+        ways.map(|way| {
+            [way.iter().map(OsStr::new).collect(), vec!["--json".as_ref(), name]].concat()
+        })
+    });
+    words.map(|words| run(&words).text().to_string()).collect()
+}
+
+#[test]
+fn the_manual_page_has_every_member_of_a_json_object() {
+    let page = fs::read_to_string(root().join("docs/tardorelga.1")).unwrap();
+    let bold = page.lines().filter_map(|line| line.strip_prefix(".B")?.split_once(' '));
+    let told: BTreeSet<&str> = bold.map(|(_, text)| text.split(' ').next().unwrap()).collect();
+    let objects = objects();
+    let printed: BTreeSet<&str> = objects.iter().flat_map(|json| members(json)).collect();
+    assert!(printed.len() > 35, "{printed:?}");
+    assert_eq!(printed.difference(&told).collect::<Vec<_>>(), [] as [&&str; 0]);
 }
 
 #[test]
