@@ -29,7 +29,7 @@ Checks the image of a tape set in each FILE, and prints a line a file:
     FILE: accepted, FILES files, RECORDS records, BYTES bytes
     FILE: refused NUMBER at item ITEM byte BYTE: what the number says, and the field it is about
 Items are counted from 0 over the whole image, bytes of a label from 1. The exit status is 0 where all are
-accepted, 1 where one is refused, 2 where one can't be read.
+accepted, 1 where one is refused, 2 where one can't be read or none is there to check.
 
     -r        a FILE may be a folder: checks all files below it whose names end in .tgi, and prints totals
     --json    prints a JSON object a line instead
@@ -51,8 +51,9 @@ pub const SHOW: &str =
 
 Prints the items of the image in FILE, a line each: number, kind and length; of a label the fields too, with
 their positions and names. Many data blocks in a row share a line. Where the set is refused, arrows mark the
-wrong item and field, and what is behind is left out. A byte that is not printable is \\xNN. With ITEM it prints
-this one, a block as a dump in hexadecimal and text. Exit status: 0 the set is accepted, 1 it is refused.
+wrong item and field, and what is behind is left out. A byte that is not printable is \\xNN. With ITEM it
+prints this one, a block as a dump in hexadecimal and text. The exit status is 0 where the set is accepted,
+1 where it is refused, 2 where it can't be read or has no such item.
 
     --all        gives each data block a line, and shows what is behind a wrong item too
     --item ITEM  prints this item alone, counted from 0
@@ -94,10 +95,10 @@ appears whole or not at all.
 
 pub const PACK: &str = "usage: tardorelga pack [--force] [--anywhere] SHEET -o OUT
 
-Writes the image of the order sheet SHEET, a text whose form docs/SHEET.md tells. A wrong line is named
-with its number, and the exit status is 1; a named file that can't be read is status 2. Names of files
-on the sheet are looked up in the folder of the sheet, or of a sheet on standard input in the current
-one, and may not lead out of it.
+Writes the image of the order sheet SHEET, a text whose form the manual page tardorelga-sheet(5) tells. A
+wrong line is named with its number, and the exit status is 1; a named file that can't be read is status 2.
+Names of files on the sheet are looked up in the folder of the sheet, or of a sheet on standard input in the
+current one, and may not lead out of it.
 
     -o OUT      where the image goes; it appears whole or not at all, and must not be there already
     --force     replaces an OUT that is there, and keeps its mode and owner
@@ -118,9 +119,10 @@ Writes the normal form of the set in FILE: two sets of one meaning have the same
 
 pub const IMPORT: &str = "usage: tardorelga import [--force] REEL.. -o OUT
 
-Writes the image of a set whose reels are the files REEL.. in SIMH's form, in this order; docs/FORMAT.md
-tells both forms. Labels are not looked at: check says of the image whether the set is accepted. A file
-that has anything but good records, tape marks and one end of the medium at its end is refused, and named.
+Writes the image of a set whose reels are the files REEL.. in SIMH's form, in this order; the document
+FORMAT.md tells both forms. Labels are not looked at: check says of the image whether the set is accepted. A
+file that has anything but good records, tape marks and one end of the medium at its end is refused, and
+named.
 
     -o OUT    where the image goes; it appears whole or not at all, and must not be there already
     --force   replaces an OUT that is there, and keeps its mode and owner
@@ -129,8 +131,8 @@ that has anything but good records, tape marks and one end of the medium at its 
 pub const EXPORT: &str = "usage: tardorelga export [--force] FILE -o NAME
 
 Writes the reels of the image in FILE in SIMH's form, a file each: NAME-1.tap, NAME-2.tap and so on. Where
-one of them can't be written, none is left. Labels are not looked at. None of NAME-1.tap to NAME-16.tap may be there already, since the
-reel of another set would be taken for one of this.
+one of them can't be written, none is left. Labels are not looked at. None of NAME-1.tap to NAME-16.tap may
+be there already, since the reel of another set would be taken for one of this.
 
     -o NAME   how the names of the files begin; - is standard output, for a set of one reel
     --force   replaces files that are there, and keeps their modes and owners; one behind the last reel of

@@ -37,6 +37,18 @@ fn the_manual_page_has_every_command_and_option() {
     assert!(page.contains(run(&["--version"]).done().text().trim_end()));
 }
 
+#[test]
+fn every_help_fits_a_terminal_and_names_no_file_of_the_source() {
+    let all = run(&["--help"]).done();
+    let commands =
+        all.text().lines().filter_map(|line| line.strip_prefix("    ")?.split(' ').next());
+    for words in commands.map(|command| vec![command, "--help"]).chain([vec!["--help"]]) {
+        let help = run(&words).done();
+        let wide = help.text().lines().find(|line| line.len() > 110);
+        assert_eq!((wide, help.text().contains("docs/")), (None, false), "{words:?}");
+    }
+}
+
 /// The members of the objects in a JSON text.
 fn members(json: &str) -> BTreeSet<&str> {
     let ends = json.match_indices("\":").map(|(end, _)| &json[..end]);
