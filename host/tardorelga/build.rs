@@ -7,7 +7,7 @@ fn main() {
     let archive = folder.join("libtardorelga.a");
     println!("cargo::rerun-if-changed={}", archive.display());
     if !archive.exists() {
-        println!("cargo::error=target/staticlib/libtardorelga.a is missing; build it first: rt staticlib tardorelga");
+        println!("cargo::error=target/staticlib/libtardorelga.a is missing; build it first: host/archive");
         return;
     }
     println!("cargo::rustc-link-search=native={}", folder.display());
