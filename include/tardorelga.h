@@ -1,6 +1,7 @@
 /*
  * Labelled magnetic tape sets (ECMA-13, 4th edition, Label Standard Version 4): checked, read, written,
- * put into normal form, and taken from SIMH tape files and back. Link with libtardorelga.a.
+ * put into normal form, and taken from SIMH tape files and back. Link with libtardorelga.a, or where it is
+ * installed, with the flags of pkg-config --cflags --libs tardorelga.
  *
  * The functions keep no state and allocate nothing, so that any number of threads may call them at once.
  * Each answers for any bytes and any numbers whatever.
