@@ -154,8 +154,8 @@ class Records:
     they hold the same records."""
 
     def __init__(self, image: bytes, walk: "_Walk") -> None:
-        self._image, self._walk = image, walk
-        facts = _call("count", image, len(image), walk)
+        self._image, self._walk = _bytes(image, "image"), walk
+        facts = _call("count", self._image, len(self._image), walk)
         self._count: int = facts.records
         self.byte_count: int = facts.bytes
 
@@ -240,7 +240,7 @@ def write(set_identifier: _Text, files: typing.Iterable[File], quota: int, reels
     for ordered in _several(files, "files"):
         if not isinstance(ordered, File):
             raise TypeError(f"files is a row of File, and this is {_kind(ordered)}")
-        entries += ordered.entry()
+        entries += _bytes(ordered.entry(), "an entry")
         before = len(lengths)
         for content in _several(ordered.records, "records"):
             content = _bytes(content, "a record")
@@ -329,7 +329,7 @@ def _digits(value: int, width: int, what: str) -> bytes:
 def _text(value: _Text, width: int, what: str) -> bytes:
     if not isinstance(value, (str, bytes)):
         raise TypeError(f"{what} is str or bytes, not {_kind(value)}")
-    text = value.encode("latin-1") if isinstance(value, str) else value
+    text = str.encode(value, "latin-1") if isinstance(value, str) else _bytes(value, what)
     if len(text) > width:
         raise ValueError(f"{what} has at most {width} characters, and {value!r} has more")
     return text.ljust(width)

@@ -131,6 +131,33 @@ class Arguments(Case):
         liar = dataclasses.replace(LEDGER, records=[Liar(b"0123456789")])
         self.assertEqual(tardorelga.write("SET001", [liar], 1, ["GATE01"]), sample("ledger"))
 
+    def test_a_class_over_texts_can_not_lie_about_them(self):
+        class Liar(bytes):
+            def __len__(self):
+                return 46
+
+            def __radd__(self, other):
+                return self
+
+            def ljust(self, *words):
+                return self
+
+        class Text(str):
+            def encode(self, *words):
+                return Liar(b"A")
+
+        class Lying(tardorelga.File):
+            def entry(self):
+                return Liar(LEDGER.entry())
+
+        ledger = dataclasses.replace(LEDGER, identifier=Liar(b"LEDGER"), record_format=Text("F"))
+        self.assertEqual(ledger.entry(), LEDGER.entry())
+        for name in Liar(b"SET001"), Text("SET001"):
+            self.assertEqual(tardorelga.write(name, [ledger], 1, [Liar(b"GATE01")]), sample("ledger"))
+        ordered = [Lying(**vars(LEDGER)), LEDGER]
+        two = tardorelga.write("SET001", ordered, 2, ["GATE01"])
+        self.assertEqual(two, tardorelga.write("SET001", [LEDGER, LEDGER], 2, ["GATE01"]))
+
     def test_a_number_is_a_whole_number(self):
         for call in TAKES_NUMBER:
             for wrong in NO_NUMBERS:
