@@ -312,26 +312,39 @@ def _whole(value: int, what: str) -> int:
         raise TypeError(f"{what} is a whole number, not {_kind(value)}") from None
 
 
+def _short(value: int) -> str:
+    """Python prints no number of very many digits."""
+    return str(value) if value.bit_length() < 100 else f"one of {value.bit_length()} bits"
+
+
 def _number(value: int, what: str) -> int:
     value = _whole(value, what)
     if not 0 <= value < 2**64:
-        raise ValueError(f"{what} is a number from 0 to 2**64 - 1, not {value}")
+        raise ValueError(f"{what} is a number from 0 to 2**64 - 1, not {_short(value)}")
     return value
 
 
 def _digits(value: int, width: int, what: str) -> bytes:
     value = _whole(value, what)
     if not 0 <= value < 10**width:
-        raise ValueError(f"{what} is a number of at most {width} digits, not {value}")
+        raise ValueError(f"{what} is a number of at most {width} digits, not {_short(value)}")
     return b"%0*d" % (width, value)
+
+
+def _encoded(value: str, what: str) -> bytes:
+    """A byte a character; the library judges which of them a label may hold."""
+    try:
+        return str.encode(value, "latin-1")
+    except UnicodeEncodeError as trouble:
+        raise ValueError(f"{what} has a character that no label holds, at index {trouble.start}") from None
 
 
 def _text(value: _Text, width: int, what: str) -> bytes:
     if not isinstance(value, (str, bytes)):
         raise TypeError(f"{what} is str or bytes, not {_kind(value)}")
-    text = str.encode(value, "latin-1") if isinstance(value, str) else _bytes(value, what)
+    text = _encoded(value, what) if isinstance(value, str) else _bytes(value, what)
     if len(text) > width:
-        raise ValueError(f"{what} has at most {width} characters, and {value!r} has more")
+        raise ValueError(f"{what} has at most {width} characters, and this has {len(text)}")
     return text.ljust(width)
 
 

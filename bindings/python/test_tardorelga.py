@@ -170,6 +170,29 @@ class Arguments(Case):
                 with self.assertRaises(ValueError, msg=repr(wrong)):
                     call(wrong)
 
+    def test_what_is_said_of_a_wrong_value_is_short(self):
+        cases = [
+            ("number is a number from 0 to 2**64 - 1, not -1", lambda: tardorelga.file(b"", -1)),
+            ("number is a number from 0 to 2**64 - 1, not one of 16610 bits", lambda: tardorelga.file(b"", 10**5000)),
+            ("version is a number of at most 2 digits, not 100", dataclasses.replace(LEDGER, version=100).entry),
+            (
+                "version is a number of at most 2 digits, not one of 16610 bits",
+                dataclasses.replace(LEDGER, version=10**5000).entry,
+            ),
+            (
+                "identifier has at most 17 characters, and this has 1000000",
+                dataclasses.replace(LEDGER, identifier="X" * 1_000_000).entry,
+            ),
+            (
+                "created has a character that no label holds, at index 1",
+                dataclasses.replace(LEDGER, created=" \N{EURO SIGN}").entry,
+            ),
+        ]
+        for message, call in cases:
+            with self.assertRaises(ValueError) as raised:
+                call()
+            self.assertEqual(str(raised.exception), message)
+
     def test_the_library_judges_numbers_of_64_bits(self):
         for call in TAKES_NUMBER[:4]:
             self.refuses(13, call, 0)
