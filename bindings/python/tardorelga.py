@@ -21,6 +21,7 @@ file has no place for the mark (py.typed) by which it would take an installed on
 """
 
 import array
+import collections.abc
 import ctypes
 import dataclasses
 import itertools
@@ -122,7 +123,8 @@ class Refused(Exception):
 @dataclasses.dataclass
 class File:
     """A file as it is ordered. Texts are filled up with SPACEs behind them, numbers with ZEROs before them; the
-    format is "F", "D" or "S"; a date is its six characters, such as " 85335" for day 335 of the year 85."""
+    format is "F", "D" or "S"; a date is its six characters, such as " 85335" for day 335 of the year 85. Records that
+    come from an iterator are taken from it at once."""
 
     identifier: _Text
     record_format: _Text
@@ -133,6 +135,11 @@ class File:
     version: int = 0
     created: _Text = " 00000"
     expires: _Text = " 00000"
+
+    def __post_init__(self) -> None:
+        # An iterator would have no records any more at a second writing.
+        if isinstance(self.records, collections.abc.Iterator):
+            self.records = [*self.records]
 
     def entry(self) -> bytes:
         """Its fields as the library takes them, 46 bytes."""

@@ -406,6 +406,15 @@ class Write(Case):
         by_name = tardorelga.write(set_identifier="SET001", files=[LEDGER], quota=1, reels=iter([b"GATE01"]))
         self.assertEqual(by_name, sample("ledger"))
 
+    def test_records_of_an_iterator_are_there_at_every_writing(self):
+        two = [b"0123456789"] * 2
+        for records in iter(two), (record for record in two), map(bytes, two):
+            ordered = dataclasses.replace(LEDGER, block_length=10, records=records)
+            self.refuses(12, tardorelga.write, "SET001", [ordered], 1, ["GATE01"])
+            image = tardorelga.write("SET001", [ordered], 2, ["GATE01"])
+            self.assertEqual([*tardorelga.records(image, 1)], two)
+            self.assertEqual(pickle.loads(pickle.dumps(ordered)), copy.deepcopy(ordered))
+
     def test_what_is_written_reads_back(self):
         records = [b"", bytes(range(256)), b"A" * 9995, b"\n"]
         files = [tardorelga.File(f"FILE {kind}", kind, 99999, 9999, records) for kind in "DS"]
