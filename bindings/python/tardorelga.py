@@ -107,8 +107,8 @@ class Refused(Exception):
     def __init__(self, verdict: Verdict) -> None:
         # What the exception was made of is what makes it again in another process.
         super().__init__(verdict)
-        self.verdict = verdict
-        self.number, self.item, self.byte = verdict
+        self.verdict = Verdict(*verdict)
+        self.number, self.item, self.byte = self.verdict
 
     @property
     def words(self) -> str:
@@ -178,7 +178,7 @@ class Records:
         return len(self) == len(other) and all(map(operator.eq, self, other))
 
     def __repr__(self) -> str:
-        return f"<{self._count} records of {self.byte_count} bytes>"
+        return f"<Records: {self._count}, bytes: {self.byte_count}>"
 
 
 @dataclasses.dataclass

@@ -263,6 +263,7 @@ class Refusals(Case):
         self.assertEqual(str(refused), f"refused 6 at item 6 byte 55: {refused.words}")
         none = self.refuses(13, tardorelga.file, sample("ledger"), 2)
         self.assertEqual(str(none), "refused 13: there is no such file or record")
+        self.assertEqual(str(tardorelga.Refused((13, 0, 0))), str(none))
 
     def test_a_refusal_is_kept_and_brought_back(self):
         refused = self.refuses(6, tardorelga.listing, sample("refused-6"))
@@ -301,7 +302,7 @@ class Files(Case):
             },
         )
         self.assertEqual((len(file.records), file.byte_count), (2, 15))
-        self.assertEqual(repr(file.records), "<2 records of 15 bytes>")
+        self.assertEqual(repr(file.records), "<Records: 2, bytes: 15>")
 
     def test_records_of_a_file_come_as_often_as_they_are_asked_for(self):
         file = tardorelga.file(sample("messages"), 2)
