@@ -10,6 +10,8 @@ through ctypes alone.
     ...     print(file.sequence, file.identifier, len(file.records), *file.records)
     1 LEDGER 1 b'0123456789'
 
+items() takes any bytes apart, whether they are a set or not, and fields() tells what stands where in a label.
+
 Images and records are bytes, or any object that lends its bytes. What the library refuses raises Refused; a value
 of a wrong type raises TypeError, and one that a field or a number of 64 bits can't hold ValueError.
 
@@ -31,18 +33,24 @@ import typing
 
 __all__ = [
     "LONGEST_IMAGE",
+    "Field",
     "File",
+    "Item",
     "Records",
     "Refused",
     "TapeFile",
     "Verdict",
     "check",
+    "field",
+    "fields",
     "file",
     "files",
     "from_simh",
+    "items",
     "listing",
     "record",
     "records",
+    "reel_names",
     "rewrite",
     "to_simh",
     "write",
@@ -53,6 +61,8 @@ LONGEST_IMAGE = 16_777_215
 _LONGEST_RECORD = 99_999
 _LONGEST_LISTING = 4_096
 _MOST_REELS = 16
+_LABEL = 80
+_FIRST_ITEM = 5
 
 _WORDS = {
     0: "accepted, or done",
@@ -74,6 +84,60 @@ _WORDS = {
 }
 # These say nothing of a place.
 _WITHOUT_PLACE = range(10, 15)
+
+# In the order of the library's numbers of kinds; the name of a numbered label goes on with its number.
+_KINDS = (
+    *("no label", "VOL", "UVL", "HDR", "UHL", "EOF", "EOV", "UTL"),
+    *("data block", "tape mark", "end of reel", "end", "torn"),
+)
+_END, _TORN = _KINDS.index("end"), _KINDS.index("torn")
+_NUMBERED = ("VOL", "UVL", "HDR", "EOF", "EOV")
+
+_CHARACTERS, _DIGITS, _POSITIVE, _SPACES = "a-characters", "digits", "a number, 1 or more", "SPACEs"
+_DATE, _ANY = "a date (SPACE or 0, year, day)", "any bytes"
+_LABEL_NAME = (1, "label name", "the name of its kind")
+# Of each field the position of its first byte, its name, and what must stand there.
+_VOL1 = (
+    _LABEL_NAME,
+    (5, "volume identifier", _CHARACTERS),
+    (11, "accessibility", _CHARACTERS),
+    (12, "reserved field", _SPACES),
+    (25, "implementation", _CHARACTERS),
+    (38, "owner", _CHARACTERS),
+    (52, "reserved field", _SPACES),
+    (80, "label standard version", "4"),
+)
+_FIRST = (
+    _LABEL_NAME,
+    (5, "file identifier", _CHARACTERS),
+    (22, "set identifier", _CHARACTERS),
+    (28, "section number", _DIGITS),
+    (32, "sequence number", _DIGITS),
+    (36, "generation number", _POSITIVE),
+    (40, "version number", _DIGITS),
+    (42, "creation date", _DATE),
+    (48, "expiration date", _DATE),
+    (54, "accessibility", _CHARACTERS),
+    (55, "block count", "digits, in HDR1 ZEROs"),
+    (61, "implementation", _CHARACTERS),
+    (74, "reserved field", _SPACES),
+)
+_SECOND = (
+    _LABEL_NAME,
+    (5, "record format", "F, D or S"),
+    (6, "block length", _POSITIVE),
+    (11, "record length", "a number that suits format, block length and offset length"),
+    (16, "free field", _ANY),
+    (51, "offset length", _DIGITS),
+    (53, "reserved field", _SPACES),
+)
+_USER = (_LABEL_NAME, (4, "label number", _CHARACTERS), (5, "user's text", _ANY))
+_FIELDS = {
+    "VOL1": _VOL1,
+    **dict.fromkeys(("HDR1", "EOV1", "EOF1"), _FIRST),
+    **dict.fromkeys(("HDR2", "EOV2", "EOF2"), _SECOND),
+    **dict.fromkeys(("UHL", "UTL"), _USER),
+}
 
 _BytesLike = typing.Union[bytes, bytearray, memoryview]
 _Text = typing.Union[str, bytes]
@@ -199,6 +263,42 @@ class TapeFile(File):
         return self.records.byte_count
 
 
+@dataclasses.dataclass(frozen=True)
+class Item:
+    """An item of an image. Its kind is the name of a label, such as "HDR1" or "UHL", or "data block", "tape mark", "end
+    of reel", "no label" for a block where a label is due, "end" for the end of the image, or "torn" for a bad
+    length or an item cut short. Its number counts from 0 over the whole image. Its content, at place at of the image,
+    is the bytes of a block, or all that is left of a torn image; behind is the place behind the item."""
+
+    kind: str
+    number: int
+    at: int
+    content: bytes = dataclasses.field(repr=False)
+    behind: int
+
+
+class Field(typing.NamedTuple):
+    """A field of a label: the position of its first byte, from 1, how many bytes it has, its name, and what must
+    stand there, in words."""
+
+    first: int
+    length: int
+    name: str
+    holds: str
+
+    @property
+    def last(self) -> int:
+        """The position of its last byte, from 1."""
+        return self.first + self.length - 1
+
+    def of(self, label: _BytesLike) -> bytes:
+        """The bytes of the field in a label of its kind."""
+        label = _bytes(label, "label")
+        if len(label) != _LABEL:
+            raise ValueError(f"a label has {_LABEL} bytes, and this has {len(label)}")
+        return label[self.first - 1 : self.last]
+
+
 def check(image: _BytesLike) -> Verdict:
     """The verdict on an image, whatever its bytes."""
     image = _bytes(image, "image")
@@ -283,6 +383,54 @@ def to_simh(image: _BytesLike) -> typing.List[bytes]:
     return [tape[end - length : end] for end, length in zip(ends, lengths)]
 
 
+def items(image: _BytesLike) -> typing.Iterator[Item]:
+    """The items of any bytes whatever, accepted or not, one after the other, and at last the end or what is torn.
+    Nothing is asked of the head, the first five bytes.
+
+    >>> [(item.kind, item.at) for item in items(b"TGI\\0\\1" b"\\0\\0\\0" b"\\0\\0\\2A")]
+    [('tape mark', 8), ('torn', 8)]
+    """
+    return _items(_bytes(image, "image"))
+
+
+def field(kind: str, byte: int) -> typing.Optional[Field]:
+    """The field of a label of this kind in which byte position byte, from 1, stands. There is none behind position 80,
+    and none in an item of which the standard knows no fields.
+
+    >>> field("EOF1", 57)
+    Field(first=55, length=6, name='block count', holds='digits, in HDR1 ZEROs')
+    """
+    family = _family(kind)
+    first = _call("field_at", *family, _number(byte, "byte", 32))
+    if not first:
+        return None
+    length = sum(_call("field_at", *family, at) == first for at in range(first, _LABEL + 1))
+    ((name, holds),) = (words for begin, *words in _FIELDS[kind] if begin == first)
+    return Field(first, length, name, holds)
+
+
+def fields(kind: str) -> typing.List[Field]:
+    """All fields of a label of this kind, in order.
+
+    >>> [field.name for field in fields("UHL")]
+    ['label name', 'label number', "user's text"]
+    """
+    found, following = [], field(kind, 1)
+    while following:
+        found.append(following)
+        following = field(kind, following.last + 1)
+    return found
+
+
+def reel_names(image: _BytesLike) -> typing.List[str]:
+    """The names of the reels of a set, the volume identifiers of its VOL1 labels, without the SPACEs behind them."""
+    image = _bytes(image, "image")
+    _call("check", image, len(image)).raise_refused()
+    volumes = [item.content for item in _items(image) if item.kind == "VOL1"]
+    (name,) = (field for field in fields("VOL1") if field.name == "volume identifier")
+    return [name.of(volume).decode("ascii").rstrip(" ") for volume in volumes]
+
+
 # ---- values as the library takes them
 
 
@@ -324,10 +472,10 @@ def _short(value: int) -> str:
     return str(value) if value.bit_length() < 100 else f"one of {value.bit_length()} bits"
 
 
-def _number(value: int, what: str) -> int:
+def _number(value: int, what: str, bits: int = 64) -> int:
     value = _whole(value, what)
-    if not 0 <= value < 2**64:
-        raise ValueError(f"{what} is a number from 0 to 2**64 - 1, not {_short(value)}")
+    if not 0 <= value < 2**bits:
+        raise ValueError(f"{what} is a number from 0 to 2**{bits} - 1, not {_short(value)}")
     return value
 
 
@@ -353,6 +501,28 @@ def _text(value: _Text, width: int, what: str) -> bytes:
     if len(text) > width:
         raise ValueError(f"{what} has at most {width} characters, and this has {len(text)}")
     return text.ljust(width)
+
+
+def _kind_of(family: int, number: int) -> str:
+    """The name of the library's two numbers of a kind."""
+    name = _KINDS[family]
+    return f"{name}{number}" if name in _NUMBERED else name
+
+
+_FAMILIES = {
+    _kind_of(family, number): (family, number)
+    for family, name in enumerate(_KINDS)
+    for number in (range(1, 10) if name in _NUMBERED else [0])
+}
+
+
+def _family(kind: str) -> typing.Tuple[int, int]:
+    """The library's two numbers of a kind; the second is 0 where labels of the kind have none."""
+    if not isinstance(kind, str):
+        raise TypeError(f"kind is str, not {_kind(kind)}")
+    if kind not in _FAMILIES:
+        raise ValueError("kind is that of an item, such as 'HDR1', 'UHL' or 'tape mark', and this is none")
+    return _FAMILIES[kind]
 
 
 def _names(reels: typing.Iterable[_Text]) -> bytes:
@@ -403,6 +573,10 @@ class _Tapes(ctypes.Structure):
     _fields_ = [("verdict", _Verdict), ("len", _u64), ("files", _u64)]
 
 
+class _Item(ctypes.Structure):
+    _fields_ = [("kind", _u32), ("number", _u32), ("group", _u32), ("start", _u64), ("len", _u64), ("behind", _u64)]
+
+
 _slice, _out = (_bytes_at, _size), (ctypes.c_void_p, _size)
 _words = (ctypes.c_void_p, _size)
 _FUNCTIONS = {
@@ -417,6 +591,8 @@ _FUNCTIONS = {
     "write": (_Written, *_slice, *_slice, *_words, *_words, *_slice, _u64, *_slice, *_out),
     "from_simh": (_Written, *_slice, *_words, *_out),
     "to_simh": (_Tapes, *_slice, *_out, *_words),
+    "item_at": (_Item, *_slice, _u64, _u32),
+    "field_at": (_u32, _u32, _u32, _u32),
 }
 
 _SHARED_OBJECT = "libtardorelga.so.0"
@@ -505,6 +681,19 @@ def _walked(image: bytes, walk: _Walk) -> typing.Iterator[bytes]:
 def _part(image: bytes, join: typing.Any, found: typing.Any) -> bytes:
     """A record of several segments was joined in the buffer; any other is a part of the image."""
     return ctypes.string_at(join, found.len) if found.joined else image[found.start : found.start + found.len]
+
+
+def _items(image: bytes) -> typing.Iterator[Item]:
+    at, group = _FIRST_ITEM, 0
+    for number in itertools.count():
+        found = _call("item_at", image, len(image), at, group)
+        at, group = found.behind, found.group
+        # An image that is shorter than a head ends before the first item's place.
+        behind = min(at, len(image))
+        content = image[found.start : found.start + found.len]
+        yield Item(_kind_of(found.kind, found.number), number, behind - len(content), content, behind)
+        if found.kind in (_END, _TORN):
+            return
 
 
 def _written(name: str, longest: int, *words: typing.Any) -> bytes:

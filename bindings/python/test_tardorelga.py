@@ -44,7 +44,9 @@ LEDGER = tardorelga.File("LEDGER", "F", 20, 10, [b"0123456789"], created=" 85335
 # What takes an image, with words that are right behind it.
 TAKES_IMAGE = [
     (tardorelga.check,),
+    (tardorelga.items,),
     (tardorelga.listing,),
+    (tardorelga.reel_names,),
     (tardorelga.file, 1),
     (tardorelga.files,),
     (tardorelga.record, 1, 1),
@@ -369,6 +371,100 @@ class Files(Case):
         self.assertEqual((file.identifier, file.set_identifier), ("  A B", " A"))
 
 
+LABELS = ["VOL1", "HDR1", "HDR2", "EOV1", "EOV2", "EOF1", "EOF2", "UHL", "UTL"]
+
+
+class Items(Case):
+    def test_the_items_of_a_sample(self):
+        items = [*tardorelga.items(sample("ledger"))]
+        kinds = ["VOL1", "HDR1", "HDR2", "tape mark", "data block", "tape mark", "EOF1", "EOF2"]
+        kinds += ["tape mark", "tape mark", "end of reel", "end"]
+        self.assertEqual([item.kind for item in items], kinds)
+        self.assertEqual([item.number for item in items], [*range(12)])
+        self.assertEqual((items[4].at, items[4].content, items[4].behind), (260, b"0123456789", 270))
+        self.assertEqual((items[11].at, items[11].content, items[11].behind), (448, b"", 448))
+
+    def test_items_cover_all_that_is_behind_the_head_whatever_the_bytes(self):
+        whole = sample("options")
+        short = [whole[:length] for length in range(len(whole))]
+        wrong = [whole[:at] + b"\xfe" + whole[at + 1 :] for at in range(0, len(whole), 7)]
+        for image in [*short, *wrong, b"\0" * 5 + b"\xff" * 99]:
+            at = min(5, len(image))
+            for item in tardorelga.items(image):
+                self.assertLessEqual(at, item.at)
+                self.assertEqual(image[item.at : item.behind], item.content)
+                at = item.behind
+            self.assertEqual((at, item.kind in ("end", "torn")), (len(image), True))
+
+    def test_the_items_of_a_refused_set_lead_to_the_wrong_field(self):
+        for name, byte, due in ("refused-4", 42, "creation date"), ("refused-6", 55, "block count"):
+            image = sample(name)
+            verdict = tardorelga.check(image)
+            label = [*tardorelga.items(image)][verdict.item]
+            field = tardorelga.field(label.kind, verdict.byte)
+            self.assertEqual((field.first, field.name), (byte, due))
+            self.assertEqual(field.of(label.content), label.content[byte - 1 :][:6])
+
+    def test_an_item_is_shown_without_its_content_and_kept(self):
+        item = next(tardorelga.items(sample("ledger")))
+        self.assertEqual(repr(item), "Item(kind='VOL1', number=0, at=8, behind=88)")
+        for again in pickle.loads(pickle.dumps(item)), copy.copy(item), copy.deepcopy(item):
+            self.assertEqual((again, hash(again)), (item, hash(item)))
+        with self.assertRaises(dataclasses.FrozenInstanceError):
+            item.number = 1
+
+    def test_items_keep_an_image_that_is_changed_behind_them(self):
+        image = bytearray(sample("ledger"))
+        items = tardorelga.items(image)
+        image[:] = bytes(len(image))
+        self.assertEqual(len([*items]), 12)
+
+    def test_fields_follow_each_other_and_have_names(self):
+        for kind in LABELS:
+            fields, at = tardorelga.fields(kind), 1
+            for field in fields:
+                self.assertEqual(field.first, at, kind)
+                self.assertTrue(field.name and field.holds, kind)
+                at = field.last + 1
+            self.assertEqual(at, 81, kind)
+            of_each_byte = [tardorelga.field(kind, byte) for byte in range(1, 81)]
+            self.assertEqual(of_each_byte, [field for field in fields for _ in range(field.length)])
+
+    def test_there_is_no_field_elsewhere(self):
+        for kind in "VOL2", "UVL1", "HDR9", "EOF3", "data block", "tape mark", "end of reel", "end", "torn", "no label":
+            self.assertEqual((tardorelga.fields(kind), tardorelga.field(kind, 1)), ([], None))
+        for byte in 0, 81, 2**32 - 1:
+            self.assertIsNone(tardorelga.field("HDR1", byte))
+
+    def test_arguments(self):
+        for wrong in [*NO_NUMBERS]:
+            with self.assertRaises(TypeError, msg=repr(wrong)):
+                tardorelga.field("HDR1", wrong)
+        for wrong in -1, 2**32 + 5, 2**64 + 5:
+            with self.assertRaises(ValueError, msg=repr(wrong)):
+                tardorelga.field("HDR1", wrong)
+        for call in tardorelga.fields, lambda kind: tardorelga.field(kind, 1):
+            for wrong in 3, None, b"HDR1", ["HDR1"]:
+                with self.assertRaises(TypeError, msg=repr(wrong)):
+                    call(wrong)
+            for wrong in "", "HDR", "HDR0", "HDR10", "hdr1", "UHL1", "HDR1 ":
+                with self.assertRaises(ValueError, msg=repr(wrong)):
+                    call(wrong)
+        name = tardorelga.field("VOL1", 5)
+        for wrong in b"", b"VOL1GATE01", bytes(81):
+            with self.assertRaises(ValueError):
+                name.of(wrong)
+        with self.assertRaises(TypeError):
+            name.of("VOL1GATE01")
+
+    def test_the_names_of_reels(self):
+        self.assertEqual(tardorelga.reel_names(sample("messages")), ["GATE01", "GATE02", "GATE03"])
+        image = tardorelga.write("SET001", [LEDGER], 1, [" A"])
+        self.assertEqual(tardorelga.reel_names(image), [" A"])
+        self.assertEqual(tardorelga.rewrite(image, 1, tardorelga.reel_names(image)), image)
+        self.refuses(6, tardorelga.reel_names, sample("refused-6"))
+
+
 class Records(Case):
     def test_records_come_in_order_and_joined(self):
         messages = [b"LINE OPEN", b"FLOOD AT THE LOWER GATE, SEND HELP", b"", b"LINE CLOSED"]
@@ -612,7 +708,7 @@ class Module(unittest.TestCase):
             self.assertNotIn(name.split(".")[-1], words)
             for parameter in inspect.signature(value).parameters:
                 self.assertNotIn(parameter, words, name)
-        for kind in tardorelga.File, tardorelga.TapeFile, tardorelga.Records, tardorelga.Verdict:
+        for kind in [getattr(tardorelga, name) for name in tardorelga.__all__ if name[0].isupper()]:
             fields = [name for name in dir(kind) if not name.startswith("_")]
             self.assertEqual({*fields} & {*words}, set(), kind)
 

@@ -6,7 +6,7 @@ mod common;
 use common::root;
 use std::path::PathBuf;
 use std::process::Command;
-use tardorelga::Verdict;
+use tardorelga::{Field, Item, Kind, Verdict};
 
 /// The folder of the module, with the shared object beside it.
 fn built() -> PathBuf {
@@ -46,6 +46,81 @@ fn each_number_has_the_words_of_the_program() {
     let words = "import tardorelga; [print(tardorelga.Verdict(n, 0, 0).words) for n in range(17)]";
     let due = (0..17).map(|number| Verdict { number, item: 0, byte: 0 }.words());
     assert_eq!(python(words).lines().collect::<Vec<_>>(), due.collect::<Vec<_>>());
+}
+
+/// Every kind of which fields are known, and some of which none are.
+const KINDS: [Kind; 13] = [
+    Kind::Vol(1),
+    Kind::Vol(2),
+    Kind::Uvl(1),
+    Kind::Hdr(1),
+    Kind::Hdr(2),
+    Kind::Hdr(3),
+    Kind::Uhl,
+    Kind::Eov(1),
+    Kind::Eov(2),
+    Kind::Eof(1),
+    Kind::Eof(2),
+    Kind::Utl,
+    Kind::TapeMark,
+];
+
+#[test]
+fn each_field_is_that_of_the_rust_library() {
+    let line = |kind: Kind| {
+        let fields = tardorelga::fields(kind).map(|Field { first, len, name, holds, .. }| {
+            format!("{kind}: {first}, {len}, {name}, {holds}\n")
+        });
+        fields.collect::<String>()
+    };
+    let due: String = KINDS.into_iter().map(line).collect();
+    assert_eq!(due.lines().count(), 8 + 3 * 13 + 3 * 7 + 2 * 3);
+    let kinds: Vec<String> = KINDS.iter().map(Kind::to_string).collect();
+    let program = format!(
+        "import tardorelga\nfor kind in {kinds:?}:\n    for field in tardorelga.fields(kind):\n        \
+         print(kind, ': ', field.first, ', ', field.length, ', ', field.name, ', ', field.holds, sep='')"
+    );
+    assert_eq!(python(&program), due);
+}
+
+/// An image with an item of every kind: head, then items by their lengths and first bytes.
+fn items_of_every_kind() -> Vec<u8> {
+    let labels = |names: &[&str]| -> Vec<u8> {
+        names
+            .iter()
+            .flat_map(|name| [&[0, 0, 80], format!("{name:80}").as_bytes()].concat())
+            .collect()
+    };
+    let (mark, end) = ([0; 3], [0xFF; 3]);
+    [
+        &b"TGI\0\x01"[..],
+        &labels(&["VOL1", "VOL9", "UVL3", "NONE", "HDR1", "HDR2", "UHLA"]),
+        &mark,
+        b"\0\0\x04DATA",
+        &mark,
+        &labels(&["EOF1", "EOV2", "UTLZ"]),
+        &mark,
+        &end,
+        b"\0\0\x02A",
+    ]
+    .concat()
+}
+
+#[test]
+fn each_item_is_that_of_the_rust_library() {
+    let image = items_of_every_kind();
+    let line = |item: Item| {
+        let Item { kind, number, at, bytes, behind } = item;
+        format!("{kind}, {number}, {at}, {}, {behind}\n", bytes.len())
+    };
+    let due: String = tardorelga::items(&image).map(line).collect();
+    assert_eq!(due.lines().count(), 16);
+    let hex: String = image.iter().map(|byte| format!("{byte:02x}")).collect();
+    let program = format!(
+        "import tardorelga\nfor item in tardorelga.items(bytes.fromhex('{hex}')):\n    \
+         print(item.kind, item.number, item.at, len(item.content), item.behind, sep=', ')"
+    );
+    assert_eq!(python(&program), due);
 }
 
 /// Programs that were linked with it ask for it by this name, and find nothing else in it.
