@@ -101,7 +101,8 @@ impl fmt::Display for Kind {
 #[derive(Clone, Copy, Debug, PartialEq, Eq)]
 pub struct Item<'a> {
     pub kind: Kind,
-    /// Its number, from 0 over the whole image, tape marks and ends of reels counted too.
+    /// Its number, from 0 over the whole image, tape marks and ends of reels counted too; 4,294,967,295 for
+    /// a higher one.
     pub number: u32,
     /// The place in the image of the item's bytes; the place behind an item that has none.
     pub at: usize,
@@ -146,12 +147,22 @@ impl<'a> Iterator for Items<'a> {
         let ffi::Item { kind, number, group, start, len, behind } =
             item_at(self.image, self.at, self.group);
         let kind = Kind::of(kind, number);
-        let at = if len == 0 { behind.min(self.image.len() as u64) } else { start } as usize;
-        let bytes = &self.image[at..at + len as usize];
-        let item = Item { kind, number: self.number, at, bytes, behind: behind as usize };
+        // An image that is shorter than a head ends before the place of the first item.
+        let end = behind.min(self.image.len() as u64) as usize;
+        let at = if len == 0 { end } else { start as usize };
+        let item = Item { kind, number: self.number, at, bytes: &self.image[at..end], behind: end };
         self.is_over = matches!(kind, Kind::EndOfImage | Kind::Torn);
-        (self.at, self.group, self.number) = (behind, group, self.number + 1);
+        (self.at, self.group, self.number) = (behind, group, self.number.saturating_add(1));
         Some(item)
+    }
+
+    /// No item but the last has fewer bytes than its length of three.
+    fn size_hint(&self) -> (usize, Option<usize>) {
+        const LEAST: usize = 3;
+        match self.is_over {
+            true => (0, Some(0)),
+            false => (1, Some(self.image.len().saturating_sub(self.at as usize) / LEAST + 1)),
+        }
     }
 }
 

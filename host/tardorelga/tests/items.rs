@@ -3,7 +3,7 @@
 use oracle::generate::{damaged, whole, Rng};
 use oracle::label::kind_of;
 use oracle::tape::{self, Tape};
-use tardorelga::{field, fields, items, Item, Kind};
+use tardorelga::{field, fields, items, reel_names, Item, Items, Kind};
 
 const WITH_FIELDS: [Kind; 9] = [
     Kind::Vol(1),
@@ -93,16 +93,51 @@ fn the_items_of_any_bytes_cover_all_that_is_behind_the_head() {
             }),
             _ => {}
         }
-        let mut at = 5;
-        let mut last = None;
-        for item in items(&image) {
-            assert_eq!(item.bytes.len() + item.at, item.behind.min(image.len()), "{item:?}");
-            assert!(item.behind > at || item.kind == Kind::EndOfImage, "{number}: {item:?}");
-            (at, last) = (item.behind, Some(item.kind));
-        }
-        assert!(at >= image.len(), "image {number}");
-        assert!(matches!(last, Some(Kind::EndOfImage | Kind::Torn)), "image {number}: {last:?}");
+        covers_all(&image);
     }
+    (0..9).for_each(|length| covers_all(&vec![0; length]));
+}
+
+/// The items cut the bytes behind the head, or behind what is there of a head.
+fn covers_all(image: &[u8]) {
+    let mut at = 5.min(image.len());
+    let mut last = None;
+    for item in items(image) {
+        assert_eq!(item.bytes, &image[item.at..item.behind], "{item:?}");
+        assert!(item.behind > at || item.kind == Kind::EndOfImage, "{item:?}");
+        (at, last) = (item.behind, Some(item.kind));
+    }
+    assert_eq!(at, image.len());
+    assert!(matches!(last, Some(Kind::EndOfImage | Kind::Torn)), "{last:?}");
+    is_hinted(items(image));
+}
+
+/// As many come as the hint allows, at every step, and behind the last one none.
+fn is_hinted(mut items: Items) {
+    loop {
+        let (least, most) = items.size_hint();
+        let left = items.clone().count();
+        assert!(least <= left && left <= most.expect("a bound"), "{left} of {least} to {most:?}");
+        if items.next().is_none() {
+            assert_eq!((items.size_hint(), items.next()), ((0, Some(0)), None));
+            return;
+        }
+    }
+}
+
+/// Other bytes than those of an accepted set have names of reels too, where VOL1 labels stand.
+#[test]
+fn the_names_of_reels_whatever_the_bytes() {
+    let mut rng = Rng::new(34);
+    let mut names = 0;
+    for _ in 0..2000 {
+        for name in reel_names(&damaged(&mut rng)) {
+            assert_eq!(name.len(), 6);
+            names += 1;
+        }
+    }
+    assert!(names > 1000);
+    assert_eq!(reel_names(b"TGI").count(), 0);
 }
 
 #[test]
