@@ -98,7 +98,7 @@ impl fmt::Display for Kind {
 }
 
 /// An item of an image.
-#[derive(Clone, Copy, Debug, PartialEq, Eq)]
+#[derive(Clone, Copy, PartialEq, Eq)]
 pub struct Item<'a> {
     pub kind: Kind,
     /// Its number, from 0 over the whole image, tape marks and ends of reels counted too; 4,294,967,295 for
@@ -112,8 +112,21 @@ pub struct Item<'a> {
     pub behind: usize,
 }
 
+/// Without its bytes, which may be many.
+impl fmt::Debug for Item<'_> {
+    fn fmt(&self, f: &mut fmt::Formatter) -> fmt::Result {
+        let Item { kind, number, at, behind, .. } = self;
+        f.debug_struct("Item")
+            .field("kind", kind)
+            .field("number", number)
+            .field("at", at)
+            .field("behind", behind)
+            .finish_non_exhaustive()
+    }
+}
+
 /// The items of an image, in order, and at last its end or what is torn.
-#[derive(Clone, Debug)]
+#[derive(Clone)]
 pub struct Items<'a> {
     image: &'a [u8],
     at: u64,
@@ -167,6 +180,18 @@ impl<'a> Iterator for Items<'a> {
 }
 
 impl FusedIterator for Items<'_> {}
+
+/// Without the image, which may be long.
+impl fmt::Debug for Items<'_> {
+    fn fmt(&self, f: &mut fmt::Formatter) -> fmt::Result {
+        let Items { at, number, is_over, .. } = self;
+        f.debug_struct("Items")
+            .field("at", at)
+            .field("number", number)
+            .field("is_over", is_over)
+            .finish_non_exhaustive()
+    }
+}
 
 /// The names of the reels of an accepted image, 6 bytes each: the volume identifiers of its VOL1 labels.
 ///

@@ -1,6 +1,7 @@
 //! An order sheet that is put together piece by piece.
 
 use crate::{write, File, Format, Sheet, Verdict, LONGEST_IMAGE};
+use std::fmt;
 
 /// An order sheet of its own bytes: set identifier, quota, reel names, and files with their records.
 /// Anything may be ordered; [`write()`](Order::write) tells whether it is legal.
@@ -12,7 +13,7 @@ use crate::{write, File, Format, Sheet, Verdict, LONGEST_IMAGE};
 /// order.file("LEDGER", Format::Fixed, 20, 10).created(" 85335").record(b"0123456789");
 /// assert_eq!(order.write().unwrap(), include_bytes!("../doc/ledger.tgi"));
 /// ```
-#[derive(Clone, Debug)]
+#[derive(Clone)]
 pub struct Order {
     set: [u8; 6],
     files: Vec<u8>,
@@ -137,6 +138,13 @@ impl Order {
         image.truncate(len);
         image.shrink_to_fit();
         Ok(image)
+    }
+}
+
+/// As its sheet, without the records.
+impl fmt::Debug for Order {
+    fn fmt(&self, f: &mut fmt::Formatter) -> fmt::Result {
+        f.debug_tuple("Order").field(&self.sheet()).finish()
     }
 }
 

@@ -1,10 +1,11 @@
 //! The order sheet, and its writing.
 
 use crate::{ffi, Verdict};
+use std::fmt;
 
 /// An order sheet: what is to be written, the quota and the reel names. Anything may be put on it;
 /// [`write()`] tells whether it is legal.
-#[derive(Clone, Copy, Debug)]
+#[derive(Clone, Copy)]
 pub struct Sheet<'a> {
     /// The set identifier, 6 bytes.
     pub set: &'a [u8],
@@ -21,6 +22,21 @@ pub struct Sheet<'a> {
     pub quota: u64,
     /// 6 bytes a reel name, 1 to 16 of them.
     pub names: &'a [u8],
+}
+
+/// Of lengths and data, which may be millions, only how many there are.
+impl fmt::Debug for Sheet<'_> {
+    fn fmt(&self, f: &mut fmt::Formatter) -> fmt::Result {
+        f.debug_struct("Sheet")
+            .field("set", &String::from_utf8_lossy(self.set))
+            .field("files", &String::from_utf8_lossy(self.files))
+            .field("counts", &self.counts)
+            .field("lengths", &self.lengths.len())
+            .field("data", &self.data.len())
+            .field("quota", &self.quota)
+            .field("names", &String::from_utf8_lossy(self.names))
+            .finish()
+    }
 }
 
 /// Writes the sheet into the front of `out` and gives the length of the image, or 9, 11, 12, 14 or

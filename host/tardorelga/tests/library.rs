@@ -144,3 +144,23 @@ fn writing() {
         }
     }
 }
+
+/// What is shown of an image or of an order is short, however long they are.
+#[test]
+fn debug() {
+    let mut order = tardorelga::Order::new("LONG");
+    let mut file = order.reel("GATE01").file("LONG", tardorelga::Format::Fixed, 50_000, 50_000);
+    file.records(std::iter::repeat_n([b'A'; 50_000], 9));
+    let ordered = format!("{file:?}");
+    let image = order.write().unwrap();
+    let shown = [
+        ordered,
+        format!("{order:?} {:?}", order.sheet()),
+        format!("{:?} {:?}", tardorelga::files(&image), tardorelga::file(&image, 1)),
+        format!("{:?}", tardorelga::records(&image, 1)),
+        format!("{:?}", tardorelga::items(&image)),
+        format!("{:?}", tardorelga::items(&image).nth(4)),
+        format!("{:?}", tardorelga::items(&image[..image.len() - 1]).last()),
+    ];
+    shown.iter().for_each(|text| assert!(text.len() < 600, "{} bytes: {text:.600}", text.len()));
+}
