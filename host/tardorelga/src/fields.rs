@@ -3,13 +3,15 @@
 use crate::{ffi, Kind};
 use std::iter::successors;
 
-/// A field of a label.
+/// A field of a label. Only [`field`] and [`fields`] make one.
 #[derive(Clone, Copy, Debug, PartialEq, Eq)]
+#[non_exhaustive]
 pub struct Field {
     /// The position of its first byte in the label, from 1.
     pub first: u32,
     /// How many bytes it has.
     pub len: u32,
+    /// What it is called.
     pub name: &'static str,
     /// What must stand there, in words.
     pub holds: &'static str,
@@ -22,6 +24,10 @@ impl Field {
     }
 
     /// The bytes of the field in a label of its kind.
+    ///
+    /// # Panics
+    ///
+    /// Where the bytes end before the field does; a label has 80.
     pub fn of<'a>(&self, label: &'a [u8]) -> &'a [u8] {
         &label[self.first as usize - 1..self.last() as usize]
     }

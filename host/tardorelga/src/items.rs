@@ -10,15 +10,25 @@ use std::iter::FusedIterator;
 pub enum Kind {
     /// A block that is no label, where a label is due.
     Other,
+    /// A volume label, at the head of a reel.
     Vol(u32),
+    /// A user's volume label.
     Uvl(u32),
+    /// A header label, before the data of a file.
     Hdr(u32),
+    /// A user's header label.
     Uhl,
+    /// A trailer label behind the last data of a file.
     Eof(u32),
+    /// A trailer label behind data of a file that goes on at the next reel.
     Eov(u32),
+    /// A user's trailer label.
     Utl,
+    /// A block of the data of a file.
     DataBlock,
+    /// A tape mark.
     TapeMark,
+    /// The end of a reel.
     EndOfReel,
     /// The end of the image, which has the number behind its last item.
     EndOfImage,
@@ -65,6 +75,7 @@ impl Kind {
         }
     }
 
+    /// Whether it is a label, of the system or of a user.
     pub fn is_label(self) -> bool {
         (1..=7).contains(&self.numbers().0)
     }
@@ -100,6 +111,7 @@ impl fmt::Display for Kind {
 /// An item of an image.
 #[derive(Clone, Copy, PartialEq, Eq)]
 pub struct Item<'a> {
+    /// What it is where it stands.
     pub kind: Kind,
     /// Its number, from 0 over the whole image, tape marks and ends of reels counted too; 4,294,967,295 for
     /// a higher one.

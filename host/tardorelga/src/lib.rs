@@ -48,8 +48,10 @@
 //! # Lent buffers
 //!
 //! A buffer that is lent to be written to keeps every byte with a refusal, and behind what was
-//! written. Nothing is kept of any buffer behind a call, and nothing is allocated but by [`Records`] and
-//! [`Order`].
+//! written. Nothing is kept of any buffer behind a call, and nothing is allocated but by [`Records`],
+//! [`Order`] and what makes a text.
+
+#![deny(missing_docs)]
 
 #[doc(hidden)]
 pub mod ffi;

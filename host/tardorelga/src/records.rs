@@ -9,8 +9,18 @@ use std::iter::FusedIterator;
 /// into the front of the lent buffer.
 #[derive(Clone, Copy, Debug, PartialEq, Eq)]
 pub enum Place {
-    InImage { start: usize, len: usize },
-    Joined { len: usize },
+    /// A part of the image.
+    InImage {
+        /// The place of its first byte in the image.
+        start: usize,
+        /// How many bytes it has.
+        len: usize,
+    },
+    /// The front of the lent buffer.
+    Joined {
+        /// How many bytes it has.
+        len: usize,
+    },
 }
 
 impl Place {
@@ -24,6 +34,10 @@ impl Place {
     }
 
     /// The record: a part of the image, or of the buffer that was lent for joining.
+    ///
+    /// # Panics
+    ///
+    /// Where these are shorter than those in which the record was found.
     #[inline]
     pub fn of<'a>(self, image: &'a [u8], join: &'a [u8]) -> &'a [u8] {
         match self {
@@ -113,7 +127,9 @@ pub(crate) fn begun(image: &[u8], file: u64) -> ffi::Begun {
 /// How many records there are, and how many bytes in all of them.
 #[derive(Clone, Copy, Debug, PartialEq, Eq, Hash)]
 pub struct Facts {
+    /// How many records there are.
     pub records: u64,
+    /// The bytes of all of them.
     pub bytes: u64,
 }
 
