@@ -304,8 +304,9 @@ tardorelga_tapes tardorelga_to_simh(const uint8_t *image, size_t image_len, uint
  * number  of a numbered label, such as 1 of VOL1; else 0.
  * group   the group of the item behind it.
  * start   the place of the block's bytes, len of them. For TORN the place that was asked for, and all the
- *         bytes that are left.
- * behind  the place of the item behind it; for TORN the end of the image.
+ *         bytes that are left. For an item without bytes the same as behind.
+ * behind  the place of the item behind it; for TORN the end of the image. For END_OF_IMAGE the place that
+ *         was asked for, which may be past the end.
  */
 typedef struct tardorelga_item {
     uint32_t kind;

@@ -136,12 +136,53 @@ fn a_program_in_cpp() {
     says_what_is_due(&compiled(CHECK, "check-cpp", &["g++", "-std=c++11", "-x", "c++"]));
 }
 
+const ITEMS: &str = "host/tardorelga/tests/c/items.c";
+
+const ITEMS_OF_LEDGER: &str = "\
+VOL 1, 80 at 8, 0: 1 5 11 12 25 38 52 80
+HDR 1, 80 at 91, 1: 1 5 22 28 32 36 40 42 48 54 55 61 74
+HDR 2, 80 at 174, 1: 1 5 6 11 16 51 53
+tape mark 0, 0 at 257, 2:
+data block 0, 10 at 260, 2:
+tape mark 0, 0 at 273, 0:
+EOF 1, 80 at 276, 0: 1 5 22 28 32 36 40 42 48 54 55 61 74
+EOF 2, 80 at 359, 0: 1 5 6 11 16 51 53
+tape mark 0, 0 at 442, 0:
+tape mark 0, 0 at 445, 0:
+end of reel 0, 0 at 448, 0:
+end 0, 0 at 448, 0:
+file at 91 and 174
+files end with 13
+";
+
+/// Items, fields and files are found without a check, in what is torn and in nothing too.
+#[test]
+fn items_in_c() {
+    for (name, compiler) in [
+        ("items-c89", &["gcc", "-std=c89", "-Wconversion"][..]),
+        ("items-c11", &["gcc", "-std=c11", "-Wconversion"]),
+        ("items-cpp", &["g++", "-std=c++11", "-Wconversion", "-x", "c++"]),
+    ] {
+        let program = compiled(ITEMS, name, compiler);
+        let says =
+            |image: &[u8], due: &str| assert_eq!(said(&program, image), (due.into(), Some(0)));
+        says(&image_of(&base()), ITEMS_OF_LEDGER);
+        says(b"", "end 0, 0 at 5, 0:\nfiles end with 13\n");
+        let torn = "tape mark 0, 0 at 8, 0:\ntorn 0, 4 at 8, 0:\nfiles end with 13\n";
+        says(b"TGI\0\x01\0\0\0\0\0\x02A", torn);
+    }
+}
+
 /// The header needs no other before it, in either language, and may be included twice.
 #[test]
 fn the_header_alone() {
-    for (compiler, standard, language) in
-        [("gcc", "-std=c99", "c"), ("gcc", "-std=c17", "c"), ("g++", "-std=c++11", "c++")]
-    {
+    for (compiler, standard, language) in [
+        ("gcc", "-std=c89", "c"),
+        ("gcc", "-std=c99", "c"),
+        ("gcc", "-std=c17", "c"),
+        ("g++", "-std=c++11", "c++"),
+        ("g++", "-std=c++20", "c++"),
+    ] {
         let mut child = Command::new(compiler)
             .args([standard, "-Wall", "-Wextra", "-Wpedantic", "-Werror", "-fsyntax-only", "-I"])
             .arg(root().join("include"))
