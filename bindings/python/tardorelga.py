@@ -32,7 +32,11 @@ import os
 import typing
 
 __all__ = [
+    "HIGHEST_QUOTA",
     "LONGEST_IMAGE",
+    "LONGEST_RECORD",
+    "MOST_FILES",
+    "MOST_REELS",
     "Field",
     "File",
     "Item",
@@ -57,10 +61,14 @@ __all__ = [
 ]
 __version__ = "0.1.0"
 
+# Limits: bytes of an image and of a record, files and reels of a set, data blocks that a reel may be allowed.
 LONGEST_IMAGE = 16_777_215
-_LONGEST_RECORD = 99_999
+LONGEST_RECORD = 99_999
+MOST_FILES = 64
+MOST_REELS = 16
+HIGHEST_QUOTA = 999_999
+
 _LONGEST_LISTING = 4_096
-_MOST_REELS = 16
 _LABEL = 80
 _FIRST_ITEM = 5
 
@@ -329,8 +337,8 @@ def record(image: _BytesLike, file_number: int, number: int) -> bytes:
     """Record number number of file number file_number, both from 1."""
     image = _bytes(image, "image")
     wanted = _number(file_number, "file_number"), _number(number, "number")
-    join = ctypes.create_string_buffer(_LONGEST_RECORD)
-    found = _call("record", image, len(image), *wanted, join, _LONGEST_RECORD)
+    join = ctypes.create_string_buffer(LONGEST_RECORD)
+    found = _call("record", image, len(image), *wanted, join, LONGEST_RECORD)
     found.verdict.raise_refused()
     return _part(image, join, found)
 
@@ -342,7 +350,8 @@ def records(image: _BytesLike, file_number: int) -> typing.Iterator[bytes]:
 
 
 def write(set_identifier: _Text, files: typing.Iterable[File], quota: int, reels: typing.Iterable[_Text]) -> bytes:
-    """The image of an order sheet: a set identifier, files, how many data blocks a reel may hold, reel names."""
+    """The image of an order sheet: a set identifier, files, how many data blocks a reel may hold, 1 to HIGHEST_QUOTA,
+    and the names of reels, 1 to MOST_REELS, of which as many as needed are written."""
     entries, counts, lengths, data = b"", array.array("Q"), array.array("Q"), bytearray()
     for ordered in _several(files, "files"):
         if not isinstance(ordered, File):
@@ -359,7 +368,7 @@ def write(set_identifier: _Text, files: typing.Iterable[File], quota: int, reels
 
 
 def rewrite(image: _BytesLike, quota: int, reels: typing.Iterable[_Text]) -> bytes:
-    """The normal form of a set: the same for all sets of one meaning."""
+    """The normal form of a set, the same for all sets of one meaning, with this quota on these reels, as in write()."""
     image = _bytes(image, "image")
     return _written("rewrite", LONGEST_IMAGE, *_lent(image), _number(quota, "quota"), *_lent(_names(reels)))
 
@@ -376,8 +385,8 @@ def to_simh(image: _BytesLike) -> typing.List[bytes]:
     """The reels of an image as tape files of SIMH, the bytes of each. Labels are not looked at."""
     image = _bytes(image, "image")
     longest = min(len(image), LONGEST_IMAGE) * 5 // 2
-    out, lengths = ctypes.create_string_buffer(longest or 1), (_u64 * _MOST_REELS)()
-    tapes = _call("to_simh", image, len(image), out, longest, lengths, _MOST_REELS)
+    out, lengths = ctypes.create_string_buffer(longest or 1), (_u64 * MOST_REELS)()
+    tapes = _call("to_simh", image, len(image), out, longest, lengths, MOST_REELS)
     tapes.verdict.raise_refused()
     tape, ends = ctypes.string_at(out, tapes.len), itertools.accumulate(lengths[: tapes.files])
     return [tape[end - length : end] for end, length in zip(ends, lengths)]

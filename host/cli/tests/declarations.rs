@@ -1,5 +1,5 @@
-//! The C header, the Rust library and the Python module declare the same structs, to the byte, and the same
-//! functions.
+//! The C header, the Rust library and the Python module declare the same structs, to the byte, the same
+//! functions and the same limits.
 
 mod common;
 
@@ -114,6 +114,22 @@ fn structs() {
     assert!(due.len() > 40, "{due:?}");
     assert_eq!(structs_of_rust(), due);
     assert_eq!(python(STRUCTS_OF_PYTHON), due);
+}
+
+/// Each limit that Python has is the header's.
+#[test]
+fn limits() {
+    let limits = ["LONGEST_IMAGE", "LONGEST_RECORD", "MOST_FILES", "MOST_REELS", "HIGHEST_QUOTA"];
+    let header = header();
+    let defined = |limit: &&str| {
+        let line = format!("#define TARDORELGA_{limit} ");
+        let value = header.lines().find_map(|text| text.strip_prefix(&line)).expect("a limit");
+        format!("{limit} {value}")
+    };
+    let program = format!(
+        "import tardorelga\nfor limit in {limits:?}:\n    print(limit, getattr(tardorelga, limit))"
+    );
+    assert_eq!(python(&program), limits.iter().map(defined).collect());
 }
 
 /// The type of C that Rust writes so.

@@ -87,6 +87,8 @@ pub const LONGEST_IMAGE: usize = 16_777_215;
 pub const MOST_FILES: usize = 64;
 /// No set has more reels.
 pub const MOST_REELS: usize = 16;
+/// No reel may be allowed more data blocks by an order sheet.
+pub const HIGHEST_QUOTA: u64 = 999_999;
 /// No record has more bytes: a joining buffer of so many takes any.
 pub const LONGEST_RECORD: usize = 99_999;
 /// No listing has more bytes.

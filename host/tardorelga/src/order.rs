@@ -1,6 +1,6 @@
 //! An order sheet that is put together piece by piece.
 
-use crate::{write, File, Format, Sheet, Verdict, LONGEST_IMAGE};
+use crate::{write, File, Format, Sheet, Verdict, HIGHEST_QUOTA, LONGEST_IMAGE};
 use std::fmt;
 
 /// An order sheet of its own bytes: set identifier, quota, reel names, and files with their records.
@@ -24,9 +24,6 @@ pub struct Order {
     names: Vec<u8>,
 }
 
-/// The highest quota, so that as few reels as can be are needed.
-const USUAL_QUOTA: u64 = 999_999;
-
 /// What a value that does not fit its field is put down as: no label can hold it, so that the library
 /// refuses the sheet.
 const UNFIT: u8 = 0;
@@ -47,7 +44,8 @@ fn number<const WIDTH: usize>(value: u32) -> [u8; WIDTH] {
 }
 
 impl Order {
-    /// An order for a set of this identifier, without reels and files, and with the quota 999,999.
+    /// An order for a set of this identifier, without reels and files, and with the highest quota, so that as
+    /// few reels as can be are needed.
     pub fn new(set: &str) -> Order {
         Order {
             set: text(set),
@@ -55,7 +53,7 @@ impl Order {
             counts: Vec::new(),
             lengths: Vec::new(),
             data: Vec::new(),
-            quota: USUAL_QUOTA,
+            quota: HIGHEST_QUOTA,
             names: Vec::new(),
         }
     }

@@ -278,6 +278,7 @@ fn the_limits_are_those_of_the_library() {
         ("LONGEST_LISTING", tardorelga::LONGEST_LISTING),
         ("MOST_FILES", tardorelga::MOST_FILES),
         ("MOST_REELS", tardorelga::MOST_REELS),
+        ("HIGHEST_QUOTA", tardorelga::HIGHEST_QUOTA as usize),
     ];
     limits.iter().for_each(|(name, limit)| assert_eq!(constant(name), limit.to_string()));
 }
