@@ -144,7 +144,7 @@ typedef struct tardorelga_walk {
 
 /*
  * A file: the places in the image of its first HDR1 and HDR2 label, 80 bytes each, and the walk before its
- * first record; with a refusal all is 0.
+ * first record; with a refusal all is 0. Of a set that was not checked only HDR2 is sure to be there.
  */
 typedef struct tardorelga_begun {
     tardorelga_verdict verdict;
@@ -158,14 +158,17 @@ tardorelga_begun tardorelga_begin(const uint8_t *image, size_t image_len, uint64
 
 /*
  * The first file of an image, whatever its bytes: the set is not checked, and the file is where the first
- * header labels seem to stand. 13 where there is none.
+ * header labels seem to stand. 13 where there is none. In a set that is refused HDR2 may stand without HDR1:
+ * then first is image_len, where nothing is to be read.
  */
 tardorelga_begun tardorelga_first_file(const uint8_t *image, size_t image_len);
 
 /*
  * The file behind the one whose HDR1 and HDR2 stand at these places, which are first and second of the
  * answer before; behind the last one 13. The set is not checked: after tardorelga_begin(image, image_len,
- * 1) has accepted it, the files come one by one in one pass. The places may be anything.
+ * 1) has accepted it, the files come one by one in one pass. The places may be anything; where no HDR1 comes
+ * before the next HDR2, which no accepted set has, first is the one that was handed in, be it in the image
+ * or not.
  */
 tardorelga_begun tardorelga_next_file(const uint8_t *image, size_t image_len, uint64_t first,
                                       uint64_t second);

@@ -155,6 +155,22 @@ file at 91 and 174
 files end with 13
 ";
 
+/// Without any HDR1 the place of the first is the end of the image, which goes from file to file.
+const WITHOUT_FIRST_HEADER: &str = "\
+VOL 1, 80 at 8, 0: 1 5 11 12 25 38 52 80
+HDR 2, 80 at 91, 1: 1 5 6 11 16 51 53
+HDR 2, 80 at 174, 1: 1 5 6 11 16 51 53
+end 0, 0 at 254, 0:
+file at 254 and 91
+file at 254 and 174
+files end with 13
+";
+
+fn without_first_header() -> Vec<u8> {
+    let label = |name: &str| [&[0, 0, 80], format!("{name:80}").as_bytes()].concat();
+    [b"TGI\0\x01".to_vec(), label("VOL1"), label("HDR2"), label("HDR2")].concat()
+}
+
 /// Items, fields and files are found without a check, in what is torn and in nothing too.
 #[test]
 fn items_in_c() {
@@ -170,6 +186,7 @@ fn items_in_c() {
         says(b"", "end 0, 0 at 5, 0:\nfiles end with 13\n");
         let torn = "tape mark 0, 0 at 8, 0:\ntorn 0, 4 at 8, 0:\nfiles end with 13\n";
         says(b"TGI\0\x01\0\0\0\0\0\x02A", torn);
+        says(&without_first_header(), WITHOUT_FIRST_HEADER);
     }
 }
 
