@@ -229,8 +229,8 @@ class File:
 
 
 class Records:
-    """The records of a file that was read, one after the other, as often as they are asked for. Two are equal where
-    they hold the same records."""
+    """The records of a file that was read, one after the other, as often as they are asked for; len() tells how many they
+    are, and byte_count how many bytes they have together. Two are equal where they hold the same records."""
 
     def __init__(self, image: bytes, walk: "_Walk") -> None:
         self._image, self._walk = _bytes(image, "image"), walk
@@ -255,7 +255,8 @@ class Records:
 
 @dataclasses.dataclass
 class TapeFile(File):
-    """A file as it was read: its fields without what fills them up, and its records. It can be ordered again."""
+    """A file as it was read: its fields without what fills them up, and its records. Its sequence is its number in the
+    set, from 1. It can be ordered again."""
 
     identifier: str
     record_format: str

@@ -700,7 +700,8 @@ class Module(unittest.TestCase):
                 yield name, value
             if inspect.isclass(value):
                 own = [(key, method) for key, method in vars(value).items() if not key.startswith("_")]
-                yield from ((f"{name}.{key}", method) for key, method in own if inspect.isfunction(method))
+                methods = [(key, method.fget if isinstance(method, property) else method) for key, method in own]
+                yield from ((f"{name}.{key}", method) for key, method in methods if inspect.isfunction(method))
 
     def test_no_name_shadows_a_builtin(self):
         words = dir(builtins)
