@@ -229,8 +229,8 @@ class File:
 
 
 class Records:
-    """The records of a file that was read, one after the other, as often as they are asked for; len() tells how many they
-    are, and byte_count how many bytes they have together. Two are equal where they hold the same records."""
+    """The records of a file that was read, one after the other, as often as they are asked for; len() tells how many
+    they are, and byte_count how many bytes they have together. Two are equal where they hold the same records."""
 
     def __init__(self, image: bytes, walk: "_Walk") -> None:
         self._image, self._walk = _bytes(image, "image"), walk
@@ -272,8 +272,7 @@ class TapeFile(File):
         return self.records.byte_count
 
 
-@dataclasses.dataclass(frozen=True)
-class Item:
+class Item(typing.NamedTuple):
     """An item of an image. Its kind is the name of a label, such as "HDR1" or "UHL", or "data block", "tape mark", "end
     of reel", "no label" for a block where a label is due, "end" for the end of the image, or "torn" for a bad
     length or an item cut short. Its number counts from 0 over the whole image. Its content, at place at of the image,
@@ -282,8 +281,12 @@ class Item:
     kind: str
     number: int
     at: int
-    content: bytes = dataclasses.field(repr=False)
+    content: bytes
     behind: int
+
+    def __repr__(self) -> str:
+        # Without its content, which may be long.
+        return f"<Item {self.number}: {self.kind}, {len(self.content)} bytes at {self.at}>"
 
 
 class Field(typing.NamedTuple):
@@ -694,15 +697,15 @@ def _part(image: bytes, join: typing.Any, found: typing.Any) -> bytes:
 
 
 def _items(image: bytes) -> typing.Iterator[Item]:
-    at, group = _FIRST_ITEM, 0
+    length, at, group = len(image), _FIRST_ITEM, 0
     for number in itertools.count():
-        found = _call("item_at", image, len(image), at, group)
-        at, group = found.behind, found.group
+        found = _call("item_at", image, length, at, group)
+        kind, start, at, group = found.kind, found.start, found.behind, found.group
+        content = image[start : start + found.len]
         # An image that is shorter than a head ends before the first item's place.
-        behind = min(at, len(image))
-        content = image[found.start : found.start + found.len]
-        yield Item(_kind_of(found.kind, found.number), number, behind - len(content), content, behind)
-        if found.kind in (_END, _TORN):
+        behind = min(at, length)
+        yield Item(_kind_of(kind, found.number), number, behind - len(content), content, behind)
+        if kind in (_END, _TORN):
             return
 
 
