@@ -516,14 +516,14 @@ def _text(value: _Text, width: int, what: str) -> bytes:
     return text.ljust(width)
 
 
-def _kind_of(family: int, number: int) -> str:
+def _item_kind(family: int, number: int) -> str:
     """The name of the library's two numbers of a kind."""
     name = _KINDS[family]
     return f"{name}{number}" if name in _NUMBERED else name
 
 
 _FAMILIES = {
-    _kind_of(family, number): (family, number)
+    _item_kind(family, number): (family, number)
     for family, name in enumerate(_KINDS)
     for number in (range(1, 10) if name in _NUMBERED else [0])
 }
@@ -704,7 +704,7 @@ def _items(image: bytes) -> typing.Iterator[Item]:
         content = image[start : start + found.len]
         # An image that is shorter than a head ends before the first item's place.
         behind = min(at, length)
-        yield Item(_kind_of(kind, found.number), number, behind - len(content), content, behind)
+        yield Item(_item_kind(kind, found.number), number, behind - len(content), content, behind)
         if kind in (_END, _TORN):
             return
 
