@@ -26,6 +26,7 @@ import array
 import collections.abc
 import ctypes
 import dataclasses
+import functools
 import itertools
 import operator
 import os
@@ -428,20 +429,16 @@ def fields(kind: str) -> typing.List[Field]:
     >>> [field.name for field in fields("UHL")]
     ['label name', 'label number', "user's text"]
     """
-    found, following = [], field(kind, 1)
-    while following:
-        found.append(following)
-        following = field(kind, following.last + 1)
-    return found
+    _family(kind)
+    return [*_fields(kind)]
 
 
 def reel_names(image: _BytesLike) -> typing.List[str]:
     """The names of the reels of a set, the volume identifiers of its VOL1 labels, without the SPACEs behind them."""
     image = _bytes(image, "image")
     _call("check", image, len(image)).raise_refused()
-    volumes = [item.content for item in _items(image) if item.kind == "VOL1"]
-    (name,) = (field for field in fields("VOL1") if field.name == "volume identifier")
-    return [name.of(volume).decode("ascii").rstrip(" ") for volume in volumes]
+    volumes = [item for item in _items(image) if item.kind == "VOL1"]
+    return [_texts(volume.kind, image, volume.at)["volume identifier"].rstrip(" ") for volume in volumes]
 
 
 # ---- values as the library takes them
@@ -664,21 +661,26 @@ def _following(image: bytes, begun: _Begun) -> typing.Iterator[TapeFile]:
 
 
 def _tape_file(image: bytes, begun: _Begun) -> TapeFile:
-    first = image[begun.first : begun.first + 80].decode("latin-1")
-    second = image[begun.second : begun.second + 80].decode("latin-1")
+    first, second = _texts("HDR1", image, begun.first), _texts("HDR2", image, begun.second)
     return TapeFile(
-        identifier=first[4:21].rstrip(" "),
-        record_format=second[4],
-        block_length=int(second[5:10]),
-        record_length=int(second[10:15]),
+        identifier=first["file identifier"].rstrip(" "),
+        record_format=second["record format"],
+        block_length=int(second["block length"]),
+        record_length=int(second["record length"]),
         records=Records(image, begun.walk),
-        generation=int(first[35:39]),
-        version=int(first[39:41]),
-        created=first[41:47],
-        expires=first[47:53],
-        sequence=int(first[31:35]),
-        set_identifier=first[21:27].rstrip(" "),
+        generation=int(first["generation number"]),
+        version=int(first["version number"]),
+        created=first["creation date"],
+        expires=first["expiration date"],
+        sequence=int(first["sequence number"]),
+        set_identifier=first["set identifier"].rstrip(" "),
     )
+
+
+def _texts(kind: str, image: bytes, at: int) -> typing.Dict[str, str]:
+    """What the label of this kind at a place holds, by the names of its fields."""
+    label = image[at : at + _LABEL]
+    return {field.name: field.of(label).decode("latin-1") for field in _fields(kind)}
 
 
 def _walked(image: bytes, walk: _Walk) -> typing.Iterator[bytes]:
@@ -694,6 +696,16 @@ def _walked(image: bytes, walk: _Walk) -> typing.Iterator[bytes]:
 def _part(image: bytes, join: typing.Any, found: typing.Any) -> bytes:
     """A record of several segments was joined in the buffer; any other is a part of the image."""
     return ctypes.string_at(join, found.len) if found.joined else image[found.start : found.start + found.len]
+
+
+@functools.lru_cache(maxsize=None)
+def _fields(kind: str) -> typing.Tuple[Field, ...]:
+    """They are the same at every call, and each of them takes many calls of the library."""
+    found, following = [], field(kind, 1)
+    while following:
+        found.append(following)
+        following = field(kind, following.last + 1)
+    return tuple(found)
 
 
 def _items(image: bytes) -> typing.Iterator[Item]:

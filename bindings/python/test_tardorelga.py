@@ -446,8 +446,9 @@ class Items(Case):
                 tardorelga.field("HDR1", wrong)
         for call in tardorelga.fields, lambda kind: tardorelga.field(kind, 1):
             for wrong in 3, None, b"HDR1", ["HDR1"]:
-                with self.assertRaises(TypeError, msg=repr(wrong)):
+                with self.assertRaises(TypeError) as raised:
                     call(wrong)
+                self.assertEqual(str(raised.exception), f"kind is str, not {type(wrong).__name__}")
             for wrong in "", "HDR", "HDR0", "HDR10", "hdr1", "UHL1", "HDR1 ":
                 with self.assertRaises(ValueError, msg=repr(wrong)):
                     call(wrong)

@@ -2,7 +2,7 @@
 
 use crate::ffi::Begun;
 use crate::records::{begun, Facts, Records};
-use crate::{Format, Verdict};
+use crate::{field, Format, Kind, Verdict};
 use std::fmt;
 
 /// A file of an accepted set: the fields of its first header labels that have a meaning, and its records.
@@ -42,53 +42,53 @@ impl<'a> File<'a> {
 
     /// The set identifier, without the SPACEs that fill its field.
     pub fn set(&self) -> &'a str {
-        text(&self.first()[21..27]).trim_end_matches(' ')
+        text(self.set_identifier()).trim_end_matches(' ')
     }
 
     /// The file identifier, without the SPACEs that fill its field.
     pub fn identifier(&self) -> &'a str {
-        text(&self.first()[4..21]).trim_end_matches(' ')
+        text(self.of_first(5)).trim_end_matches(' ')
     }
 
     /// The sequence number of the file in its set, from 1.
     pub fn sequence(&self) -> u32 {
-        number(&self.first()[31..35])
+        number(self.of_first(32))
     }
 
     /// The generation number.
     pub fn generation(&self) -> u32 {
-        number(&self.first()[35..39])
+        number(self.of_first(36))
     }
 
     /// The version of the generation.
     pub fn version(&self) -> u32 {
-        number(&self.first()[39..41])
+        number(self.of_first(40))
     }
 
     /// The creation date of section 0001, six characters: SPACE or `0`, year and day. They stay as they
     /// stand there, since ` 00000` and `000000` are two values.
     pub fn created(&self) -> &'a str {
-        text(&self.first()[41..47])
+        text(self.of_first(42))
     }
 
     /// The expiration date of section 0001, in the same form.
     pub fn expires(&self) -> &'a str {
-        text(&self.first()[47..53])
+        text(self.of_first(48))
     }
 
     /// How its records stand in its blocks.
     pub fn format(&self) -> Format {
-        Format::of(self.second()[4]).expect("an accepted file has a format")
+        Format::of(self.of_second(5)[0]).expect("an accepted file has a format")
     }
 
     /// The block length B.
     pub fn block_length(&self) -> u32 {
-        number(&self.second()[5..10])
+        number(self.of_second(6))
     }
 
     /// The record length R.
     pub fn record_length(&self) -> u32 {
-        number(&self.second()[10..15])
+        number(self.of_second(11))
     }
 
     /// Its records, in order; their number is the iterator's `len()`.
@@ -113,10 +113,11 @@ impl<'a> File<'a> {
     /// assert_eq!(&file.entry(), b"LEDGER           000100 85335 00000F0002000010");
     /// ```
     pub fn entry(&self) -> [u8; 46] {
+        let first = [5, 36, 40, 42, 48].map(|position| self.of_first(position));
+        let second = [5, 6, 11].map(|position| self.of_second(position));
         let mut entry = [0; 46];
-        entry[..17].copy_from_slice(&self.first()[4..21]);
-        entry[17..35].copy_from_slice(&self.first()[35..53]);
-        entry[35..].copy_from_slice(&self.second()[4..15]);
+        let bytes = first.into_iter().chain(second).flatten();
+        entry.iter_mut().zip(bytes).for_each(|(to, byte)| *to = *byte);
         entry
     }
 
@@ -128,18 +129,27 @@ impl<'a> File<'a> {
     /// ```
     pub fn set_entry(&self) -> [u8; 6] {
         let mut entry = [0; 6];
-        entry.copy_from_slice(&self.first()[21..27]);
+        entry.copy_from_slice(self.set_identifier());
         entry
     }
 
-    /// Its first HDR1 label.
-    fn first(&self) -> &'a [u8] {
-        &self.image[self.begun.first as usize..][..80]
+    fn set_identifier(&self) -> &'a [u8] {
+        self.of_first(22)
     }
 
-    /// Its first HDR2 label.
-    fn second(&self) -> &'a [u8] {
-        &self.image[self.begun.second as usize..][..80]
+    /// The field of its first HDR1 label that begins at this position.
+    fn of_first(&self, position: u32) -> &'a [u8] {
+        self.part(Kind::Hdr(1), self.begun.first, position)
+    }
+
+    /// The field of its first HDR2 label that begins at this position.
+    fn of_second(&self, position: u32) -> &'a [u8] {
+        self.part(Kind::Hdr(2), self.begun.second, position)
+    }
+
+    fn part(&self, kind: Kind, label: u64, position: u32) -> &'a [u8] {
+        let field = field(kind, position).expect("the label has a field there");
+        field.of(&self.image[label as usize..])
     }
 }
 
