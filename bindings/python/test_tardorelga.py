@@ -7,6 +7,7 @@ import dataclasses
 import doctest
 import inspect
 import mmap
+import multiprocessing
 import os
 import pathlib
 import pickle
@@ -277,10 +278,13 @@ class Refusals(Case):
             self.assertEqual((again.number, again.item, again.byte), (6, 6, 55))
 
     def test_a_refusal_crosses_a_process_pool(self):
-        with concurrent.futures.ProcessPoolExecutor(1) as pool:
-            self.assertTrue(pool.submit(tardorelga.check, sample("ledger")).result())
-            refused = self.refuses(4, pool.submit(tardorelga.rewrite, sample("refused-4"), 1, ["A"]).result)
-            self.assertEqual(refused.verdict, (4, 1, 42))
+        for start in "fork", "spawn":
+            context = multiprocessing.get_context(start)
+            with concurrent.futures.ProcessPoolExecutor(1, context) as pool:
+                self.assertTrue(pool.submit(tardorelga.check, sample("ledger")).result())
+                refused = self.refuses(4, pool.submit(tardorelga.rewrite, sample("refused-4"), 1, ["A"]).result)
+                self.assertEqual(refused.verdict, (4, 1, 42))
+                self.assertEqual(pool.submit(tardorelga.reel_names, sample("ledger")).result(), ["GATE01"])
 
 
 class Files(Case):
