@@ -3,7 +3,9 @@
 
 mod common;
 
-use common::root;
+use common::{folder, names_in, root};
+use std::fs::{self, Permissions};
+use std::os::unix::fs::PermissionsExt;
 use std::path::PathBuf;
 use std::process::Command;
 use tardorelga::{Field, Item, Kind, Verdict};
@@ -121,6 +123,30 @@ fn each_item_is_that_of_the_rust_library() {
          print(item.kind, item.number, item.at, len(item.content), item.behind, sep=', ')"
     );
     assert_eq!(python(&program), due);
+}
+
+/// A build that fails leaves nothing behind it, and one that is done the shared object alone.
+#[test]
+fn what_a_build_leaves() {
+    let tree = folder("python-build");
+    let (place, archive) = (tree.join("bindings/python"), tree.join("target/staticlib"));
+    [&place, &archive].iter().for_each(|folder| fs::create_dir_all(folder).expect("a folder"));
+    let copy = |from: &str, to: PathBuf| fs::copy(root().join(from), to).expect("a copy");
+    copy("bindings/python/build", place.join("build"));
+    copy("target/staticlib/libtardorelga.a", archive.join("libtardorelga.a"));
+    let build = |path: &str| {
+        let mut command = Command::new("bash");
+        command.arg(place.join("build")).env("PATH", path).output().expect("bash").status.success()
+    };
+    // A compiler that fails when it has written half of its output.
+    let half = "#!/bin/sh\nwhile [ \"$1\" != -o ]; do shift; done\necho half > \"$2\"\nexit 1\n";
+    fs::write(tree.join("gcc"), half).expect("a script");
+    fs::set_permissions(tree.join("gcc"), Permissions::from_mode(0o755)).expect("its mode");
+    let path = std::env::var("PATH").expect("a path");
+    assert!(!build(&format!("{}:{path}", tree.display())));
+    assert_eq!(names_in(&place), ["build"]);
+    assert!(build(&path));
+    assert_eq!(names_in(&place), ["build", "libtardorelga.so"]);
 }
 
 /// Programs that were linked with it ask for it by this name, and find nothing else in it.
