@@ -4,7 +4,6 @@ use cases::ledger::{base, files};
 use oracle::generate::{illegal_order, image_of, legal_order, whole, Rng};
 use oracle::{meaning, Answer, Meaning, Order};
 use std::borrow::Cow;
-use std::time::{Duration, Instant};
 use tardorelga::{Sheet, Verdict};
 use trials::images;
 
@@ -164,31 +163,6 @@ fn debug() {
         format!("{:?}", tardorelga::items(&image[..image.len() - 1]).last()),
     ];
     shown.iter().for_each(|text| assert!(text.len() < 600, "{} bytes: {text:.600}", text.len()));
-}
-
-/// The shortest time that a call takes of some.
-fn time(call: impl Fn() -> usize) -> Duration {
-    let timed = |_| {
-        let begun = Instant::now();
-        assert_eq!(call(), 64);
-        begun.elapsed()
-    };
-    (0..5).map(timed).min().expect("a time")
-}
-
-/// One check and a pass, where by number each file takes a check of the whole set.
-#[test]
-fn the_files_of_a_set_take_one_check() {
-    let mut order = tardorelga::Order::new("MANY");
-    order.reel("GATE01");
-    for _ in 0..64 {
-        order.file("MANY", tardorelga::Format::Variable, 2048, 24).records([[b'A'; 20]; 500]);
-    }
-    let image = order.write().expect("a set");
-    let in_one_pass = time(|| tardorelga::files(&image).expect("a set").count());
-    let by_number = |number| tardorelga::file(&image, number).is_ok();
-    let in_many = time(|| (1..=64).filter(|number| by_number(*number)).count());
-    assert!(8 * in_one_pass < in_many, "{in_one_pass:?} {in_many:?}");
 }
 
 /// All that is read or put together may be handed to other threads, and lent to them.
