@@ -5,9 +5,9 @@
 //! removed under one lock; a signal waits for it, and so never comes between two steps that belong together.
 
 use crate::system::{self, Signals};
-use std::fs::{self, DirBuilder, File, OpenOptions};
+use std::fs::{self, DirBuilder, File, OpenOptions, Permissions};
 use std::io::{self, ErrorKind};
-use std::os::unix::fs::{DirBuilderExt, OpenOptionsExt};
+use std::os::unix::fs::{DirBuilderExt, MetadataExt, OpenOptionsExt, PermissionsExt};
 use std::path::{Path, PathBuf};
 use std::sync::{Mutex, MutexGuard, PoisonError};
 use std::thread;
@@ -116,12 +116,24 @@ fn end_on(signals: &Signals) {
     signals.die_of(signal)
 }
 
-/// A folder may still be filled meanwhile, by the thread that ends next; once it is gone it can't be.
 fn remove(path: &Path) {
-    if fs::remove_file(path).is_err() {
-        let is_filled = |error: io::Error| error.kind() == ErrorKind::DirectoryNotEmpty;
-        while fs::remove_dir_all(path).is_err_and(is_filled) {}
+    match fs::remove_file(path) {
+        Err(error) if error.kind() == ErrorKind::IsADirectory => remove_folder(path),
+        _ => {}
     }
+}
+
+/// A folder may have the mode of a read-only one already, or get it meanwhile, and be filled meanwhile, by the
+/// thread that ends next; once it is gone it can't be.
+fn remove_folder(path: &Path) {
+    let open = || fs::set_permissions(path, Permissions::from_mode(0o700));
+    let is_closed = || fs::metadata(path).is_ok_and(|there| there.mode() & 0o700 != 0o700);
+    let _ = open();
+    while fs::remove_dir_all(path).is_err_and(|error| match error.kind() {
+        ErrorKind::DirectoryNotEmpty => true,
+        ErrorKind::PermissionDenied => is_closed() && open().is_ok(),
+        _ => false,
+    }) {}
 }
 
 /// A written file, and the place to which it goes.

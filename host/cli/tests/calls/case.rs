@@ -31,6 +31,11 @@ pub fn an_empty_folder(folder: &Path) {
     fs::create_dir(folder.join("out")).unwrap();
 }
 
+pub fn a_read_only_folder(folder: &Path) {
+    an_empty_folder(folder);
+    fs::set_permissions(folder.join("out"), fs::Permissions::from_mode(0o500)).unwrap();
+}
+
 pub fn an_old_reel(folder: &Path) {
     fs::write(folder.join("out-1.tap"), "old").unwrap();
 }

@@ -2,7 +2,7 @@
 
 use crate::case::*;
 use crate::common::names_in;
-use crate::trace::{Call, Traced};
+use crate::trace::{bind_to_modes, Call, Traced};
 use std::collections::BTreeSet;
 use std::fs;
 use std::os::unix::fs::{MetadataExt, PermissionsExt};
@@ -90,6 +90,25 @@ fn a_folder_that_is_filled_meanwhile_is_left_alone() {
             assert_eq!(temporaries(&case.folder), [""; 0]);
         }
     }
+}
+
+/// The temporary folder has the mode of the old one shortly before it takes its place, which is lost here.
+#[test]
+fn nothing_is_left_of_a_folder_that_is_read_only_already() {
+    let case = Case::new("came-read-only", UNPACK, a_read_only_folder);
+    case.fresh();
+    let mut command = case.command();
+    bind_to_modes(&mut command);
+    let mut traced = Traced::start(&mut command);
+    let is_read_only = |name: &String| mode(&case.folder.join(name)) & 0o777 == 0o500;
+    while !temporaries(&case.folder).iter().any(is_read_only) {
+        traced = traced.step().ok().expect("a folder with the old one's mode");
+    }
+    fs::remove_dir(case.folder.join("out")).unwrap();
+    fs::write(case.folder.join("out"), "another's").unwrap();
+    assert_eq!(traced.go_on().status.code(), Some(2));
+    assert_eq!(fs::read(case.folder.join("out")).unwrap(), b"another's");
+    assert_eq!(names_in(&case.folder), ["out"]);
 }
 
 #[test]

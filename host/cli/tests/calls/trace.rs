@@ -1,7 +1,7 @@
 //! Runs a command under ptrace, from one system call of its main thread to the next. Its other thread, which
 //! waits for signals, runs freely. Where the system does not permit this, the tests fail.
 
-use std::ffi::{c_int, c_long, c_void};
+use std::ffi::{c_int, c_long, c_ulong, c_void};
 use std::io::{self, Read};
 use std::os::unix::process::{CommandExt, ExitStatusExt};
 use std::process::{Child, Command, ExitStatus, Stdio};
@@ -11,6 +11,7 @@ extern "C" {
     fn waitpid(process: c_int, status: *mut c_int, options: c_int) -> c_int;
     fn kill(process: c_int, signal: c_int) -> c_int;
     fn signal(signal: c_int, handler: usize) -> usize;
+    fn prctl(option: c_int, ...) -> c_int;
 }
 
 const TRACE_ME: c_int = 0;
@@ -65,6 +66,23 @@ pub fn ignore(command: &mut Command, number: c_int) {
     };
     // SAFETY: between fork and exec, one system call is made and nothing else.
     unsafe { command.pre_exec(ignore) };
+}
+
+/// Has a command begin without the right of the system's owner to read and write whatever the modes say.
+/// Who may not take it away has none.
+pub fn bind_to_modes(command: &mut Command) {
+    const DROP_FOR_GOOD: c_int = 24;
+    const OVERRIDE_MODES: c_ulong = 1;
+    const READ_AND_SEARCH: c_ulong = 2;
+    let bind = || {
+        for right in [OVERRIDE_MODES, READ_AND_SEARCH] {
+            // SAFETY: the call takes two numbers.
+            unsafe { prctl(DROP_FOR_GOOD, right) };
+        }
+        Ok(())
+    };
+    // SAFETY: between fork and exec, two system calls are made and nothing else.
+    unsafe { command.pre_exec(bind) };
 }
 
 impl Traced {
