@@ -1,9 +1,10 @@
 //! `export FILE -o NAME`: the reels of an image as files in SIMH's form, `NAME-1.tap` and so on.
 
-use crate::input;
+use crate::names::told;
 use crate::output::{self, Output};
 use crate::stop::{Status, Stop};
 use crate::words::Words;
+use crate::{input, streams};
 use std::ffi::OsStr;
 use std::os::unix::ffi::OsStrExt;
 use std::path::{Path, PathBuf};
@@ -25,15 +26,18 @@ pub fn run(words: &Words) -> Result<Status, Stop> {
     let written = tardorelga::to_simh(&image, &mut tapes, &mut lengths)
         .map_err(|verdict| Stop::refused(input::name(file), verdict))?;
     let reels = cut(&tapes, &lengths[..written.files]);
-    match (&reels[..], name == "-") {
+    match (&reels[..], output::is_stream(name)) {
         ([reel], true) => Output::of(words, &[file])?.write(reel),
-        (_, true) => Err(Stop::Trouble(format!(
-            "{}: has {} reels, and standard output takes one; name their files with -o NAME",
-            input::name(file),
-            reels.len()
-        ))),
+        (_, true) => Err(too_many(reels.len(), file, name)),
         _ => put(name, &reels, file, words.has("--force")),
     }
+}
+
+fn too_many(reels: usize, file: &OsStr, name: &OsStr) -> Stop {
+    let name = if name == "-" { streams::OUTPUT.into() } else { told(name) };
+    let file = input::name(file);
+    let to_do = "name their files with -o NAME";
+    Stop::Trouble(format!("{file}: has {reels} reels, and {name} takes one; {to_do}"))
 }
 
 fn cut<'a>(mut tapes: &'a [u8], lengths: &[u64]) -> Vec<&'a [u8]> {

@@ -55,6 +55,12 @@ impl Output {
     }
 }
 
+/// Whether a name is that of an open descriptor, a device or a pipe, which takes one output only.
+pub fn is_stream(name: &OsStr) -> bool {
+    let is_open = |place| matches!(place, Place::Open(_) | Place::DeviceOrPipe);
+    name == "-" || place(Path::new(name)).is_ok_and(is_open)
+}
+
 /// Writes files, all of them or none: each is whole beside its place before the first goes there.
 pub fn write_files(files: &[(PathBuf, &[u8])], force: bool) -> Result<Status, Stop> {
     put(files, force).map_err(|(at, error)| trouble(&files[at].0, error))?;

@@ -216,6 +216,24 @@ fn an_open_descriptor_is_written_through() {
     assert_eq!(names_in(&d), ["link", "log"]);
 }
 
+/// What export names is how the names of reels begin, but for these.
+#[test]
+fn a_reel_is_written_through_too() {
+    let d = folder("descriptor-reel");
+    let whole = shell("$T export samples/ledger.tgi -o -", &d).done().out;
+    for name in ["/dev/stdout", "/dev/fd/1", "/proc/self/fd/1"] {
+        fs::write(d.join("log"), "before\n").unwrap();
+        shell(&format!("$T export samples/ledger.tgi -o {name} >> $D/log"), &d).done();
+        assert_eq!(fs::read(d.join("log")).unwrap(), [b"before\n", &whole[..]].concat(), "{name}");
+        let several = format!("has 3 reels, and {name} takes one; name their files with -o NAME");
+        shell(&format!("$T export samples/messages.tgi -o {name}"), &d)
+            .told(2, &format!("samples/messages.tgi: {several}"));
+    }
+    let line = "mkfifo $D/pipe; $T export samples/ledger.tgi -o $D/pipe & cat $D/pipe; wait";
+    assert_eq!(shell(line, &d).done().out, whole);
+    assert_eq!(names_in(&d), ["log", "pipe"]);
+}
+
 #[test]
 fn a_descriptor_that_cannot_be_written_is_trouble() {
     let d = folder("no-descriptor");
