@@ -85,13 +85,24 @@ fn make<T>(place: &Path, create: impl Fn(&Path) -> io::Result<T>) -> io::Result<
         match create(&path) {
             Err(error) if error.kind() == ErrorKind::AlreadyExists => continue,
             other => {
-                let thing = other?;
+                let thing = other.map_err(unmade)?;
                 made.paths.push(path.clone());
                 return Ok((Temporary { path }, thing));
             }
         }
     }
     Err(io::Error::other("no free name for a temporary file beside it; run it again"))
+}
+
+/// What stands in the way is the folder in which it is made, and not the place itself, which may well be
+/// the user's own.
+fn unmade(error: io::Error) -> io::Error {
+    match error.kind() {
+        ErrorKind::PermissionDenied | ErrorKind::ReadOnlyFilesystem => io::Error::other(
+            "the folder around it may not be written to; choose a place in another one",
+        ),
+        _ => error,
+    }
 }
 
 /// Before the first of them is made, the signals that end the process are left to a thread that waits for
