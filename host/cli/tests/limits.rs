@@ -147,12 +147,27 @@ fn each_file_that_a_sheet_names_stays_in_its_folder() {
     let lines = ["lines ../a", "hex-lines ../a", "data ../a each 3", "data a lengths ../a"];
     for line in lines {
         put_sheet(&d.join("in"), line);
-        let out =
-            "expected a name within the folder of the sheet; ../a leads out of it, which only \
-                   pack --anywhere allows";
-        let sheet = d.join("in/sheet");
-        pack(&d, "$D/in/sheet").told(1, &format!("{}: line 8: {out}", sheet.display()));
+        told_to_lead_out(&d, "../a");
     }
+}
+
+fn told_to_lead_out(d: &Path, name: &str) {
+    let (sheet, what) = (d.join("in/sheet"), "expected a name within the folder of the sheet");
+    let out = format!("{what}; {name} leads out of it, which only pack --anywhere allows");
+    pack(d, "$D/in/sheet").told(1, &format!("{}: line 8: {out}", sheet.display()));
+}
+
+#[test]
+fn a_name_that_leads_out_is_refused_also_where_no_file_is() {
+    let d = folder("limits-nowhere");
+    fs::create_dir_all(d.join("in/sub")).unwrap();
+    for name in ["../none", "../none/none", "sub/../../none", "/none", "/none/../none"] {
+        put_sheet(&d.join("in"), &format!("lines {name}"));
+        told_to_lead_out(&d, name);
+    }
+    let none = "line 8: expected a file that can be read; none/none: No such file or directory";
+    put_sheet(&d.join("in"), "lines none/none");
+    pack(&d, "$D/in/sheet").told(2, &format!("{}: {none}", d.join("in/sheet").display()));
 }
 
 /// What stands between the quotes of an echo, or is told bare.

@@ -45,13 +45,15 @@ impl Source<'_> {
         }
     }
 
-    /// The path without links and dots, which is opened in place of the name.
+    /// The path without links and dots, which is opened in place of the name. A name that leads out is
+    /// refused whether a file is there or not, so that no sheet can find out.
     fn within(&self, path: &Path, told: &str) -> Result<PathBuf, Fault> {
-        let real = |path: &Path| path.canonicalize().map_err(|error| unread(told, error));
-        let (path, folder) = (real(path)?, real(self.folder)?);
-        match path.starts_with(folder) {
-            true => Ok(path),
-            false => Err(Fault::from(format!(
+        let folder = self.folder.canonicalize().map_err(|error| unread(told, error))?;
+        let is_within = |path: &PathBuf| path.starts_with(&folder);
+        match path.canonicalize() {
+            Ok(path) if is_within(&path) => Ok(path),
+            Err(error) if nearest(path).as_ref().is_some_and(is_within) => Err(unread(told, error)),
+            _ => Err(Fault::from(format!(
                 "expected a name within the folder of the sheet; {told} leads out of it, \
                  which only pack --anywhere allows"
             ))),
@@ -63,6 +65,11 @@ impl Source<'_> {
         let (name, file) = self.open(name)?;
         Ok(Named { name, text: Text::new(BufReader::with_capacity(1 << 16, file)) })
     }
+}
+
+/// The last folder on the way to a file that is not there or can't be reached.
+fn nearest(path: &Path) -> Option<PathBuf> {
+    path.ancestors().find_map(|path| path.canonicalize().ok())
 }
 
 /// What the system says of a file that the sheet names.
