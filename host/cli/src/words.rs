@@ -5,6 +5,7 @@ use crate::sheet::{self, Unfit};
 use crate::stop::Stop;
 use std::ffi::{OsStr, OsString};
 use std::os::unix::ffi::OsStrExt;
+use std::path::Path;
 
 /// The words of one command, sorted.
 pub struct Words {
@@ -36,7 +37,7 @@ impl Words {
             } else if let Some((option, value)) = joined(word, options) {
                 read.values.push((option, value));
             } else if word.as_bytes().starts_with(b"-") && word != "-" {
-                return Err(format!("no option {word:?} here"));
+                return Err(format!("no option {word:?} here{}", if_a_file(word)));
             } else {
                 read.plain.push(word.clone());
             }
@@ -99,6 +100,14 @@ impl Words {
     }
 }
 
+/// What to do where the word is the name of a file.
+fn if_a_file(word: &OsStr) -> &'static str {
+    match Path::new(word).symlink_metadata() {
+        Ok(_) => "; a file has this name, and is named behind --",
+        Err(_) => "",
+    }
+}
+
 fn some<'a>(words: &'a [OsString], what: &str) -> Result<&'a [OsString], Stop> {
     match words.is_empty() {
         true => Err(Stop::words(format!("no {what} is named"))),
@@ -121,15 +130,22 @@ fn exactly<'a, const N: usize>(
 
 /// `--quota=7`, as one word.
 fn joined(word: &OsStr, options: &[&'static str]) -> Option<(&'static str, OsString)> {
-    let (name, value) = word.to_str()?.split_once('=')?;
-    let long = |option: &&&str| option.starts_with("--") && **option == name;
-    Some((options.iter().find(long)?, value.into()))
+    let equals = word.as_bytes().iter().position(|&byte| byte == b'=')?;
+    let (name, value) = word.as_bytes().split_at(equals);
+    let long = |option: &&&str| option.starts_with("--") && option.as_bytes() == name;
+    Some((options.iter().find(long)?, OsStr::from_bytes(&value[1..]).into()))
 }
 
 /// A number as it stands on the command line.
 pub fn number(word: &OsStr, what: &str) -> Result<u64, Stop> {
     let number = word.to_str().and_then(|word| word.parse().ok());
-    number.ok_or_else(|| Stop::words(format!("{what} is a number, not {word:?}")))
+    number.ok_or_else(|| {
+        let most = match word.as_bytes().iter().all(u8::is_ascii_digit) && !word.is_empty() {
+            true => format!(" of at most {}", u64::MAX),
+            false => String::new(),
+        };
+        Stop::words(format!("{what} is a number{most}, not {}", echoed(word.as_bytes())))
+    })
 }
 
 /// A quota that the library takes.

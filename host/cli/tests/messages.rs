@@ -40,6 +40,9 @@ fn an_illegal_reel_name_is_named() {
     called_wrongly("1", "gate01", &format!("--reels: \"gate01\" {held}"));
     called_wrongly("1", "A,B^,C", &format!("--reels: \"B^\" {held}"));
     called_wrongly("1", "A\n", &format!("--reels: \"A\\n\" {held}"));
+    let joined = [&b"rewrite"[..], b"none", b"--quota=1", b"--reels=A\xff", b"-o", b"-"];
+    let joined = joined.map(|word| OsString::from_vec(word.to_vec()));
+    run(&joined).told(2, &format!("--reels: \"A\\xff\" {held}\n{REWRITE}"));
     let length = "is no reel name: one has 1 to 6 characters";
     called_wrongly("1", "", &format!("--reels: \"\" {length}"));
     called_wrongly("1", "A,", &format!("--reels: \"\" {length}"));

@@ -107,6 +107,9 @@ fn wrong_words_are_told_with_the_usage() {
     let usage = "usage: tardorelga record [--hex | --lines] (FILE | --simh REEL..) N R";
     run(&["record", "x", "1"]).told(2, &format!("no number of a record is named\n{usage}"));
     run(&["record", "x", "one", "1"]).told(2, &format!("N is a number, not \"one\"\n{usage}"));
+    let most = "N is a number of at most 18446744073709551615, not \"18446744073709551616\"";
+    run(&["record", "x", "18446744073709551616", "1"]).told(2, &format!("{most}\n{usage}"));
+    run(&["record", "x", "", "1"]).told(2, &format!("N is a number, not \"\"\n{usage}"));
     run(&["record", "x", "1", "1", "1"]).told(2, &format!("one word too many: \"1\"\n{usage}"));
     let both = format!("--hex and --lines exclude each other\n{usage}");
     run(&["record", "x", "1", "1", "--hex", "--lines"]).told(2, &both);
@@ -119,6 +122,13 @@ fn wrong_words_are_told_with_the_usage() {
 #[test]
 fn a_name_that_begins_with_a_hyphen_is_named_behind_two() {
     run(&["check", "--", "--json"]).told(2, "--json: No such file or directory");
+    let d = folder("hyphen");
+    shell("cp samples/ledger.tgi $D/-a.tgi", &d).done();
+    let ran = shell("cd $D && $T check *", &d);
+    let behind =
+        "tardorelga: no option \"-a.tgi\" here; a file has this name, and is named behind --\n";
+    assert!(ran.status == Some(2) && ran.err.starts_with(behind), "{}", ran.err);
+    shell("cd $D && $T check -- *", &d).done();
 }
 
 #[test]
