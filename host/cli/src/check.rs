@@ -18,6 +18,9 @@ pub fn run(words: &Words) -> Result<Status, Stop> {
         return Err(Stop::words("-r and --simh exclude each other"));
     }
     let names = words.some(if words.is_simh() { "reel" } else { "file" })?;
+    if !words.is_simh() && names.iter().filter(|name| *name == "-").count() > 1 {
+        return Err(Stop::words("standard input is one image, and - is named twice"));
+    }
     let mut report = Report::open(words)?;
     if words.is_simh() {
         report.tell(&Named::Reels(names))?;

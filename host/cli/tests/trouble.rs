@@ -104,6 +104,8 @@ fn wrong_words_are_told_with_the_usage() {
     let usage = "usage: tardorelga check [-r] [--json | --quiet] (FILE.. | --simh REEL..)";
     run(&["check"]).told(2, &format!("no file is named\n{usage}"));
     run(&["check", "--all", "x"]).told(2, &format!("no option \"--all\" here\n{usage}"));
+    let twice = "standard input is one image, and - is named twice";
+    run(&["check", "-", "x", "-"]).told(2, &format!("{twice}\n{usage}"));
     let usage = "usage: tardorelga record [--hex | --lines] (FILE | --simh REEL..) N R";
     run(&["record", "x", "1"]).told(2, &format!("no number of a record is named\n{usage}"));
     run(&["record", "x", "one", "1"]).told(2, &format!("N is a number, not \"one\"\n{usage}"));
