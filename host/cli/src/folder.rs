@@ -15,10 +15,13 @@ pub struct Folder {
     old: Option<Old>,
 }
 
+/// A folder takes the place of another by its name in the folder around it.
+const NO_NAME: &str = "is no name for a new folder; choose one, as in ./parts";
+
 impl Folder {
     /// A link to an empty folder stays a link.
     pub fn at(path: &Path) -> io::Result<Folder> {
-        path.file_name().ok_or_else(|| io::Error::other("is no name for a new folder"))?;
+        path.file_name().ok_or_else(|| io::Error::other(NO_NAME))?;
         match fs::metadata(path) {
             Ok(there) if !there.is_dir() => Err(in_the_way("is there already, and no folder")),
             Ok(_) if fs::read_dir(path)?.next().is_some() => Err(not_empty()),

@@ -157,7 +157,7 @@ fn a_link_to_an_empty_folder_stays_a_link() {
     let lost = format!("{}/lost: {lost}", d.display());
     shell("$T unpack samples/ledger.tgi $D/lost", &d).told(2, &lost);
     shell("cd $D && $T unpack $OLDPWD/samples/ledger.tgi .", &d)
-        .told(2, ".: is no name for a new folder");
+        .told(2, ".: is no name for a new folder; choose one, as in ./parts");
     assert_eq!(names_in(&d), ["empty", "link", "lost"]);
 }
 
