@@ -52,6 +52,14 @@ fn an_illegal_reel_name_is_named() {
 }
 
 #[test]
+fn one_byte_is_no_bytes() {
+    let sheet = b"set SET001\nquota 1\nreel GATE01\nfile A\nformat F\nblock-length 9\nrecord-length 9\ntext A";
+    let one = "line 8: expected records that the file's format and record length allow; number 1 of this line has 1 byte";
+    fed(&["pack", "-", "-o", "-"], sheet)
+        .told(1, &format!("standard input: refused 11: the order sheet is illegal: {one}"));
+}
+
+#[test]
 fn a_seventeenth_reel_name_is_one_too_many() {
     let names: Vec<String> = (1..=17).map(|number| format!("R{number}")).collect();
     let many = "--reels: 17 names are more than a set has reels, 1 to 16";

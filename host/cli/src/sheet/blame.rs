@@ -4,6 +4,7 @@ use super::ask::{is_illegal, is_quota, unfit_name, Unfit, ILLEGAL, PLAIN, PLAIN_
 use super::field::{Field, CHARACTERS, ENTRY};
 use super::{Order, Wrong, FIELDS};
 use crate::needed::{self, RAISE, TOO_FEW};
+use crate::text::many;
 use tardorelga::{Sheet, Verdict};
 
 const BLOCK_LENGTH: usize = FIELDS.len() - 2;
@@ -33,12 +34,11 @@ impl Order {
     }
 
     fn size(&self) -> String {
-        let (records, bytes) = (self.lengths.len(), self.data.len());
+        let records = many(self.lengths.len() as u64, "record");
+        let bytes = many(self.data.len() as u64, "byte");
         let fits_on_few_reels = needed::fits_on_few_reels(|quota, names| self.number(quota, names));
         let to_do = if fits_on_few_reels { RAISE } else { "make two sets of it" };
-        format!(
-            "its {records} records have {bytes} bytes, and labels and blocks take more; {to_do}"
-        )
+        format!("its {records} have {bytes}, and labels and blocks take more; {to_do}")
     }
 
     fn reels_needed(&self) -> String {
@@ -128,7 +128,8 @@ impl Order {
         let what = match records.can_have(length) {
             false => format!(
                 "expected records that the file's format and record length allow; number {one} of \
-                 this line has {length} bytes"
+                 this line has {}",
+                many(length, "byte")
             ),
             true => format!(
                 "expected records with another byte than circumflexes (5E); number {one} of this \

@@ -4,6 +4,7 @@ use super::source::unread;
 use super::text::{keyword_length, unbracketed, Reading};
 use super::{Fault, Order};
 use crate::pack::LONGEST_IMAGE;
+use crate::text::many;
 use std::io::Read;
 
 /// More records than any image has bytes.
@@ -71,7 +72,10 @@ impl Reading<'_> {
     fn each(&mut self, each: u64, of: &str, bytes: u64) -> Result<(), Fault> {
         let what = match bytes.checked_rem(each) {
             Some(0) => return Ok(self.order.count(each, bytes / each)?),
-            Some(_) => format!("expected whole records of {each} bytes; {of} has {bytes} bytes"),
+            Some(_) => {
+                let bytes = many(bytes, "byte");
+                format!("expected whole records of {each} bytes; {of} has {bytes}")
+            }
             None => "expected 1 or more behind 'each'; a file of lengths can say 0".into(),
         };
         Err(what.into())
@@ -80,7 +84,7 @@ impl Reading<'_> {
     /// The lengths of records, a line each: `LENGTH`, or `LENGTH x COUNT` for so many of one length.
     fn lengths(&mut self, name: &[u8], of: &str, bytes: u64) -> Result<(), Fault> {
         let mut file = self.source.lines(name)?;
-        let all = format!("expected lengths of {bytes} bytes in all, as {of} has");
+        let all = format!("expected lengths of {} in all, as {of} has", many(bytes, "byte"));
         let mut left = bytes;
         while let Some((number, line)) = file.next(&mut self.source.left)? {
             let run = run(line);
