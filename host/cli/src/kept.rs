@@ -27,7 +27,8 @@ impl Old {
         self.give_owner(new)?;
         if self.there.is_dir() {
             self.give_list(List::OfFilesInIt, new)?;
-            set_mode(new, 0o700 | self.there.mode() & HANDS_ON_ITS_GROUP)?;
+            let mode = 0o700 | self.there.mode() & HANDS_ON_ITS_GROUP;
+            set_mode(new, mode).map_err(|_| cannot("mode"))?;
         }
         Ok(())
     }
@@ -36,7 +37,17 @@ impl Old {
     /// file with a list is wide for the list's sake.
     pub fn end(&self, new: &File) -> io::Result<()> {
         self.give_list(List::OfItself, new)?;
-        set_mode(new, self.there.mode() & 0o7777)
+        self.give_mode(new)
+    }
+
+    /// The system leaves out the group's bit without a word where the group is not one of the user's.
+    fn give_mode(&self, new: &File) -> io::Result<()> {
+        let mode = |there: &Metadata| there.mode() & 0o7777;
+        set_mode(new, mode(&self.there)).map_err(|_| cannot("mode"))?;
+        match mode(&new.metadata()?) == mode(&self.there) {
+            true => Ok(()),
+            false => Err(cannot("mode")),
+        }
     }
 
     fn give_owner(&self, new: &File) -> io::Result<()> {

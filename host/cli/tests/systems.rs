@@ -5,6 +5,7 @@ mod common;
 
 use common::{folder, names_in, shell, Ran};
 use std::fs;
+use std::os::unix::fs::{MetadataExt, PermissionsExt};
 use std::path::PathBuf;
 use std::process::Command;
 
@@ -62,6 +63,12 @@ int statx(int folder, const char *path, int flags, unsigned mask, struct statx *
 int fchown(int file, uid_t user, gid_t group) {
     if (getenv("NO_CHOWN")) return fail(EPERM);
     return syscall(SYS_fchown, file, user, group);
+}
+
+int fchmod(int file, mode_t mode) {
+    if (getenv("NO_CHMOD")) return fail(EPERM);
+    if (getenv("OTHER_GROUP")) mode &= ~S_ISGID;
+    return syscall(SYS_fchmod, file, mode);
 }
 "#;
 
@@ -250,4 +257,25 @@ fn an_owner_that_cannot_be_kept_is_trouble() {
         .told(2, &system.told("foreign-folder", owner));
     assert_eq!(names_in(&system.folder), ["foreign", "foreign-folder"]);
     assert_eq!(names_in(&system.folder.join("foreign-folder")), [""; 0]);
+}
+
+/// To a user who is not of the group, the system gives a file that replaces another all of its mode but one bit.
+#[test]
+fn a_mode_that_cannot_be_kept_is_told() {
+    let system = System::new("other-group");
+    let what = "is there already, and you can't give a new one its mode; remove it, or choose another name";
+    system.write("out", "old");
+    fs::create_dir(system.folder.join("folder")).unwrap();
+    let pack = "pack --force samples/ledger.sheet -o $D/out";
+    let unpack = "unpack samples/ledger.tgi $D/folder";
+    for (name, mode, words) in [("out", 0o2640, pack), ("folder", 0o2750, unpack)] {
+        let path = system.folder.join(name);
+        fs::set_permissions(&path, fs::Permissions::from_mode(mode)).unwrap();
+        for case in ["OTHER_GROUP=1", "NO_CHMOD=1"] {
+            system.run(case, words).told(2, &system.told(name, what));
+            assert_eq!(fs::metadata(&path).unwrap().mode() & 0o7777, mode);
+        }
+    }
+    assert_eq!(names_in(&system.folder), ["folder", "out"]);
+    assert_eq!(system.read("out"), b"old");
 }
