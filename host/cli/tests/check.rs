@@ -13,13 +13,13 @@ use std::time::Duration;
 /// What `check` says behind the place of each refused sample.
 const WORDS: [&str; 9] = [
     "this is no image of a tape set",
-    "an item is torn, or the reels do not end as they must",
+    "an item is torn, or there are not 1 to 16 reels with an end each",
     "an item stands where the order of a reel forbids it",
     "a label field has a wrong content: the creation date of HDR1 must be a date (SPACE or 0, year, day)",
     "access to the volume or file is restricted: the accessibility of HDR1",
     "labels, counts or names do not agree with each other: the block count of EOF1",
-    "a data block cannot be cut into records",
-    "the segments of a record are out of turn, or it is too long",
+    "a data block is too long, or cannot be cut into records",
+    "the segments of a record are out of turn or have no end, or it is too long",
     "over a limit: 16777215 bytes, 64 files, 16 reels",
 ];
 
@@ -34,6 +34,24 @@ fn a_refusal_is_said_in_words_and_as_other_commands_say_it() {
         assert_eq!(records.err, format!("tardorelga: {}", check.text()));
         assert_eq!((check.status, check.err), (Some(1), String::new()));
     }
+}
+
+/// Nothing is torn where a set has a reel too many, and a block that is too long can be cut.
+#[test]
+fn a_sentence_is_true_of_each_fault_of_its_number() {
+    let d = folder("check-sentences");
+    let image = fs::read(root().join("samples/ledger.tgi")).unwrap();
+    let (head, reel) = image.split_at(5);
+    fs::write(d.join("reels.tgi"), [head, &reel.repeat(17)].concat()).unwrap();
+    let block = reel.windows(3).position(|length| length == [0, 0, 10]).unwrap();
+    let (before, behind) = (&reel[..block], &reel[block + 13..]);
+    let long = [&[0, 0, 30], &b"0123456789".repeat(3)[..]].concat();
+    fs::write(d.join("block.tgi"), [head, before, &long, behind].concat()).unwrap();
+    let said = lines(&shell("$T check $D/reels.tgi $D/block.tgi", &d), &d);
+    let reels = format!("reels.tgi: refused 2 at item 176 byte 0: {}", WORDS[1]);
+    let block = format!("block.tgi: refused 7 at item 4 byte 0: {}", WORDS[6]);
+    assert_eq!(said, [reels, block]);
+    assert!(WORDS[1].contains("16 reels") && WORDS[6].contains("too long"));
 }
 
 #[test]

@@ -171,7 +171,7 @@ fn a_wrong_block_among_many_has_a_line_of_its_own_and_a_dump() {
     let marked = "       4-103  data blocks  100 blocks, 500 bytes\n\
                   -->      104  data block   5 bytes\n\
                   \x20              1  5e 5e 5e 5e 5e                                   |^^^^^|\n\
-                  --> refused 7 at item 104 byte 0: a data block cannot be cut into records\n";
+                  --> refused 7 at item 104 byte 0: a data block is too long, or cannot be cut into records\n";
     assert!(ran.text().contains(marked), "{}", ran.text());
     assert!(ran.text().ends_with(" bytes; --all shows all\n"));
 }
@@ -206,7 +206,7 @@ fn what_is_no_image_is_shown_as_far_as_it_goes() {
     let expected = "reel 1\n\
                     -->        0  torn         6 bytes  at offset 5 of the image\n\
                     \x20              1  00 00 09 41 1b 5d                                |...A.]|\n\
-                    --> refused 2 at item 0 byte 0: an item is torn, or the reels do not end as they must\n";
+                    --> refused 2 at item 0 byte 0: an item is torn, or there are not 1 to 16 reels with an end each\n";
     assert_eq!((torn.text(), torn.status), (expected, Some(1)));
 }
 

@@ -340,7 +340,7 @@ fn all_reels_are_exported_or_none() {
     shell("$T export samples/refused-2.tgi -o $D/a", &d).told(
         1,
         "samples/refused-2.tgi: refused 2 at item 10 byte 0: \
-         an item is torn, or the reels do not end as they must",
+         an item is torn, or there are not 1 to 16 reels with an end each",
     );
     let none = format!("{}/no/a-1.tap: No such file or directory", d.display());
     shell("$T export samples/messages.tgi -o $D/no/a", &d).told(2, &none);

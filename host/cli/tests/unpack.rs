@@ -94,7 +94,7 @@ fn any_bytes_and_any_lengths_come_back() {
 fn a_folder_appears_whole_or_not_at_all() {
     let d = folder("whole-folder");
     let own = "samples/refused-2.tgi: refused 2 at item 10 byte 0: \
-               an item is torn, or the reels do not end as they must";
+               an item is torn, or there are not 1 to 16 reels with an end each";
     shell("$T unpack samples/refused-2.tgi $D/out", &d).told(1, own);
     let deep = format!("{}/a/b: No such file or directory", d.display());
     shell("$T unpack samples/ledger.tgi $D/a/b", &d).told(2, &deep);
