@@ -55,6 +55,22 @@ fn a_sentence_is_true_of_each_fault_of_its_number() {
 }
 
 #[test]
+fn what_a_block_count_must_be_is_told_for_its_label() {
+    let d = folder("check-count");
+    let image = fs::read(root().join("samples/ledger.tgi")).unwrap();
+    for (item, label, holds) in [(1, b"HDR1", "ZEROs"), (6, b"EOF1", "digits")] {
+        let mut image = image.clone();
+        let at = image.windows(4).position(|name| name == label).unwrap();
+        image[at + 54] = b'X';
+        fs::write(d.join("a.tgi"), image).unwrap();
+        let what = "a label field has a wrong content: the block count of";
+        let (place, label) = (format!("item {item} byte 55"), String::from_utf8_lossy(label));
+        let line = format!("a.tgi: refused 4 at {place}: {what} {label} must be {holds}");
+        assert_eq!(lines(&shell("$T check $D/a.tgi", &d), &d), [line]);
+    }
+}
+
+#[test]
 fn json_has_the_words_and_the_field() {
     let ran = run(&["check", "--json", "samples/refused-6.tgi"]);
     assert_eq!(

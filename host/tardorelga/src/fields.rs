@@ -87,6 +87,9 @@ const VOL1: [Row; 8] = [
     (80, "label standard version", "4"),
 ];
 
+/// It has a rule of its own in HDR1, behind which no block stands yet.
+const BLOCK_COUNT: u32 = 55;
+
 /// HDR1, EOV1 and EOF1.
 const FIRST: [Row; 13] = [
     (1, "label name", KIND),
@@ -99,7 +102,7 @@ const FIRST: [Row; 13] = [
     (42, "creation date", DATE),
     (48, "expiration date", DATE),
     (54, "accessibility", CHARACTERS),
-    (55, "block count", "digits, in HDR1 ZEROs"),
+    (BLOCK_COUNT, "block count", DIGITS),
     (61, "implementation", CHARACTERS),
     (74, "reserved field", SPACES),
 ];
@@ -129,7 +132,10 @@ fn words(kind: Kind, first: u32) -> (&'static str, &'static str) {
         _ => &[],
     };
     let row = rows.iter().find(|(begin, ..)| *begin == first);
-    row.map_or(("", ""), |&(_, name, holds)| (name, holds))
+    row.map_or(("", ""), |&(_, name, holds)| match (kind, first) {
+        (Kind::Hdr(1), BLOCK_COUNT) => (name, "ZEROs"),
+        _ => (name, holds),
+    })
 }
 
 /// The position of the first byte of the field in which a byte stands, or 0.
