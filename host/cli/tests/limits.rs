@@ -170,6 +170,20 @@ fn a_name_that_leads_out_is_refused_also_where_no_file_is() {
     pack(&d, "$D/in/sheet").told(2, &format!("{}: {none}", d.join("in/sheet").display()));
 }
 
+#[test]
+fn a_pipe_in_the_folder_is_not_waited_for() {
+    let d = folder("limits-pipe");
+    put_sheet(&d, "lines pipe");
+    let sheet = d.join("sheet");
+    let what =
+        "expected a plain file; pipe is a pipe or a device, which only pack --anywhere reads";
+    shell("mkfifo $D/pipe; timeout 20 $T pack $D/sheet -o $D/out", &d)
+        .told(1, &format!("{}: line 8: {what}", sheet.display()));
+    let line =
+        "echo HERE > $D/pipe & timeout 20 $T pack --anywhere $D/sheet -o - | $T records - 1; wait";
+    assert_eq!(shell(line, &d).done().text(), "HERE");
+}
+
 /// What stands between the quotes of an echo, or is told bare.
 #[test]
 fn what_is_echoed_of_a_line_is_short_and_has_no_control_character() {

@@ -5,7 +5,7 @@ use super::{Fault, Judge, Wrong};
 use crate::names::short;
 use crate::stop::reason;
 use std::ffi::OsStr;
-use std::fs::File;
+use std::fs::{File, Metadata};
 use std::io::{self, BufRead, BufReader, Read};
 use std::os::unix::ffi::OsStrExt;
 use std::path::{Path, PathBuf};
@@ -51,7 +51,7 @@ impl Source<'_> {
         let folder = self.folder.canonicalize().map_err(|error| unread(told, error))?;
         let is_within = |path: &PathBuf| path.starts_with(&folder);
         match path.canonicalize() {
-            Ok(path) if is_within(&path) => Ok(path),
+            Ok(path) if is_within(&path) => refuse_endless(path, told),
             Err(error) if nearest(path).as_ref().is_some_and(is_within) => Err(unread(told, error)),
             _ => Err(Fault::from(format!(
                 "expected a name within the folder of the sheet; {told} leads out of it, \
@@ -64,6 +64,17 @@ impl Source<'_> {
     pub fn lines(&self, name: &[u8]) -> Result<Named, Fault> {
         let (name, file) = self.open(name)?;
         Ok(Named { name, text: Text::new(BufReader::with_capacity(1 << 16, file)) })
+    }
+}
+
+/// A pipe that nobody writes to would never be open.
+fn refuse_endless(path: PathBuf, told: &str) -> Result<PathBuf, Fault> {
+    let is_odd = |there: Metadata| !there.is_file() && !there.is_dir();
+    match path.metadata().is_ok_and(is_odd) {
+        true => Err(Fault::from(format!(
+            "expected a plain file; {told} is a pipe or a device, which only pack --anywhere reads"
+        ))),
+        false => Ok(path),
     }
 }
 
