@@ -116,21 +116,27 @@ _VOL1 = (
     (52, "reserved field", _SPACES),
     (80, "label standard version", "4"),
 )
-_FIRST = (
-    _LABEL_NAME,
-    (5, "file identifier", _CHARACTERS),
-    (22, "set identifier", _CHARACTERS),
-    (28, "section number", _DIGITS),
-    (32, "sequence number", _DIGITS),
-    (36, "generation number", _POSITIVE),
-    (40, "version number", _DIGITS),
-    (42, "creation date", _DATE),
-    (48, "expiration date", _DATE),
-    (54, "accessibility", _CHARACTERS),
-    (55, "block count", "digits, in HDR1 ZEROs"),
-    (61, "implementation", _CHARACTERS),
-    (74, "reserved field", _SPACES),
-)
+
+
+def _first(block_count: str) -> tuple:
+    """The fields of a first label, with what its block count must be."""
+    return (
+        _LABEL_NAME,
+        (5, "file identifier", _CHARACTERS),
+        (22, "set identifier", _CHARACTERS),
+        (28, "section number", _DIGITS),
+        (32, "sequence number", _DIGITS),
+        (36, "generation number", _POSITIVE),
+        (40, "version number", _DIGITS),
+        (42, "creation date", _DATE),
+        (48, "expiration date", _DATE),
+        (54, "accessibility", _CHARACTERS),
+        (55, "block count", block_count),
+        (61, "implementation", _CHARACTERS),
+        (74, "reserved field", _SPACES),
+    )
+
+
 _SECOND = (
     _LABEL_NAME,
     (5, "record format", "F, D or S"),
@@ -143,7 +149,8 @@ _SECOND = (
 _USER = (_LABEL_NAME, (4, "label number", _CHARACTERS), (5, "user's text", _ANY))
 _FIELDS = {
     "VOL1": _VOL1,
-    **dict.fromkeys(("HDR1", "EOV1", "EOF1"), _FIRST),
+    "HDR1": _first("ZEROs"),
+    **dict.fromkeys(("EOV1", "EOF1"), _first(_DIGITS)),
     **dict.fromkeys(("HDR2", "EOV2", "EOF2"), _SECOND),
     **dict.fromkeys(("UHL", "UTL"), _USER),
 }
@@ -412,7 +419,7 @@ def field(kind: str, byte: int) -> typing.Optional[Field]:
     and none in an item of which the standard knows no fields.
 
     >>> field("EOF1", 57)
-    Field(first=55, length=6, name='block count', holds='digits, in HDR1 ZEROs')
+    Field(first=55, length=6, name='block count', holds='digits')
     """
     family = _family(kind)
     first = _call("field_at", *family, _number(byte, "byte", 32))

@@ -1,11 +1,10 @@
 //! A refusal of a set, and the field of a label that it is about.
 
-use crate::{json, stop};
+use crate::stop::{refusal, say, Stop};
+use crate::text::json;
 use std::fmt;
+use tardorelga::numbers::WRONG_FIELD;
 use tardorelga::{Field, Kind, Verdict};
-
-/// The library's number for a label field with a wrong content.
-const WRONG_CONTENT: u32 = 4;
 
 pub struct Fault {
     pub verdict: Verdict,
@@ -14,9 +13,15 @@ pub struct Fault {
 }
 
 impl Fault {
-    /// Of a set whose image is not at hand.
-    pub fn unseen(verdict: Verdict) -> Fault {
-        Fault { verdict, field: None }
+    /// Of reels that no image could be made of. The sentence, which names the reel, is said at once.
+    pub fn told(stop: Stop) -> Result<Fault, Stop> {
+        match stop {
+            Stop::Refused(verdict, sentence) => {
+                say(&sentence);
+                Ok(Fault { verdict, field: None })
+            }
+            other => Err(other),
+        }
     }
 
     /// Of an image; only a refusal with a byte of its own is looked up there.
@@ -51,9 +56,9 @@ impl Fault {
 /// Number, place and sentence, and the field that they are about.
 impl fmt::Display for Fault {
     fn fmt(&self, f: &mut fmt::Formatter) -> fmt::Result {
-        write!(f, "{}", stop::refusal(self.verdict))?;
+        write!(f, "{}", refusal(self.verdict))?;
         match &self.field {
-            Some((label, Field { name, holds, .. })) if self.verdict.number == WRONG_CONTENT => {
+            Some((label, Field { name, holds, .. })) if self.verdict.number == WRONG_FIELD => {
                 write!(f, ": the {name} of {label} must be {holds}")
             }
             Some((label, Field { name, .. })) => write!(f, ": the {name} of {label}"),

@@ -1,17 +1,20 @@
 //! Sets as they are read: an image from a file, or reels in SIMH's form; `-` is standard input.
 
+pub mod reels;
+
 use crate::fault::Fault;
 use crate::stop::{refusal, Stop};
+use crate::streams;
+use crate::text::names;
 use crate::words::Words;
-use crate::{names, reels, streams};
 use std::ffi::{OsStr, OsString};
 use std::fs::File;
 use std::io::{self, Read};
-use tardorelga::Verdict;
+use tardorelga::{Verdict, LONGEST_IMAGE};
 
 /// One byte more than the longest image: more need not be read, since the library refuses this much
 /// whatever follows.
-const ENOUGH: u64 = 16_777_216;
+const ENOUGH: u64 = LONGEST_IMAGE as u64 + 1;
 
 /// What a file is called in a message.
 pub fn name(file: &OsStr) -> String {
@@ -65,9 +68,16 @@ pub fn read(file: &OsStr) -> io::Result<Vec<u8>> {
     Ok(bytes)
 }
 
+pub fn open(file: &OsStr) -> io::Result<File> {
+    match file == "-" {
+        true => streams::input(),
+        false => File::open(file),
+    }
+}
+
 /// Puts as many bytes as there are, up to `most`, behind those that were read before.
 pub fn append(file: &OsStr, most: u64, bytes: &mut Vec<u8>) -> io::Result<usize> {
-    let source = if file == "-" { streams::input()? } else { File::open(file)? };
+    let source = open(file)?;
     bytes.reserve_exact(source.metadata()?.len().min(most) as usize + 1);
     source.take(most).read_to_end(bytes)
 }

@@ -7,120 +7,26 @@
 //! records set.tgi 1 | head` ends as other tools do.
 #![no_main]
 
-mod check;
-mod export;
+mod commands;
 mod fault;
-mod folder;
-mod folders;
+mod halves;
 mod help;
-mod import;
 mod input;
-mod json;
-mod kept;
-mod list;
-mod names;
 mod needed;
 mod output;
-mod pack;
-mod records;
-mod reels;
-mod rewrite;
+mod room;
 mod sheet;
-mod show;
 mod stop;
 mod streams;
-mod system;
-mod temporary;
 mod text;
-mod unpack;
 mod words;
 
+use commands::{Command, COMMANDS};
 use std::env;
 use std::ffi::{c_char, c_int, OsString};
 use stop::{Status, Stop};
+use text::names::word;
 use words::Words;
-
-/// A command: its name, the words it takes, and what it does.
-struct Command {
-    name: &'static str,
-    help: &'static str,
-    flags: &'static [&'static str],
-    options: &'static [&'static str],
-    run: fn(&Words) -> Result<Status, Stop>,
-}
-
-const COMMANDS: [Command; 10] = [
-    Command {
-        name: "check",
-        help: help::CHECK,
-        flags: &["-r", "--json", "--quiet", "--simh"],
-        options: &[],
-        run: check::run,
-    },
-    Command {
-        name: "list",
-        help: help::LIST,
-        flags: &["--json", "--simh"],
-        options: &[],
-        run: list::run,
-    },
-    Command {
-        name: "show",
-        help: help::SHOW,
-        flags: &["--all", "--json", "--simh"],
-        options: &["--item"],
-        run: show::run,
-    },
-    Command {
-        name: "record",
-        help: help::RECORD,
-        flags: &["--hex", "--lines", "--simh"],
-        options: &[],
-        run: records::one,
-    },
-    Command {
-        name: "records",
-        help: help::RECORDS,
-        flags: &["--hex", "--lines", "--simh"],
-        options: &[],
-        run: records::all,
-    },
-    Command {
-        name: "unpack",
-        help: help::UNPACK,
-        flags: &["--hex", "--lines", "--simh"],
-        options: &["--quota", "--reels"],
-        run: unpack::run,
-    },
-    Command {
-        name: "pack",
-        help: help::PACK,
-        flags: &["--anywhere", "--force"],
-        options: &["-o"],
-        run: pack::run,
-    },
-    Command {
-        name: "rewrite",
-        help: help::REWRITE,
-        flags: &["--force", "--simh"],
-        options: &["--quota", "--reels", "-o"],
-        run: rewrite::run,
-    },
-    Command {
-        name: "import",
-        help: help::IMPORT,
-        flags: &["--force"],
-        options: &["-o"],
-        run: import::run,
-    },
-    Command {
-        name: "export",
-        help: help::EXPORT,
-        flags: &["--force"],
-        options: &["-o"],
-        run: export::run,
-    },
-];
 
 #[no_mangle]
 pub extern "C" fn main(_count: c_int, _words: *const *const c_char) -> c_int {
@@ -140,7 +46,7 @@ fn answer(words: &[OsString]) -> Result<Status, Stop> {
         Some("--version" | "-V") => tell(concat!("tardorelga ", env!("CARGO_PKG_VERSION"), "\n")),
         name => match COMMANDS.iter().find(|command| Some(command.name) == name) {
             Some(command) => obey(command, rest),
-            None => Err(Stop::misused(&format!("no command {:?}", words[0]), help::ALL)),
+            None => Err(Stop::misused(&format!("no command {}", word(&words[0])), help::ALL)),
         },
     }
 }

@@ -1,17 +1,25 @@
 //! Where an output goes. A file appears whole or not at all, and takes the place of another only with
 //! `--force`; an open descriptor, a device or a pipe is written to as it is.
 
-use crate::kept::Old;
-use crate::names::told;
+mod folder;
+mod kept;
+mod rename;
+mod system;
+mod temporary;
+
+pub use folder::Folder;
+
 use crate::stop::{reason, Status, Stop};
-use crate::temporary::{self, Move, Temporary};
+use crate::streams;
+use crate::text::names::told;
 use crate::words::Words;
-use crate::{streams, system};
+use kept::Old;
 use std::ffi::OsStr;
 use std::fs::{self, File, Metadata, OpenOptions};
 use std::io::{self, ErrorKind, Write};
 use std::os::unix::fs::MetadataExt;
 use std::path::{Path, PathBuf};
+use temporary::{Move, Temporary};
 
 /// An output that may be written, as far as can be told before.
 pub struct Output {
@@ -165,17 +173,24 @@ fn beside(place: &Path, bytes: &[u8], force: bool) -> io::Result<Temporary> {
 }
 
 /// Has the names in a folder on the disk. A file system that can't sync a folder does what it can by itself.
-pub fn sync(folder: &File) -> io::Result<()> {
+fn sync(folder: &File) -> io::Result<()> {
     match folder.sync_all() {
         Err(error) if error.raw_os_error() == Some(system::INVALID) => Ok(()),
         other => other,
     }
 }
 
+/// The folder in which a file stands.
+pub fn folder_of(file: &Path) -> &Path {
+    match file.parent() {
+        Some(folder) if folder != Path::new("") => folder,
+        _ => Path::new("."),
+    }
+}
+
 /// Behind this, a new name outlasts a crash. A folder that may not be read is synced with all else.
-pub fn sync_folder_of(place: &Path) -> io::Result<()> {
-    let folder = place.parent().filter(|folder| *folder != Path::new(""));
-    match File::open(folder.unwrap_or(Path::new("."))).and_then(|folder| sync(&folder)) {
+fn sync_folder_of(place: &Path) -> io::Result<()> {
+    match File::open(folder_of(place)).and_then(|folder| sync(&folder)) {
         Err(error) if error.kind() == ErrorKind::PermissionDenied => {
             system::sync_all_disks();
             Ok(())

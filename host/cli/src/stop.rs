@@ -2,6 +2,7 @@
 
 use std::fmt::Display;
 use std::io::{self, ErrorKind, Write};
+use tardorelga::numbers::{LONG_IMAGE, SHORT_BUFFER};
 use tardorelga::Verdict;
 
 /// The exit status; the worst of several counts.
@@ -88,7 +89,7 @@ pub fn reason(error: &io::Error) -> String {
 /// The number, its place where it can have one, and the number in words.
 pub fn refusal(verdict: Verdict) -> String {
     match verdict.number {
-        10..=14 => number_in_words(verdict),
+        SHORT_BUFFER..=LONG_IMAGE => number_in_words(verdict),
         _ => format!("{verdict}: {}", verdict.words()),
     }
 }

@@ -1,8 +1,8 @@
 //! The words behind a command: flags, options with a value, and plain words.
 
-use crate::names::{echoed, short};
 use crate::sheet::{self, Unfit};
 use crate::stop::Stop;
+use crate::text::names::{self, echoed, short};
 use std::ffi::{OsStr, OsString};
 use std::os::unix::ffi::OsStrExt;
 use std::path::Path;
@@ -37,7 +37,7 @@ impl Words {
             } else if let Some((option, value)) = joined(word, options) {
                 read.values.push((option, value));
             } else if word.as_bytes().starts_with(b"-") && word != "-" {
-                return Err(format!("no option {word:?} here{}", if_a_file(word)));
+                return Err(format!("no option {} here{}", names::word(word), if_a_file(word)));
             } else {
                 read.plain.push(word.clone());
             }
@@ -58,6 +58,14 @@ impl Words {
         self.has("--simh")
     }
 
+    /// What the words of a set name.
+    pub fn of_a_set(&self) -> &'static str {
+        match self.is_simh() {
+            true => "reel",
+            false => "file",
+        }
+    }
+
     /// All plain words, of which there is one at least.
     pub fn some(&self, what: &str) -> Result<&[OsString], Stop> {
         some(&self.plain, what)
@@ -75,10 +83,9 @@ impl Words {
         what: [&str; N],
     ) -> Result<(&[OsString], [&OsStr; N]), Stop> {
         let count = self.plain.len();
-        let (first, own) =
-            if self.is_simh() { ("reel", count.saturating_sub(N).max(1)) } else { ("file", 1) };
+        let own = if self.is_simh() { count.saturating_sub(N).max(1) } else { 1 };
         let (set, rest) = self.plain.split_at(own.min(count));
-        Ok((some(set, first)?, exactly(rest, what)?))
+        Ok((some(set, self.of_a_set())?, exactly(rest, what)?))
     }
 
     /// The value of an option that may be given once.
@@ -120,12 +127,16 @@ fn exactly<'a, const N: usize>(
     what: [&str; N],
 ) -> Result<[&'a OsStr; N], Stop> {
     if let Some(more) = words.get(N) {
-        return Err(Stop::words(format!("one word too many: {more:?}")));
+        return Err(too_many(more));
     }
     match what.get(words.len()) {
         Some(missing) => Err(Stop::words(format!("no {missing} is named"))),
         None => Ok(std::array::from_fn(|i| words[i].as_os_str())),
     }
+}
+
+pub fn too_many(word: &OsStr) -> Stop {
+    Stop::words(format!("one word too many: {}", names::word(word)))
 }
 
 /// `--quota=7`, as one word.
@@ -144,7 +155,7 @@ pub fn number(word: &OsStr, what: &str) -> Result<u64, Stop> {
             true => format!(" of at most {}", u64::MAX),
             false => String::new(),
         };
-        Stop::words(format!("{what} is a number{most}, not {}", echoed(word.as_bytes())))
+        Stop::words(format!("{what} is a number{most}, not {}", names::word(word)))
     })
 }
 
@@ -161,7 +172,7 @@ pub fn quota(word: &OsStr) -> Result<u64, Stop> {
 }
 
 /// Reel names that the library takes, from a list with commas.
-pub fn names(list: &OsStr) -> Result<Vec<u8>, Stop> {
+pub fn reel_names(list: &OsStr) -> Result<Vec<u8>, Stop> {
     let words: Vec<&[u8]> = list.as_bytes().split(|&byte| byte == b',').collect();
     let wrong = |name: &[u8], why: &str| Stop::words(format!("--reels: {} {why}", echoed(name)));
     let mut names = Vec::new();

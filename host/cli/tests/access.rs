@@ -3,10 +3,10 @@
 
 mod common;
 
-use common::{folder, run};
+use common::{folder, mode, run};
 use std::ffi::{c_char, c_int, c_void, CString};
 use std::fs;
-use std::os::unix::fs::{MetadataExt, PermissionsExt};
+use std::os::unix::fs::PermissionsExt;
 use std::path::Path;
 
 extern "C" {
@@ -65,8 +65,7 @@ fn list_of(path: &Path, name: &str) -> Option<Vec<u8>> {
 
 /// All by which something is open to anybody.
 fn access(path: &Path) -> (u32, Option<Vec<u8>>, Option<Vec<u8>>) {
-    let mode = fs::metadata(path).unwrap().mode() & 0o7777;
-    (mode, list_of(path, OF_ITSELF), list_of(path, OF_FILES_IN_IT))
+    (mode(path), list_of(path, OF_ITSELF), list_of(path, OF_FILES_IN_IT))
 }
 
 fn set_mode(path: &Path, mode: u32) {

@@ -58,3 +58,14 @@ fn json_of_a_refused_set_has_its_number_place_and_words() {
     assert_eq!(in_json(&torn.out, "v['tapes'], v['number']"), "(['samples/ledger.tgi'], 15)");
     assert_eq!(torn.status, Some(1));
 }
+
+/// As files have theirs: the SPACEs that fill a field up are no part of a name.
+#[test]
+fn json_has_short_names_without_what_fills_them_up() {
+    let sheet = b"set B\nquota 1\nreel A\nfile C\nformat F\nblock-length 1\nrecord-length 1\n";
+    let image = fed(&["pack", "-", "-o", "-"], sheet).done().out;
+    for command in ["list", "show"] {
+        let json = fed(&[command, "--json", "-"], &image).done().out;
+        assert_eq!(in_json(&json, "v['set'], v['reels']"), "('B', ['A'])", "{command}");
+    }
+}

@@ -82,6 +82,30 @@ fn a_message_on_an_output_is_one_line_whatever_its_name() {
     }
 }
 
+/// A wrong word is told as a wrong piece of a sheet is: short, and in printable ASCII alone.
+#[test]
+fn a_wrong_word_is_told_in_one_way_whatever_it_is() {
+    let words = [
+        (&b"it's"[..], r#""it's""#.to_string()),
+        ("夜\u{202e}".as_bytes(), r#""\xe5\xa4\x9c\xe2\x80\xae""#.into()),
+        (b"-a\n\xff", r#""-a\n\xff""#.into()),
+        (&[b'n'; 255], format!("\"{}\"..", "n".repeat(40))),
+    ];
+    for (word, told) in words {
+        let first_line = |words: &str| {
+            let ran = run_on(words, OsStr::from_bytes(word));
+            assert_eq!((ran.status, ran.out.len()), (Some(2), 0));
+            ran.err.lines().next().unwrap().to_string()
+        };
+        assert_eq!(first_line("%"), format!("tardorelga: no command {told}"));
+        let number = format!("tardorelga: N is a number, not {told}");
+        assert_eq!(first_line("records -- x %"), number);
+        let more = format!("tardorelga: one word too many: {told}");
+        assert_eq!(first_line("list -- x %"), more);
+        assert_eq!(first_line("show -- x 1 %"), more);
+    }
+}
+
 #[test]
 fn json_has_the_bytes_of_a_name_that_is_no_text() {
     let d = format!("{}/", folder("names-json").display());
@@ -106,6 +130,6 @@ fn json_has_the_bytes_of_all_reels_where_one_is_no_text() {
     let ran = run(&[&words[..], &[OsStr::from_bytes(b"a\xff").into()]].concat());
     let first: String = b"samples/messages-1.tap".iter().map(|b| format!("{b:02x}")).collect();
     let names = "[\"samples/messages-1.tap\",\"a\u{fffd}\"]";
-    let start = format!("{{\"reels\":{names},\"reels_hex\":[\"{first}\",\"61ff\"],\"trouble\":");
+    let start = format!("{{\"tapes\":{names},\"tapes_hex\":[\"{first}\",\"61ff\"],\"trouble\":");
     assert!(ran.text().starts_with(&start), "{}", ran.text());
 }

@@ -2,9 +2,8 @@
 
 mod common;
 
-use common::{fed, folder, names_in, root, run, shell};
+use common::{fed, folder, lines_of, names_in, root, run, shell};
 use std::fs;
-use std::path::Path;
 
 const ACCEPTED: [&str; 4] = ["ledger", "messages", "new-year", "options"];
 
@@ -14,10 +13,6 @@ fn sample(name: &str) -> String {
 
 fn rewritten(file: &str, quota: &str, reels: &str) -> Vec<u8> {
     run(&["rewrite", file, "--quota", quota, "--reels", reels, "-o", "-"]).done().out
-}
-
-fn lines_of(file: &Path) -> Vec<String> {
-    fs::read_to_string(file).unwrap().lines().map(String::from).collect()
 }
 
 #[test]

@@ -2,11 +2,13 @@
 
 mod common;
 
-use common::{at_once, folder, give_away, names_in, owner_of, root, run, shell, Ran};
+use common::{
+    at_once, folder, give_away, mode, names_in, owner_of, root, run, shell, unwritable, Ran,
+};
 use std::ffi::OsString;
 use std::fs;
 use std::os::unix::ffi::{OsStrExt, OsStringExt};
-use std::os::unix::fs::{symlink, MetadataExt, PermissionsExt};
+use std::os::unix::fs::{symlink, PermissionsExt};
 use std::path::{Path, PathBuf};
 
 /// Each command that writes one file, without its output.
@@ -18,10 +20,6 @@ const WRITERS: [&str; 3] = [
 
 const THERE: &str = "is there already; choose another name, or write over it with --force";
 const INPUT: &str = "is the input itself; choose another name, or write over it with --force";
-
-fn mode(path: &Path) -> u32 {
-    fs::metadata(path).unwrap().mode() & 0o7777
-}
 
 fn write(path: &Path, text: &str, mode: u32) {
     fs::write(path, text).unwrap();
@@ -281,15 +279,6 @@ fn a_folder_that_is_not_there_is_trouble() {
     shell("$T pack samples/ledger.sheet -o $D", &d).told(2, &folder);
     shell("$T pack --force samples/ledger.sheet -o $D", &d).told(2, &folder);
     shell("$T pack samples/ledger.sheet -o ''", &d).told(2, "\"\": is no name for an output");
-}
-
-/// A folder in which nobody can make a file, be it the owner of the system.
-fn unwritable(folder: &Path) -> PathBuf {
-    fs::set_permissions(folder, fs::Permissions::from_mode(0o555)).unwrap();
-    match fs::write(folder.join("probe"), "") {
-        Ok(()) => "/sys".into(),
-        Err(_) => folder.into(),
-    }
 }
 
 #[test]

@@ -71,6 +71,7 @@ fn a_line_that_has_no_meaning_is_named() {
     wrong(1, "file\n", "line 1: expected 1 to 17 characters behind 'file'");
     wrong(1, "set TOOLONG\n", "line 1: expected 1 to 6 characters behind 'set'");
     wrong(1, "quota many\n", "line 1: expected a number behind 'quota'");
+    wrong(1, "quota +1\n", "line 1: expected a number behind 'quota'");
     wrong(1, "set A\nset B\n", "line 2: expected 'set' once; line 1 has it");
     wrong(1, "quota 1\nquota 1\n", "line 2: expected 'quota' once; line 1 has it");
     wrong(1, "text A\n", "line 1: expected a 'file' line before 'text'");

@@ -2,14 +2,9 @@
 
 mod common;
 
-use common::{fed, folder, in_json, root, run, shell, terminal, Ran};
+use common::{fed, folder, in_json, root, run, sample, shell, terminal, Ran};
 use oracle::generate::{damaged, whole, Rng};
 use oracle::{check, Answer};
-use std::fs;
-
-fn sample(name: &str) -> Vec<u8> {
-    fs::read(root().join("samples").join(name)).unwrap()
-}
 
 const LEDGER_LABELS: &str = "reel 1
            0  VOL1         80 bytes

@@ -2,22 +2,20 @@
 
 mod common;
 
-use common::{expected, fed, folder, import, names_in, reels_named, root, run, shell, TORN};
+use common::{
+    expected, fed, folder, import, names_in, reels_named, run, sample, shell, unwritable, TORN,
+};
 use oracle::generate::{whole, Rng};
 use std::ffi::OsString;
 use std::fs;
 use std::os::unix::ffi::OsStringExt;
-use std::os::unix::fs::{symlink, PermissionsExt};
-use std::path::{Path, PathBuf};
+use std::os::unix::fs::symlink;
+use std::path::Path;
 
 const MARK: &[u8] = &[0; 4];
 const END: &[u8] = &[0xFF; 4];
 const MESSAGES: [&str; 3] =
     ["samples/messages-1.tap", "samples/messages-2.tap", "samples/messages-3.tap"];
-
-fn sample(name: &str) -> Vec<u8> {
-    fs::read(root().join("samples").join(name)).unwrap()
-}
 
 /// The words of a command with the reels of a sample between them.
 fn on_messages<'a>(before: &[&'a str], behind: &[&'a str]) -> Vec<&'a str> {
@@ -144,7 +142,7 @@ fn a_set_on_reels_has_one_line() {
     assert_eq!(ran.text(), accepted);
     let ran = run(&on_messages(&["check", "--json", "--simh"], &[])).done();
     let reels =
-        r#"{"reels":["samples/messages-1.tap","samples/messages-2.tap","samples/messages-3.tap"],"#;
+        r#"{"tapes":["samples/messages-1.tap","samples/messages-2.tap","samples/messages-3.tap"],"#;
     assert_eq!(
         ran.text(),
         format!("{reels}\"accepted\":true,\"files\":2,\"records\":6,\"bytes\":69}}\n")
@@ -237,7 +235,7 @@ fn a_torn_reel_is_refused_by_each_command() {
     let json = run(&["check", "--json", "--simh", &one, &two]);
     let refused =
         format!("\"accepted\":false,\"number\":15,\"item\":3,\"byte\":0,\"words\":\"{TORN}\"}}\n");
-    assert_eq!(json.text(), format!("{{\"reels\":[\"{one}\",\"{two}\"],{refused}"));
+    assert_eq!(json.text(), format!("{{\"tapes\":[\"{one}\",\"{two}\"],{refused}"));
     assert_eq!((&json.err, json.status), (&said, Some(1)));
 }
 
@@ -271,7 +269,7 @@ fn an_endless_reel_is_trouble() {
         .told(2, &format!("standard input: {endless}"));
     let json = run(&["check", "--json", "--simh", "/dev/zero"]);
     let why = format!("/dev/zero: {endless}");
-    assert_eq!(json.text(), format!("{{\"reels\":[\"/dev/zero\"],\"trouble\":\"{why}\"}}\n"));
+    assert_eq!(json.text(), format!("{{\"tapes\":[\"/dev/zero\"],\"trouble\":\"{why}\"}}\n"));
     assert_eq!((json.err, json.status), (format!("tardorelga: {why}\n"), Some(2)));
     assert_eq!(names_in(&d), [""; 0]);
 }
@@ -285,7 +283,7 @@ fn a_reel_that_cannot_be_read_is_trouble() {
     run(&["list", "--simh", first, "none.tap"]).told(2, none);
     run(&["check", "--simh", first, "none.tap"]).told(2, none);
     let json = run(&["check", "--json", "--simh", "none.tap"]);
-    assert_eq!(json.text(), format!("{{\"reels\":[\"none.tap\"],\"trouble\":\"{none}\"}}\n"));
+    assert_eq!(json.text(), format!("{{\"tapes\":[\"none.tap\"],\"trouble\":\"{none}\"}}\n"));
     assert_eq!(json.status, Some(2));
     run(&["export", "none.tgi", "-o", "-"]).told(2, "none.tgi: No such file or directory");
 }
@@ -316,19 +314,6 @@ fn nothing_is_exported_beside_a_reel_that_is_there() {
     fs::write(d.join("b-17.tap"), "no reel").unwrap();
     shell("$T export samples/ledger.tgi -o $D/b", &d).done();
     assert_eq!(names_in(&d), ["a-2.tap", "b-1.tap", "b-17.tap"]);
-}
-
-/// A folder in which nobody can make a file, be it the owner of the system.
-fn unwritable(folder: &Path) -> PathBuf {
-    fs::set_permissions(folder, fs::Permissions::from_mode(0o555)).unwrap();
-    let probe = folder.join("probe");
-    match fs::write(&probe, "") {
-        Ok(()) => {
-            fs::remove_file(probe).unwrap();
-            "/sys".into()
-        }
-        Err(_) => folder.into(),
-    }
 }
 
 #[test]

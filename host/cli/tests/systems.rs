@@ -14,6 +14,7 @@ const CALLS: &str = r#"
 #define _GNU_SOURCE
 #include <errno.h>
 #include <fcntl.h>
+#include <stdarg.h>
 #include <stdlib.h>
 #include <string.h>
 #include <sys/stat.h>
@@ -32,6 +33,7 @@ ssize_t getrandom(void *bytes, size_t length, unsigned flags) {
 
 int renameat2(int a, const char *from, int b, const char *to, unsigned flags) {
     const char *number = getenv("NEW_RENAME");
+    if (getenv("COMES")) close(creat(to, 0600));
     if (number) return fail(atoi(number));
     return syscall(SYS_renameat2, a, from, b, to, flags);
 }
@@ -52,6 +54,23 @@ int fsync(int file) {
     const char *number = getenv("FOLDER_SYNC");
     if (number && fstat(file, &there) == 0 && S_ISDIR(there.st_mode)) return fail(atoi(number));
     return syscall(SYS_fsync, file);
+}
+
+int open64(const char *path, int flags, ...) {
+    va_list more;
+    va_start(more, flags);
+    mode_t mode = va_arg(more, mode_t);
+    va_end(more);
+    struct stat there;
+    const char *number = getenv("FOLDER_OPEN");
+    int is_folder = !strstr(path, ".part") && stat(path, &there) == 0 && S_ISDIR(there.st_mode);
+    if (number && is_folder) return fail(atoi(number));
+    return syscall(SYS_openat, AT_FDCWD, path, flags, mode);
+}
+
+void sync(void) {
+    const char *file = getenv("SYNCED");
+    if (file) close(creat(file, 0600));
 }
 
 int statx(int folder, const char *path, int flags, unsigned mask, struct statx *there) {
@@ -154,6 +173,18 @@ fn without_a_renaming_that_replaces_nothing_nothing_is_replaced() {
     }
 }
 
+/// It was not there yet when the output was asked for.
+#[test]
+fn without_it_a_file_that_comes_meanwhile_is_not_replaced() {
+    let system = System::new("comes-meanwhile");
+    for case in ["NEW_RENAME=22", "NEW_RENAME=22 NO_LINK=1"] {
+        system.run(&format!("COMES=1 {case}"), PACK).told(2, &system.told("out", THERE));
+        assert_eq!(names_in(&system.folder), ["out"]);
+        assert_eq!(system.read("out"), b"");
+        fs::remove_file(system.folder.join("out")).unwrap();
+    }
+}
+
 #[test]
 fn a_renaming_that_fails_is_trouble_and_leaves_nothing() {
     let system = System::new("bad-rename");
@@ -239,6 +270,18 @@ fn a_folder_whose_sync_fails_is_trouble() {
         .run("FOLDER_SYNC=5", "unpack samples/ledger.tgi $D/folder")
         .told(2, &system.told("folder", "Input/output error"));
     assert_eq!(names_in(&system.folder), ["out"]);
+}
+
+/// As for a user who may not read the folder, whoever runs the test.
+#[test]
+fn a_folder_that_may_not_be_read_is_synced_with_all_else() {
+    let system = System::new("unread-folder");
+    for (words, name) in [(PACK, "out"), ("unpack samples/ledger.tgi $D/folder", "folder")] {
+        system.run("FOLDER_OPEN=13 SYNCED=$D/synced", words).done();
+        assert_eq!(names_in(&system.folder), [name, "synced"]);
+        fs::remove_file(system.folder.join("synced")).unwrap();
+        fs::rename(system.folder.join(name), system.folder.with_file_name(name)).unwrap();
+    }
 }
 
 #[test]

@@ -3,7 +3,11 @@
 mod common;
 
 use common::{fed, folder, run, shell};
-use std::fs;
+use std::fs::{self, OpenOptions};
+use std::path::PathBuf;
+use std::process::Command;
+use std::thread::sleep;
+use std::time::Duration;
 
 #[test]
 fn a_directory_is_no_image() {
@@ -58,6 +62,28 @@ fn a_message_never_lands_in_an_output_file() {
     assert_eq!(ran.out, b"");
     assert_eq!(fs::read(d.join("out")).unwrap().len(), 448);
     assert_eq!(shell("$T check none - <&- >&- 2>&-", &d).status, Some(2));
+}
+
+/// Else what is meant for the stream would go to the file, or the file be taken for the input.
+#[test]
+fn no_file_gets_the_number_of_a_closed_stream() {
+    let d = folder("closed-numbers");
+    shell("mkfifo $D/sheet", &d).done();
+    let sheet = d.join("sheet");
+    let line = r#"exec "$T" pack "$1" -o /dev/null <&- >&- 2>&-"#;
+    let mut command = Command::new("sh");
+    command.args(["-c", line, "sh", sheet.to_str().unwrap()]);
+    let mut program = command.env("T", env!("CARGO_BIN_EXE_tardorelga")).spawn().unwrap();
+    let writer = OpenOptions::new().write(true).open(&sheet).unwrap();
+    let numbers = PathBuf::from(format!("/proc/{}/fd", program.id()));
+    let open = |number: &str| fs::read_link(numbers.join(number)).unwrap_or_default();
+    while !common::names_in(&numbers).iter().any(|number| open(number) == sheet) {
+        sleep(Duration::from_millis(1));
+    }
+    let streams = ["0", "1", "2"].map(open);
+    drop(writer);
+    assert_eq!(program.wait().unwrap().code(), Some(1), "an empty sheet");
+    assert_eq!(streams, ["/dev/null"; 3].map(PathBuf::from));
 }
 
 #[test]

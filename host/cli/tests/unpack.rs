@@ -2,19 +2,16 @@
 
 mod common;
 
-use common::{at_once, fed, folder, give_away, names_in, owner_of, root, run, shell};
+use common::{
+    at_once, fed, folder, give_away, lines_of, mode, names_in, owner_of, root, run, shell,
+};
 use std::fs;
-use std::os::unix::fs::{symlink, MetadataExt, PermissionsExt};
-use std::path::Path;
+use std::os::unix::fs::{symlink, PermissionsExt};
 
 const ACCEPTED: [&str; 3] = ["ledger", "messages", "options"];
 
 fn sample(name: &str) -> String {
     format!("samples/{name}.tgi")
-}
-
-fn lines_of(file: &Path) -> Vec<String> {
-    fs::read_to_string(file).unwrap().lines().map(String::from).collect()
 }
 
 /// The records of each file of an image, in hexadecimal.
@@ -118,30 +115,30 @@ fn a_folder_appears_whole_or_not_at_all() {
 #[test]
 fn an_empty_folder_keeps_its_mode_and_owner() {
     let d = folder("kept-folder");
-    for mode in [0o700, 0o750, 0o2770, 0o1777] {
-        let out = d.join(format!("{mode:o}"));
+    for old in [0o700, 0o750, 0o2770, 0o1777] {
+        let out = d.join(format!("{old:o}"));
         fs::create_dir(&out).unwrap();
         let owner = give_away(&out);
-        fs::set_permissions(&out, fs::Permissions::from_mode(mode)).unwrap();
+        fs::set_permissions(&out, fs::Permissions::from_mode(old)).unwrap();
         run(&["unpack".as_ref(), "samples/ledger.tgi".as_ref(), out.as_os_str()]).done();
-        assert_eq!(fs::metadata(&out).unwrap().mode() & 0o7777, mode);
+        assert_eq!(mode(&out), old);
         assert_eq!(owner_of(&out), owner);
         assert_eq!(names_in(&out), ["0001.records", "sheet"]);
         let group = owner_of(&out.join("sheet")).1;
-        assert!(mode & 0o2000 == 0 || group == owner.1, "a folder that hands its group on");
+        assert!(old & 0o2000 == 0 || group == owner.1, "a folder that hands its group on");
     }
 }
 
 #[test]
 fn a_new_folder_has_the_usual_mode() {
     let d = folder("usual-folder");
-    for (mask, mode) in [("077", 0o700), ("027", 0o750), ("022", 0o755), ("0", 0o777)] {
+    for (mask, usual) in [("077", 0o700), ("027", 0o750), ("022", 0o755), ("0", 0o777)] {
         shell(&format!("umask {mask}; $T unpack samples/ledger.tgi $D/{mask}"), &d).done();
-        assert_eq!(fs::metadata(d.join(mask)).unwrap().mode() & 0o7777, mode);
+        assert_eq!(mode(&d.join(mask)), usual);
     }
     fs::set_permissions(&d, fs::Permissions::from_mode(0o2755)).unwrap();
     shell("umask 022; $T unpack samples/ledger.tgi $D/group", &d).done();
-    assert_eq!(fs::metadata(d.join("group")).unwrap().mode() & 0o7777, 0o2755);
+    assert_eq!(mode(&d.join("group")), 0o2755);
 }
 
 #[test]

@@ -87,25 +87,29 @@ const VOL1: [Row; 8] = [
     (80, "label standard version", "4"),
 ];
 
-/// It has a rule of its own in HDR1, behind which no block stands yet.
-const BLOCK_COUNT: u32 = 55;
+const HDR1: [Row; 13] = first("ZEROs");
 
-/// HDR1, EOV1 and EOF1.
-const FIRST: [Row; 13] = [
-    (1, "label name", KIND),
-    (5, "file identifier", CHARACTERS),
-    (22, "set identifier", CHARACTERS),
-    (28, "section number", DIGITS),
-    (32, "sequence number", DIGITS),
-    (36, "generation number", POSITIVE),
-    (40, "version number", DIGITS),
-    (42, "creation date", DATE),
-    (48, "expiration date", DATE),
-    (54, "accessibility", CHARACTERS),
-    (BLOCK_COUNT, "block count", DIGITS),
-    (61, "implementation", CHARACTERS),
-    (74, "reserved field", SPACES),
-];
+/// EOV1 and EOF1.
+const TRAILER1: [Row; 13] = first(DIGITS);
+
+/// A first label, with what its block count must be.
+const fn first(block_count: &'static str) -> [Row; 13] {
+    [
+        (1, "label name", KIND),
+        (5, "file identifier", CHARACTERS),
+        (22, "set identifier", CHARACTERS),
+        (28, "section number", DIGITS),
+        (32, "sequence number", DIGITS),
+        (36, "generation number", POSITIVE),
+        (40, "version number", DIGITS),
+        (42, "creation date", DATE),
+        (48, "expiration date", DATE),
+        (54, "accessibility", CHARACTERS),
+        (55, "block count", block_count),
+        (61, "implementation", CHARACTERS),
+        (74, "reserved field", SPACES),
+    ]
+}
 
 /// HDR2, EOV2 and EOF2.
 const SECOND: [Row; 7] = [
@@ -126,16 +130,14 @@ const USER: [Row; 3] =
 fn words(kind: Kind, first: u32) -> (&'static str, &'static str) {
     let rows: &[Row] = match kind {
         Kind::Vol(1) => &VOL1,
-        Kind::Hdr(1) | Kind::Eov(1) | Kind::Eof(1) => &FIRST,
+        Kind::Hdr(1) => &HDR1,
+        Kind::Eov(1) | Kind::Eof(1) => &TRAILER1,
         Kind::Hdr(2) | Kind::Eov(2) | Kind::Eof(2) => &SECOND,
         Kind::Uhl | Kind::Utl => &USER,
         _ => &[],
     };
     let row = rows.iter().find(|(begin, ..)| *begin == first);
-    row.map_or(("", ""), |&(_, name, holds)| match (kind, first) {
-        (Kind::Hdr(1), BLOCK_COUNT) => (name, "ZEROs"),
-        _ => (name, holds),
-    })
+    row.map_or(("", ""), |&(_, name, holds)| (name, holds))
 }
 
 /// The position of the first byte of the field in which a byte stands, or 0.

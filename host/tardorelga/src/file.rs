@@ -2,7 +2,7 @@
 
 use crate::ffi::Begun;
 use crate::records::{begun, Facts, Records};
-use crate::{field, Format, Kind, Verdict};
+use crate::{field, Format, Kind, Verdict, FILE_ENTRY, NAME};
 use std::fmt;
 
 /// A file of an accepted set: the fields of its first header labels that have a meaning, and its records.
@@ -112,10 +112,10 @@ impl<'a> File<'a> {
     /// let file = tardorelga::file(include_bytes!("../doc/ledger.tgi"), 1).unwrap();
     /// assert_eq!(&file.entry(), b"LEDGER           000100 85335 00000F0002000010");
     /// ```
-    pub fn entry(&self) -> [u8; 46] {
+    pub fn entry(&self) -> [u8; FILE_ENTRY] {
         let first = [5, 36, 40, 42, 48].map(|position| self.of_first(position));
         let second = [5, 6, 11].map(|position| self.of_second(position));
-        let mut entry = [0; 46];
+        let mut entry = [0; FILE_ENTRY];
         let bytes = first.into_iter().chain(second).flatten();
         entry.iter_mut().zip(bytes).for_each(|(to, byte)| *to = *byte);
         entry
@@ -127,8 +127,8 @@ impl<'a> File<'a> {
     /// let file = tardorelga::file(include_bytes!("../doc/ledger.tgi"), 1).unwrap();
     /// assert_eq!(&file.set_entry(), b"SET001");
     /// ```
-    pub fn set_entry(&self) -> [u8; 6] {
-        let mut entry = [0; 6];
+    pub fn set_entry(&self) -> [u8; NAME] {
+        let mut entry = [0; NAME];
         entry.copy_from_slice(self.set_identifier());
         entry
     }

@@ -26,6 +26,8 @@
 //!
 //! # The numbers
 //!
+//! They have [names](numbers) too.
+//!
 //! | number | given where |
 //! |--:|---|
 //! | 0 | done |
@@ -61,6 +63,7 @@ mod files;
 mod format;
 mod items;
 mod listing;
+pub mod numbers;
 mod order;
 mod records;
 mod rewrite;
@@ -93,3 +96,8 @@ pub const HIGHEST_QUOTA: u64 = 999_999;
 pub const LONGEST_RECORD: usize = 99_999;
 /// No listing has more bytes.
 pub const LONGEST_LISTING: usize = 4_096;
+
+/// The bytes of a set identifier or a reel name.
+pub const NAME: usize = 6;
+/// The bytes of a file on an order sheet, see [`Sheet::files`].
+pub const FILE_ENTRY: usize = 46;

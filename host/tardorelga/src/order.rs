@@ -1,6 +1,6 @@
 //! An order sheet that is put together piece by piece.
 
-use crate::{write, File, Format, Sheet, Verdict, HIGHEST_QUOTA, LONGEST_IMAGE};
+use crate::{write, File, Format, Sheet, Verdict, FILE_ENTRY, HIGHEST_QUOTA, LONGEST_IMAGE, NAME};
 use std::fmt;
 
 /// An order sheet of its own bytes: set identifier, quota, reel names, and files with their records.
@@ -15,7 +15,7 @@ use std::fmt;
 /// ```
 #[derive(Clone)]
 pub struct Order {
-    set: [u8; 6],
+    set: [u8; NAME],
     files: Vec<u8>,
     counts: Vec<u64>,
     lengths: Vec<u64>,
@@ -66,7 +66,7 @@ impl Order {
 
     /// The name of the next reel; 1 to 16 are named, and as many as needed are written.
     pub fn reel(&mut self, name: &str) -> &mut Order {
-        self.names.extend(text::<6>(name));
+        self.names.extend(text::<NAME>(name));
         self
     }
 
@@ -100,7 +100,7 @@ impl Order {
         copy
     }
 
-    fn begin(&mut self, entry: &[u8; 46]) -> OrderedFile<'_> {
+    fn begin(&mut self, entry: &[u8; FILE_ENTRY]) -> OrderedFile<'_> {
         self.files.extend(entry);
         self.counts.push(0);
         OrderedFile { order: self }
@@ -207,7 +207,7 @@ impl OrderedFile<'_> {
 
     /// Writes over a field of the last entry.
     fn put<const WIDTH: usize>(&mut self, at: usize, value: [u8; WIDTH]) -> &mut Self {
-        let entry = self.order.files.len() - 46;
+        let entry = self.order.files.len() - FILE_ENTRY;
         self.order.files[entry + at..][..WIDTH].copy_from_slice(&value);
         self
     }

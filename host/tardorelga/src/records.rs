@@ -1,5 +1,6 @@
 //! The records of a set, by number and by walk.
 
+use crate::numbers::SHORT_BUFFER;
 use crate::{ffi, Verdict};
 use std::borrow::Cow;
 use std::fmt;
@@ -206,7 +207,7 @@ impl<'a> Iterator for Records<'a> {
 
     fn next(&mut self) -> Option<Cow<'a, [u8]>> {
         let mut step = self.walk.step(self.image, &mut self.join);
-        if step == Err(10) {
+        if step == Err(SHORT_BUFFER) {
             self.join.resize(self.walk.size as usize, 0);
             step = self.walk.step(self.image, &mut self.join);
         }

@@ -1,6 +1,7 @@
 //! The verdict on an image.
 
 use crate::ffi;
+use crate::numbers::DONE;
 use std::fmt;
 
 /// An answer: it is done, or refused with a number and the place of the first fault. The
@@ -28,7 +29,7 @@ pub struct Verdict {
 impl Verdict {
     /// Every rule holds.
     pub fn is_accepted(self) -> bool {
-        self.number == 0
+        self.number == DONE
     }
 
     /// The sentence of its number.

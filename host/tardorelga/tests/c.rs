@@ -296,8 +296,20 @@ fn the_limits_are_those_of_the_library() {
         ("MOST_FILES", tardorelga::MOST_FILES),
         ("MOST_REELS", tardorelga::MOST_REELS),
         ("HIGHEST_QUOTA", tardorelga::HIGHEST_QUOTA as usize),
+        ("NAME", tardorelga::NAME),
+        ("FILE_ENTRY", tardorelga::FILE_ENTRY),
     ];
     limits.iter().for_each(|(name, limit)| assert_eq!(constant(name), limit.to_string()));
+}
+
+#[test]
+fn the_numbers_have_the_names_of_the_library() {
+    let source = include_str!("../src/numbers.rs");
+    let constants = source.lines().filter_map(|line| line.strip_prefix("pub const "));
+    let named = constants.filter_map(|line| line.trim_end_matches(';').split_once(": u32 = "));
+    let named: Vec<(&str, &str)> = named.collect();
+    assert_eq!(named.len(), 16);
+    named.iter().for_each(|(name, value)| assert_eq!(constant(name), *value));
 }
 
 /// Each number, kind and group has one name, and the table above the numbers has the same names.

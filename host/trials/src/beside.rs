@@ -20,7 +20,9 @@ extern "C" {
 const NOW: c_int = 2;
 
 #[derive(Clone, Copy)]
-pub struct Beside(unsafe extern "C" fn(*const u8, usize) -> Verdict);
+pub struct Beside(Check);
+
+type Check = unsafe extern "C" fn(*const u8, usize) -> Verdict;
 
 impl Beside {
     /// None where `host/beside` has left no library.
@@ -33,7 +35,7 @@ impl Beside {
             }
             let check = dlsym(library, c"tardorelga_check".as_ptr());
             assert!(!check.is_null(), "target/beside.so has tardorelga_check");
-            Some(Beside(std::mem::transmute(check)))
+            Some(Beside(std::mem::transmute::<*mut c_void, Check>(check)))
         }
     }
 

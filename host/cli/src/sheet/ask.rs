@@ -1,7 +1,7 @@
 //! What the library says of sheets that differ from a plain legal one in one thing. It alone judges.
 
-use super::field::ENTRY;
-use tardorelga::{Sheet, Verdict};
+use tardorelga::numbers::{ILLEGAL_SHEET, OVER_LIMIT};
+use tardorelga::{Sheet, Verdict, FILE_ENTRY, NAME};
 
 /// A legal sheet.
 pub const PLAIN: Sheet = Sheet {
@@ -15,13 +15,7 @@ pub const PLAIN: Sheet = Sheet {
 };
 
 /// A file of which any field but the block length may have any good value, the others being as they are.
-pub const PLAIN_FILE: &[u8; ENTRY] = b"LEDGER           000100 85335 00000F0002000005";
-
-const NAME: usize = 6;
-
-/// The library's numbers for a sheet over a limit, and for an illegal one.
-const OVER: u32 = 9;
-pub const ILLEGAL: u32 = 11;
+pub const PLAIN_FILE: &[u8; FILE_ENTRY] = b"LEDGER           000100 85335 00000F0002000005";
 
 /// What a quota may be, in words.
 pub const QUOTAS: &str = "1 to 999999";
@@ -32,18 +26,18 @@ fn refused(sheet: &Sheet, number: u32) -> Option<Verdict> {
 }
 
 pub fn is_illegal(sheet: &Sheet) -> bool {
-    refused(sheet, ILLEGAL).is_some()
+    refused(sheet, ILLEGAL_SHEET).is_some()
 }
 
 /// Whether any sheet with so many files is over a limit.
 pub fn too_many_files(count: usize) -> Option<Verdict> {
     let (files, counts) = (PLAIN_FILE.repeat(count), vec![0; count]);
-    refused(&Sheet { files: &files, counts: &counts, ..PLAIN }, OVER)
+    refused(&Sheet { files: &files, counts: &counts, ..PLAIN }, OVER_LIMIT)
 }
 
 /// Whether any sheet with so many reel names is over a limit.
 pub fn too_many_names(names: &[u8]) -> Option<Verdict> {
-    refused(&Sheet { names, ..PLAIN }, OVER)
+    refused(&Sheet { names, ..PLAIN }, OVER_LIMIT)
 }
 
 pub fn is_quota(quota: u64) -> bool {

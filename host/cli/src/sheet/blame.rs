@@ -1,11 +1,13 @@
 //! Finds the line for which the library refuses a sheet, by asking it about each line in a plain legal one.
 
-use super::ask::{is_illegal, is_quota, unfit_name, Unfit, ILLEGAL, PLAIN, PLAIN_FILE, QUOTAS};
-use super::field::{Field, CHARACTERS, ENTRY};
+use super::ask::{is_illegal, is_quota, unfit_name, Unfit, PLAIN, PLAIN_FILE, QUOTAS};
+use super::field::{Field, CHARACTERS};
 use super::{Order, Wrong, FIELDS};
-use crate::needed::{self, RAISE, TOO_FEW};
+use crate::halves;
+use crate::needed::{self, RAISE};
 use crate::text::many;
-use tardorelga::{Sheet, Verdict};
+use tardorelga::numbers::{FEW_REELS, ILLEGAL_SHEET};
+use tardorelga::{Sheet, Verdict, FILE_ENTRY};
 
 const BLOCK_LENGTH: usize = FIELDS.len() - 2;
 const RECORD_LENGTH: usize = FIELDS.len() - 1;
@@ -20,23 +22,22 @@ impl Order {
     /// What is wrong with a sheet that the library refuses.
     pub fn blamed(&self, verdict: Verdict) -> Wrong {
         let wrong = match verdict.number {
-            ILLEGAL => self.illegal_line(),
-            TOO_FEW => Wrong::of_sheet(self.reels_needed()),
+            ILLEGAL_SHEET => self.illegal_line(),
+            FEW_REELS => Wrong::of_sheet(self.reels_needed()),
             _ => Wrong::of_sheet(self.size()),
         };
         wrong.by(verdict)
     }
 
-    /// The library's number for the sheet with another quota and other names.
-    fn number(&self, quota: u64, names: &[u8]) -> u32 {
-        let sheet = Sheet { quota, names, ..self.sheet() };
-        tardorelga::write(&sheet, &mut []).err().map_or(0, |verdict| verdict.number)
+    /// What the library says of the sheet with another quota and other names.
+    fn answer(&self, quota: u64, names: &[u8]) -> Result<usize, Verdict> {
+        tardorelga::write(&Sheet { quota, names, ..self.sheet() }, &mut [])
     }
 
     fn size(&self) -> String {
         let records = many(self.lengths.len() as u64, "record");
         let bytes = many(self.data.len() as u64, "byte");
-        let fits_on_few_reels = needed::fits_on_few_reels(|quota, names| self.number(quota, names));
+        let fits_on_few_reels = needed::fits_on_few_reels(|quota, names| self.answer(quota, names));
         let to_do = if fits_on_few_reels { RAISE } else { "make two sets of it" };
         format!("its {records} have {bytes}, and labels and blocks take more; {to_do}")
     }
@@ -44,8 +45,8 @@ impl Order {
     fn reels_needed(&self) -> String {
         let named = self.lines.reels.len();
         let lines = if named == 1 { "line" } else { "lines" };
-        let number = |quota, names: &[u8]| self.number(quota, names);
-        let needed = needed::in_words(self.quota, named, number);
+        let write = |quota, names: &[u8]| self.answer(quota, names);
+        let needed = needed::in_words(self.quota, named, write);
         format!("the sheet has {named} 'reel' {lines}, and {needed}")
     }
 
@@ -80,14 +81,16 @@ impl Order {
             return Some(Wrong::at_end("expected a 'file' line"));
         }
         let (mut lengths, mut data) = (&self.lengths[..], &self.data[..]);
-        self.files.chunks(ENTRY).zip(&self.counts).enumerate().find_map(|(i, (entry, &count))| {
-            let (own, rest) = lengths.split_at(count as usize);
-            lengths = rest;
-            let (bytes, rest) = data.split_at(own.iter().sum::<u64>() as usize);
-            data = rest;
-            let records = Records { entry, lengths: own, data: bytes };
-            self.illegal_field(i, entry).or_else(|| self.illegal_record(i, &records))
-        })
+        self.files.chunks(FILE_ENTRY).zip(&self.counts).enumerate().find_map(
+            |(i, (entry, &count))| {
+                let (own, rest) = lengths.split_at(count as usize);
+                lengths = rest;
+                let (bytes, rest) = data.split_at(own.iter().sum::<u64>() as usize);
+                data = rest;
+                let records = Records { entry, lengths: own, data: bytes };
+                self.illegal_field(i, entry).or_else(|| self.illegal_record(i, &records))
+            },
+        )
     }
 
     /// Each field alone in the plain file; then it is the record length, given the others.
@@ -95,18 +98,8 @@ impl Order {
         if !is_illegal(&Sheet { files: entry, ..PLAIN }) {
             return None;
         }
-        let put = |changed: &mut [u8], field: usize, value: &[u8]| {
-            changed[FIELDS[field].at..][..FIELDS[field].width].copy_from_slice(value);
-        };
-        let alone = |field: usize| {
-            let mut changed = *PLAIN_FILE;
-            if field == BLOCK_LENGTH {
-                put(&mut changed, RECORD_LENGTH, LEAST);
-            }
-            put(&mut changed, field, &entry[FIELDS[field].at..][..FIELDS[field].width]);
-            is_illegal(&Sheet { files: &changed, ..PLAIN })
-        };
-        let field = (0..RECORD_LENGTH).find(|&field| alone(field)).unwrap_or(RECORD_LENGTH);
+        let mut others = 0..RECORD_LENGTH;
+        let field = others.find(|&field| is_illegal_alone(field, entry)).unwrap_or(RECORD_LENGTH);
         let lines = &self.lines.files[file].fields;
         let line = lines[field].or(lines[0]).unwrap_or(0);
         let Field { key, good, .. } = FIELDS[field];
@@ -140,6 +133,16 @@ impl Order {
     }
 }
 
+/// Whether the plain file is illegal with this field of an entry.
+fn is_illegal_alone(field: usize, entry: &[u8]) -> bool {
+    let mut changed = *PLAIN_FILE;
+    if field == BLOCK_LENGTH {
+        FIELDS[RECORD_LENGTH].put(&mut changed, LEAST);
+    }
+    FIELDS[field].put(&mut changed, FIELDS[field].of(entry));
+    is_illegal(&Sheet { files: &changed, ..PLAIN })
+}
+
 /// The fields of a file, and its records.
 struct Records<'a> {
     entry: &'a [u8],
@@ -148,20 +151,11 @@ struct Records<'a> {
 }
 
 impl Records<'_> {
-    /// The first of the records that makes the file illegal, by halves, from 0.
+    /// The first of the records that makes the file illegal, from 0.
     fn first_illegal(&self) -> Option<usize> {
-        let (mut legal, mut wrong) = (0, self.lengths.len());
-        if !self.is_illegal_within(wrong) {
-            return None;
-        }
-        while wrong - legal > 1 {
-            let middle = legal + (wrong - legal) / 2;
-            match self.is_illegal_within(middle) {
-                true => wrong = middle,
-                false => legal = middle,
-            }
-        }
-        Some(legal)
+        let all = self.lengths.len();
+        let is_illegal = all > 0 && self.is_illegal_within(all);
+        is_illegal.then(|| halves::least(1, all, |count| self.is_illegal_within(count)) - 1)
     }
 
     /// With the first so many records alone.

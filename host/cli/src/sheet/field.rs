@@ -1,8 +1,7 @@
 //! The fields of a file on the sheet: their keywords, where they stand in the library's entry, and
 //! how a value is filled up to its width.
 
-/// The bytes of a file's fields, one behind the other.
-pub const ENTRY: usize = 46;
+use tardorelga::NAME;
 
 /// How a value shorter than its field is filled up.
 #[derive(Clone, Copy, PartialEq, Eq)]
@@ -58,10 +57,20 @@ pub const FIELDS: [Field; 8] = [
     field("record-length", 41, 5, Fill::Number, None, SUITING),
 ];
 
-pub const SET: Field = field("set", 0, 6, Fill::Text, None, CHARACTERS);
-pub const REEL: Field = field("reel", 0, 6, Fill::Text, None, CHARACTERS);
+pub const SET: Field = field("set", 0, NAME, Fill::Text, None, CHARACTERS);
+pub const REEL: Field = field("reel", 0, NAME, Fill::Text, None, CHARACTERS);
 
 impl Field {
+    /// The field in the entry of a file.
+    pub fn of<'a>(&self, entry: &'a [u8]) -> &'a [u8] {
+        &entry[self.at..][..self.width]
+    }
+
+    /// Puts a value of the field's width into the entry of a file.
+    pub fn put(&self, entry: &mut [u8], value: &[u8]) {
+        entry[self.at..][..self.width].copy_from_slice(value);
+    }
+
     /// The value at the field's width, or what was expected in its place.
     pub fn filled(&self, value: &[u8]) -> Result<Vec<u8>, String> {
         let digits = value.iter().all(u8::is_ascii_digit);
@@ -97,7 +106,7 @@ impl Field {
             Fill::Number => bytes,
             Fill::Date => bytes.trim_ascii_start(),
         };
-        let bare = super::text::is_bare(shown) && self.filled(shown).as_deref() == Ok(bytes);
+        let bare = super::read::is_bare(shown) && self.filled(shown).as_deref() == Ok(bytes);
         match bare {
             true => shown.to_vec(),
             false => [b"[", bytes, b"]"].concat(),

@@ -14,8 +14,7 @@ pub fn head_text(set: &[u8], quota: u64, names: &[u8]) -> Vec<u8> {
 pub fn file_text(entry: &[u8]) -> Vec<u8> {
     let mut text = b"\n".to_vec();
     for field in &FIELDS {
-        let value = &entry[field.at..field.at + field.width];
-        text.extend(line(if field.at > 0 { "  " } else { "" }, field, value));
+        text.extend(line(if field.at > 0 { "  " } else { "" }, field, field.of(entry)));
     }
     text
 }

@@ -1,11 +1,11 @@
 //! Reads the records of a sheet, from its lines and from the files that it names.
 
+use super::read::{keyword_length, unbracketed, Reading};
 use super::source::unread;
-use super::text::{keyword_length, unbracketed, Reading};
 use super::{Fault, Order};
-use crate::pack::LONGEST_IMAGE;
 use crate::text::many;
 use std::io::Read;
+use tardorelga::LONGEST_IMAGE;
 
 /// More records than any image has bytes.
 const MOST_RECORDS: u64 = 1 << 24;
@@ -162,8 +162,10 @@ fn word(text: &[u8]) -> Option<(&[u8], &[u8])> {
     (!word.is_empty()).then(|| (word, rest.trim_ascii_start()))
 }
 
+/// Digits alone: a sign is no part of a number.
 pub fn number(text: &[u8]) -> Option<u64> {
-    std::str::from_utf8(text).ok()?.trim().parse().ok()
+    let digits = std::str::from_utf8(text).ok()?.trim();
+    digits.bytes().all(|digit| digit.is_ascii_digit()).then(|| digits.parse().ok())?
 }
 
 /// `LENGTH`, or `LENGTH x COUNT`.

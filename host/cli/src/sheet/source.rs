@@ -2,8 +2,8 @@
 //! read further than a sheet of the limits can need, so that what has no end is refused.
 
 use super::{Fault, Judge, Wrong};
-use crate::names::short;
 use crate::stop::reason;
+use crate::text::names::short;
 use std::ffi::OsStr;
 use std::fs::{File, Metadata};
 use std::io::{self, BufRead, BufReader, Read};
@@ -63,7 +63,7 @@ impl Source<'_> {
     /// A file of lines.
     pub fn lines(&self, name: &[u8]) -> Result<Named, Fault> {
         let (name, file) = self.open(name)?;
-        Ok(Named { name, text: Text::new(BufReader::with_capacity(1 << 16, file)) })
+        Ok(Named { name, text: Text::new(file) })
     }
 }
 
@@ -90,8 +90,8 @@ pub fn unread(name: &str, error: io::Error) -> Fault {
 }
 
 /// A text, line by line.
-pub struct Text<R> {
-    source: R,
+pub struct Text {
+    file: BufReader<File>,
     line: Vec<u8>,
     number: usize,
 }
@@ -105,8 +105,8 @@ pub enum Halt {
 
 /// Of the sheet itself.
 impl From<Halt> for Wrong {
-    fn from(unfit: Halt) -> Wrong {
-        match unfit {
+    fn from(halt: Halt) -> Wrong {
+        match halt {
             Halt::Unread(error) => {
                 Wrong::of_sheet(Fault { what: reason(&error), judge: Judge::System })
             }
@@ -115,9 +115,10 @@ impl From<Halt> for Wrong {
     }
 }
 
-impl<R: BufRead> Text<R> {
-    pub fn new(source: R) -> Text<R> {
-        Text { source, line: Vec::new(), number: 0 }
+impl Text {
+    pub fn new(file: File) -> Text {
+        let file = BufReader::with_capacity(1 << 16, file);
+        Text { file, line: Vec::new(), number: 0 }
     }
 
     /// The next line with its number, from 1, without its line feed. What it takes goes off `left`.
@@ -125,7 +126,7 @@ impl<R: BufRead> Text<R> {
         self.line.clear();
         self.number += 1;
         let most = LONGEST_LINE.min(*left) + 1;
-        let line = (&mut self.source).take(most).read_until(b'\n', &mut self.line);
+        let line = (&mut self.file).take(most).read_until(b'\n', &mut self.line);
         let read = line.map_err(Halt::Unread)? as u64;
         let long = |what| Err(Halt::Long(self.number, format!("expected at most {what}")));
         if read > *left {
@@ -147,14 +148,14 @@ impl<R: BufRead> Text<R> {
 /// A file of lines that the sheet names.
 pub struct Named {
     pub name: String,
-    text: Text<BufReader<File>>,
+    text: Text,
 }
 
 impl Named {
     /// The next line with its number, as of a text.
     pub fn next(&mut self, left: &mut u64) -> Result<Option<(usize, &[u8])>, Fault> {
         let name = &self.name;
-        self.text.next(left).map_err(|unfit| match unfit {
+        self.text.next(left).map_err(|halt| match halt {
             Halt::Unread(error) => unread(name, error),
             Halt::Long(line, what) => format!("{what}, on line {line} of {name}").into(),
         })

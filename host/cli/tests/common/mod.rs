@@ -4,9 +4,9 @@
 pub mod terminal;
 
 use std::ffi::{OsStr, OsString};
-use std::fs;
+use std::fs::{self, Permissions};
 use std::io::Write;
-use std::os::unix::fs::{chown, MetadataExt};
+use std::os::unix::fs::{chown, MetadataExt, PermissionsExt};
 use std::path::{Path, PathBuf};
 use std::process::{Command, Stdio};
 
@@ -54,6 +54,15 @@ pub fn names_in(folder: &Path) -> Vec<String> {
     let mut names: Vec<String> = fs::read_dir(folder).unwrap().map(name).collect();
     names.sort();
     names
+}
+
+pub fn lines_of(file: &Path) -> Vec<String> {
+    fs::read_to_string(file).expect("a text").lines().map(String::from).collect()
+}
+
+/// The bytes of a file among the samples.
+pub fn sample(name: &str) -> Vec<u8> {
+    fs::read(root().join("samples").join(name)).expect("a sample")
 }
 
 /// Runs the program with these words and nothing on standard input.
@@ -120,6 +129,23 @@ pub fn import<R: AsRef<OsStr>>(reels: &[R]) -> Ran {
     let mut words: Vec<OsString> = vec!["import".into(), "-o".into(), "-".into()];
     words.extend(reels.iter().map(|reel| reel.as_ref().into()));
     run(&words)
+}
+
+/// A folder in which nobody can make a file, be it the owner of the system.
+pub fn unwritable(folder: &Path) -> PathBuf {
+    fs::set_permissions(folder, Permissions::from_mode(0o555)).expect("a folder of ours");
+    let probe = folder.join("probe");
+    match fs::write(&probe, "") {
+        Ok(()) => {
+            fs::remove_file(probe).expect("the probe");
+            "/sys".into()
+        }
+        Err(_) => folder.into(),
+    }
+}
+
+pub fn mode(path: &Path) -> u32 {
+    fs::metadata(path).expect("a file").mode() & 0o7777
 }
 
 /// User and group of a file or folder.

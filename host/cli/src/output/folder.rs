@@ -1,8 +1,8 @@
 //! The folder that `unpack` fills: it appears whole or not at all, at a new name or in place of an empty one.
 
-use crate::kept::{set_mode, Old, HANDS_ON_ITS_GROUP};
-use crate::temporary::Temporary;
-use crate::{output, system};
+use super::kept::{set_mode, Old, HANDS_ON_ITS_GROUP};
+use super::temporary::Temporary;
+use super::{sync, sync_folder_of, system};
 use std::fs::{self, File};
 use std::io::{self, ErrorKind};
 use std::os::unix::fs::MetadataExt;
@@ -44,7 +44,7 @@ impl Folder {
         self.old.as_ref().map_or(Ok(()), |old| old.begin(&folder))?;
         fill(temporary.path())?;
         self.old.as_ref().map_or_else(|| set_usual_mode(&folder), |old| old.end(&folder))?;
-        output::sync(&folder)?;
+        sync(&folder)?;
         temporary.put_folder(&self.path, self.old.is_some()).map_err(|error| {
             match error.kind() {
                 ErrorKind::AlreadyExists => in_the_way("is there already"),
@@ -52,7 +52,7 @@ impl Folder {
                 _ => error,
             }
         })?;
-        output::sync_folder_of(&self.path)
+        sync_folder_of(&self.path)
     }
 }
 

@@ -13,6 +13,13 @@ pub struct Run<'a> {
     bytes: usize,
 }
 
+/// How a run is told.
+pub enum Told<'r, 'a> {
+    Each(&'r [Item<'a>]),
+    /// The line of them all.
+    Sum(String),
+}
+
 impl<'a> Run<'a> {
     pub fn push(&mut self, block: Item<'a>) {
         self.last = block.number;
@@ -23,15 +30,14 @@ impl<'a> Run<'a> {
         }
     }
 
-    /// Each block, or the line of them all.
-    pub fn told(&self) -> Result<&[Item<'a>], String> {
+    pub fn told(&self) -> Told<'_, 'a> {
         let Run { few, last, count, bytes } = self;
         match few.first() {
             Some(first) if *count > FEW => {
                 let numbers = format!("{}-{last}", first.number);
-                Err(format!("{numbers:>8}  data blocks  {count} blocks, {bytes} bytes"))
+                Told::Sum(format!("{numbers:>8}  data blocks  {count} blocks, {bytes} bytes"))
             }
-            _ => Ok(few),
+            _ => Told::Each(few),
         }
     }
 }

@@ -1,18 +1,18 @@
 //! Reads the lines of a sheet.
 
 use super::ask::{too_many_files, too_many_names};
-use super::field::{Field, ENTRY, FIELDS, REEL, SET};
+use super::field::{Field, FIELDS, REEL, SET};
 use super::records::number;
 use super::source::{Source, Text};
 use super::{FileLines, Lines, Order, Wrong};
-use crate::names::echoed;
-use std::io::BufRead;
-use tardorelga::Verdict;
+use crate::text::names::echoed;
+use std::fs::File;
+use tardorelga::{Verdict, FILE_ENTRY};
 
 const KEYWORDS: &str = "set, quota, reel, file, generation, version, created, expires, format, \
     block-length, record-length, text, hex, lines, hex-lines, data";
 
-pub fn read(text: impl BufRead, source: Source) -> Result<Order, Wrong> {
+pub fn read(text: File, source: Source) -> Result<Order, Wrong> {
     let mut reading = Reading { source, order: Order::default(), entry: None };
     let mut text = Text::new(text);
     while let Some((number, line)) = text.next(&mut reading.source.left)? {
@@ -47,7 +47,7 @@ pub struct Reading<'a> {
     pub source: Source<'a>,
     pub order: Order,
     /// The fields so far of the file that is read.
-    entry: Option<[u8; ENTRY]>,
+    entry: Option<[u8; FILE_ENTRY]>,
 }
 
 impl Reading<'_> {
@@ -99,7 +99,7 @@ impl Reading<'_> {
         let field = &FIELDS[i];
         if i == 0 {
             self.close_file()?;
-            self.entry = Some([b' '; ENTRY]);
+            self.entry = Some([b' '; FILE_ENTRY]);
             self.order.counts.push(0);
             self.order.lines.files.push(FileLines::default());
             let count = self.order.counts.len();
@@ -114,7 +114,7 @@ impl Reading<'_> {
             return Err(Wrong::at(line, what));
         }
         let value = field.filled(value).map_err(|what| Wrong::at(line, what))?;
-        entry[field.at..field.at + field.width].copy_from_slice(&value);
+        field.put(entry, &value);
         Ok(())
     }
 
@@ -140,7 +140,7 @@ impl Reading<'_> {
                 let begun = lines.fields[0].unwrap_or(0);
                 Wrong::at(begun, format!("expected a '{}' line for this file", field.key))
             })?;
-            entry[field.at..field.at + field.width].copy_from_slice(usual);
+            field.put(&mut entry, usual);
         }
         self.order.files.extend_from_slice(&entry);
         Ok(())

@@ -4,7 +4,8 @@
 //! when it is dropped, and on the signals by which a program is told to end. They are made, moved and
 //! removed under one lock; a signal waits for it, and so never comes between two steps that belong together.
 
-use crate::system::{self, Signals};
+use super::rename;
+use super::system::{self, Signals};
 use std::fs::{self, DirBuilder, File, OpenOptions, Permissions};
 use std::io::{self, ErrorKind};
 use std::os::unix::fs::{DirBuilderExt, MetadataExt, OpenOptionsExt, PermissionsExt};
@@ -53,8 +54,8 @@ impl Temporary {
     pub fn put_folder(self, place: &Path, is_there: bool) -> io::Result<()> {
         let mut made = made();
         match is_there {
-            true => rename_over(&self.path, place)?,
-            false => rename_new_folder(&self.path, place)?,
+            true => rename::over(&self.path, place)?,
+            false => rename::folder_to_new(&self.path, place)?,
         }
         made.paths.retain(|path| *path != self.path);
         Ok(())
@@ -159,7 +160,7 @@ pub fn put_files(moves: &[Move], over: bool) -> Result<(), (usize, io::Error)> {
     let old = if over { second_names(moves)? } else { Vec::new() };
     let mut made = made();
     for (at, Move { file, place }) in moves.iter().enumerate() {
-        let rename = if over { rename_over } else { rename_new };
+        let rename = if over { rename::over } else { rename::to_new };
         if let Err(error) = rename(&file.path, place) {
             let back = |at: usize| put_back(&moves[at], old.get(at).and_then(Option::as_ref));
             (0..at).rev().for_each(back);
@@ -192,45 +193,4 @@ fn put_back(moved: &Move, old: Option<&Temporary>) {
         Some(old) => fs::rename(&old.path, moved.place),
         None => fs::rename(moved.place, &moved.file.path),
     };
-}
-
-/// Takes the place of a file or of an empty folder, or of nothing.
-fn rename_over(from: &Path, to: &Path) -> io::Result<()> {
-    fs::rename(from, to).map_err(|error| match error.kind() {
-        ErrorKind::ResourceBusy | ErrorKind::CrossesDevices => io::Error::other(
-            "can't be replaced, since a file system is mounted there; choose another name",
-        ),
-        _ => error,
-    })
-}
-
-fn is_unknown(error: &io::Error) -> bool {
-    matches!(error.raw_os_error(), Some(system::INVALID | system::NO_CALL))
-}
-
-/// Where a file system has no renaming that replaces nothing, a second name is refused as well where there
-/// is one. Where it has none of that either, it is asked right before: a file that comes between these two
-/// calls would be lost, and no call is left that prevents it.
-fn rename_new(from: &Path, to: &Path) -> io::Result<()> {
-    match system::rename_new(from, to) {
-        Err(error) if is_unknown(&error) => {}
-        other => return other,
-    }
-    match fs::hard_link(from, to) {
-        Ok(()) => {
-            remove(from);
-            Ok(())
-        }
-        Err(error) if error.kind() == ErrorKind::AlreadyExists => Err(error),
-        Err(_) if fs::symlink_metadata(to).is_ok() => Err(ErrorKind::AlreadyExists.into()),
-        Err(_) => fs::rename(from, to),
-    }
-}
-
-/// The usual renaming of a folder replaces nothing but an empty one.
-fn rename_new_folder(from: &Path, to: &Path) -> io::Result<()> {
-    match system::rename_new(from, to) {
-        Err(error) if is_unknown(&error) => fs::rename(from, to),
-        other => other,
-    }
 }

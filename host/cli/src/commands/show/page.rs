@@ -2,7 +2,7 @@
 
 use super::dump;
 use super::paint::Paint;
-use super::run::Run;
+use super::run::{Run, Told};
 use super::view::View;
 use crate::stop::Stop;
 use crate::streams::Out;
@@ -82,8 +82,8 @@ impl<'a> Page<'a> {
 
     fn run(&mut self, run: &Run) -> Result<(), Stop> {
         match run.told() {
-            Ok(few) => few.iter().try_for_each(|block| self.item(block)),
-            Err(sum) => self.line(&sum),
+            Told::Each(blocks) => blocks.iter().try_for_each(|block| self.item(block)),
+            Told::Sum(line) => self.line(&line),
         }
     }
 

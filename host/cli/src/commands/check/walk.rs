@@ -17,14 +17,14 @@ pub enum Met {
 }
 
 /// Hands out what is below the folder, in the order of the names' bytes, until `each` can't go on.
-pub fn walk<E>(folder: &Path, each: &mut impl FnMut(Met) -> Result<(), E>) -> Result<(), E> {
+pub fn below<E>(folder: &Path, each: &mut impl FnMut(Met) -> Result<(), E>) -> Result<(), E> {
     let entries = match sorted(folder) {
         Ok(entries) => entries,
         Err(error) => return each(Met::Unread(folder.into(), error)),
     };
     for entry in entries {
         match entry.file_type() {
-            Ok(kind) if kind.is_dir() => walk(&entry.path(), each)?,
+            Ok(kind) if kind.is_dir() => below(&entry.path(), each)?,
             _ => each(met(&entry.path()))?,
         }
     }

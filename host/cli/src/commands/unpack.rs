@@ -1,19 +1,16 @@
 //! `unpack FILE DIR`: the records of a set as files, and the order sheet that packs them again.
 
-use crate::folder::Folder;
+use super::records::Form;
 use crate::input::Set;
-use crate::names::told;
-use crate::records::Form;
+use crate::output::Folder;
 use crate::sheet;
 use crate::stop::{Status, Stop};
-use crate::words::{names, quota, Words};
-use std::fs::{self, File};
+use crate::text::names::told;
+use crate::words::{quota, reel_names, Words};
+use std::fs::File;
 use std::io::{self, BufWriter, ErrorKind, Write};
 use std::path::{Path, PathBuf};
-use tardorelga::Files;
-
-/// The most that a reel may hold, so that as few reels as can be are needed.
-const QUOTA: u64 = 999_999;
+use tardorelga::{Files, HIGHEST_QUOTA};
 
 /// The kind of an error that is no fault of the folder: a record that its form can't hold.
 const UNFIT: ErrorKind = ErrorKind::InvalidData;
@@ -22,13 +19,14 @@ pub fn run(words: &Words) -> Result<Status, Stop> {
     let (inputs, [folder]) = words.set_and(["folder"])?;
     let form = Form::of(words)?;
     let quota = words.value("--quota")?.map(quota).transpose()?;
-    let names = words.value("--reels")?.map(names).transpose()?;
+    let names = words.value("--reels")?.map(reel_names).transpose()?;
     let trouble = |error| Stop::trouble(told(folder), error);
     let place = Folder::at(Path::new(folder)).map_err(trouble)?;
     let set = Set::read(words, inputs)?;
     let files = tardorelga::files(&set.image).map_err(|verdict| set.refused(verdict))?;
     let own = || tardorelga::reel_names(&set.image).flatten().copied().collect();
-    let head = Head { quota: quota.unwrap_or(QUOTA), names: names.unwrap_or_else(own) };
+    // With the highest quota as few reels as can be are needed.
+    let head = Head { quota: quota.unwrap_or(HIGHEST_QUOTA), names: names.unwrap_or_else(own) };
     let written = place.put(|folder| fill(files, &head, form, folder));
     written.map_err(|error| match error.kind() {
         UNFIT => set.trouble(error),
@@ -53,58 +51,60 @@ fn fill(files: Files, head: &Head, form: Form, folder: &Path) -> io::Result<()> 
         text.extend(sheet::file_text(&file.entry()));
         text.extend(records(&file, form, folder)?.as_bytes());
     }
-    let mut sheet = Output::new(folder.join("sheet"))?;
+    let mut sheet = NewFile::at(folder.join("sheet"))?;
     sheet.put(&text)?;
     sheet.end()
 }
 
-/// Writes the records of one file, and gives the line that the sheet has for them; no line where there
+/// Writes the records of one file, and gives the line that the sheet has for them; neither where there
 /// are none.
 fn records(of: &tardorelga::File, form: Form, folder: &Path) -> io::Result<String> {
-    let number = u64::from(of.sequence());
+    let number = of.sequence();
     let name = |ending: &str| format!("{number:04}.{ending}");
-    let file = name(match form {
-        Form::Raw => "records",
-        Form::Lines => "txt",
-        Form::Hex => "hex",
-    });
-    let mut out = Output::new(folder.join(&file))?;
-    let mut lengths = Lengths::new(folder.join(name("lengths")));
-    let mut count = 0;
-    for record in of.records() {
-        count += 1;
+    if of.records().len() == 0 {
+        return Ok(String::new());
+    }
+    let (file, lengths) = (name(ending(form)), name("lengths"));
+    let mut out = NewFile::at(folder.join(&file))?;
+    let mut runs = Lengths::new(folder.join(&lengths));
+    for (count, record) in (1..).zip(of.records()) {
         match form {
-            Form::Raw => lengths.push(record.len() as u64)?,
+            Form::Raw => runs.push(record.len() as u64)?,
             Form::Lines if record.contains(&b'\n') => return Err(unfit_for_lines(number, count)),
             _ => {}
         }
         form.give(&record, |bytes| out.put(bytes))?;
     }
     out.end()?;
-    if count == 0 {
-        return fs::remove_file(folder.join(&file)).map(|()| String::new());
-    }
-    Ok(match (form, lengths.end()?) {
+    Ok(match (form, runs.end()?) {
         (Form::Lines, _) => format!("  lines {file}\n"),
         (Form::Hex, _) => format!("  hex-lines {file}\n"),
         (Form::Raw, Some(each)) => format!("  data {file} each {each}\n"),
-        (Form::Raw, None) => format!("  data {file} lengths {}\n", name("lengths")),
+        (Form::Raw, None) => format!("  data {file} lengths {lengths}\n"),
     })
 }
 
-fn unfit_for_lines(file: u64, record: u64) -> io::Error {
+fn ending(form: Form) -> &'static str {
+    match form {
+        Form::Raw => "records",
+        Form::Lines => "txt",
+        Form::Hex => "hex",
+    }
+}
+
+fn unfit_for_lines(file: u32, record: u64) -> io::Error {
     let what = format!("record {record} of file {file} holds a line feed; unpack without --lines");
     io::Error::new(UNFIT, what)
 }
 
 /// A file being written.
-struct Output {
+struct NewFile {
     file: BufWriter<File>,
 }
 
-impl Output {
-    fn new(path: PathBuf) -> io::Result<Output> {
-        Ok(Output { file: BufWriter::with_capacity(1 << 16, File::create_new(path)?) })
+impl NewFile {
+    fn at(path: PathBuf) -> io::Result<NewFile> {
+        Ok(NewFile { file: BufWriter::with_capacity(1 << 16, File::create_new(path)?) })
     }
 
     fn put(&mut self, bytes: &[u8]) -> io::Result<()> {
@@ -119,7 +119,7 @@ impl Output {
 /// The lengths of records, in runs of equal ones; a file of them is begun only where it is needed.
 struct Lengths {
     path: PathBuf,
-    file: Option<Output>,
+    file: Option<NewFile>,
     length: u64,
     count: u64,
 }
@@ -141,7 +141,7 @@ impl Lengths {
     fn put_run(&mut self) -> io::Result<()> {
         let file = match &mut self.file {
             Some(file) => file,
-            none => none.insert(Output::new(self.path.clone())?),
+            none => none.insert(NewFile::at(self.path.clone())?),
         };
         let line = match self.count {
             1 => format!("{}\n", self.length),
@@ -157,7 +157,7 @@ impl Lengths {
             return Ok(Some(self.length));
         }
         self.put_run()?;
-        self.file.map_or(Ok(()), Output::end)?;
+        self.file.map_or(Ok(()), NewFile::end)?;
         Ok(None)
     }
 }

@@ -1,11 +1,8 @@
 //! Which items of an image are shown, and which of them is wrong.
 
 use crate::fault::Fault;
+use tardorelga::numbers::{NO_IMAGE, OVER_LIMIT};
 use tardorelga::{Field, Item};
-
-/// The library's numbers for bytes that are no image, and for more of anything than there may be.
-const NO_IMAGE: u32 = 1;
-const OVER_A_LIMIT: u32 = 9;
 
 pub struct View<'a> {
     pub image: &'a [u8],
@@ -54,7 +51,7 @@ impl<'a> View<'a> {
     pub fn is_too_long(&self) -> bool {
         let is_at_all = |fault: &Fault| {
             let verdict = fault.verdict;
-            verdict.number == OVER_A_LIMIT && verdict.item == 0
+            verdict.number == OVER_LIMIT && verdict.item == 0
         };
         self.fault.as_ref().is_some_and(is_at_all)
     }

@@ -1,7 +1,7 @@
 //! `import REEL.. -o OUT`: the image of a set whose reels are files in SIMH's form.
 
+use crate::input::reels;
 use crate::output::Output;
-use crate::reels;
 use crate::stop::{Status, Stop};
 use crate::words::Words;
 

@@ -3,21 +3,22 @@
 
 mod answer;
 mod report;
+mod walk;
 
-use crate::folders::{self, Met};
 use crate::stop::{Status, Stop};
 use crate::words::Words;
 use answer::Named;
 use report::Report;
 use std::ffi::OsStr;
 use std::path::Path;
+use walk::Met;
 
 /// The worst of the files decides the exit status.
 pub fn run(words: &Words) -> Result<Status, Stop> {
     if words.has("-r") && words.is_simh() {
         return Err(Stop::words("-r and --simh exclude each other"));
     }
-    let names = words.some(if words.is_simh() { "reel" } else { "file" })?;
+    let names = words.some(words.of_a_set())?;
     if !words.is_simh() && names.iter().filter(|name| *name == "-").count() > 1 {
         return Err(Stop::words("standard input is one image, and - is named twice"));
     }
@@ -28,7 +29,7 @@ pub fn run(words: &Words) -> Result<Status, Stop> {
     }
     for name in names {
         match words.has("-r") && is_folder(name) {
-            true => folders::walk(Path::new(name), &mut |met| tell(&mut report, met))?,
+            true => walk::below(Path::new(name), &mut |met| tell(&mut report, met))?,
             false => report.tell(&Named::Image(name))?,
         }
     }

@@ -1,7 +1,7 @@
 //! What a new file or folder keeps of the old one whose place it takes: owner and group, mode, and the lists of
 //! further users that it is open to.
 
-use crate::system::{self, List};
+use super::system::{self, List};
 use std::fs::{self, File, Metadata, Permissions};
 use std::io;
 use std::os::unix::fs::{fchown, MetadataExt, PermissionsExt};

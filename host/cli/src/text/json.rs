@@ -1,30 +1,27 @@
 //! Values as JSON has them.
 
-use crate::names::is_seen;
+use super::names::is_seen;
+use super::{hex, is_printable_ascii};
 use std::ffi::{OsStr, OsString};
 use std::os::unix::ffi::OsStrExt;
 
 /// A text.
 pub fn text(text: &str) -> String {
-    let mut quoted = String::from('"');
-    for c in text.chars() {
-        match c {
-            '"' | '\\' => quoted.extend(['\\', c]),
-            c if !is_seen(c) => quoted.push_str(&format!("\\u{:04x}", c as u32)),
-            c => quoted.push(c),
-        }
-    }
-    quoted + "\""
+    quoted(text.chars(), is_seen)
 }
 
 /// Bytes off a tape: each is the character of its number, so that none is lost.
 pub fn bytes(bytes: impl AsRef<[u8]>) -> String {
+    quoted(bytes.as_ref().iter().map(|&byte| char::from(byte)), is_printable_ascii)
+}
+
+fn quoted(text: impl Iterator<Item = char>, keeps: fn(char) -> bool) -> String {
     let mut quoted = String::from('"');
-    for &byte in bytes.as_ref() {
-        match byte {
-            b'"' | b'\\' => quoted.extend(['\\', char::from(byte)]),
-            b' '..=b'~' => quoted.push(char::from(byte)),
-            _ => quoted.push_str(&format!("\\u{byte:04x}")),
+    for c in text {
+        match c {
+            '"' | '\\' => quoted.extend(['\\', c]),
+            c if keeps(c) => quoted.push(c),
+            c => quoted.push_str(&format!("\\u{:04x}", c as u32)),
         }
     }
     quoted + "\""
@@ -46,7 +43,7 @@ pub fn file(file: &OsStr) -> String {
 
 /// The names of several files, as the member `what`.
 pub fn files(what: &str, files: &[OsString]) -> String {
-    names(what, files, |names| format!("[{}]", names.join(",")))
+    names(what, files, |names| list(names.into_iter()))
 }
 
 /// Names joined in one way; where one is no UTF-8, their bytes in hexadecimal too.
@@ -55,11 +52,6 @@ fn names<N: AsRef<OsStr>>(key: &str, names: &[N], join: fn(Vec<String>) -> Strin
     let texts = format!(r#""{key}":{}"#, all(|name| text(&name.to_string_lossy())));
     match names.iter().all(|name| name.as_ref().to_str().is_some()) {
         true => texts,
-        false => format!(r#"{texts},"{key}_hex":{}"#, all(hex)),
+        false => format!(r#"{texts},"{key}_hex":{}"#, all(|name| text(&hex(name.as_bytes())))),
     }
-}
-
-fn hex(name: &OsStr) -> String {
-    let digits: String = name.as_bytes().iter().map(|byte| format!("{byte:02x}")).collect();
-    text(&digits)
 }

@@ -1,6 +1,7 @@
 //! Names of files, and pieces of a sheet, as messages and lines tell them: whatever bytes they have, they
 //! can't end a line, move the cursor or turn the order of what is read.
 
+use super::{escape, is_printable_ascii};
 use std::ffi::OsStr;
 use std::os::unix::ffi::OsStrExt;
 
@@ -23,11 +24,16 @@ pub fn short(name: &[u8]) -> String {
     }
 }
 
+/// A word of the command line that is wrong.
+pub fn word(word: &OsStr) -> String {
+    echoed(word.as_bytes())
+}
+
 /// The beginning of what stands on a sheet or in a word, in quotes and in printable ASCII alone; dots
 /// behind them where more follows.
 pub fn echoed(text: &[u8]) -> String {
     let mut shown = String::new();
-    for piece in pieces(text, |c| c == ' ' || c.is_ascii_graphic()) {
+    for piece in pieces(text, is_printable_ascii) {
         if shown.len() + piece.len() > SHORT {
             return format!("\"{shown}\"..");
         }
@@ -56,7 +62,7 @@ pub fn is_seen(c: char) -> bool {
 fn pieces(text: &[u8], keeps: fn(char) -> bool) -> impl Iterator<Item = String> + '_ {
     text.utf8_chunks().flat_map(move |chunk| {
         let valid = chunk.valid().chars().map(move |c| escaped(c, keeps));
-        valid.chain(chunk.invalid().iter().map(hex))
+        valid.chain(chunk.invalid().iter().copied().map(escape))
     })
 }
 
@@ -66,10 +72,6 @@ fn escaped(c: char, keeps: fn(char) -> bool) -> String {
         '\t' => "\\t".into(),
         '"' | '\\' => format!("\\{c}"),
         c if keeps(c) => c.into(),
-        c => c.encode_utf8(&mut [0; 4]).as_bytes().iter().map(hex).collect(),
+        c => c.encode_utf8(&mut [0; 4]).bytes().map(escape).collect(),
     }
-}
-
-fn hex(byte: &u8) -> String {
-    format!("\\x{byte:02x}")
 }

@@ -1,23 +1,22 @@
 //! `export FILE -o NAME`: the reels of an image as files in SIMH's form, `NAME-1.tap` and so on.
 
-use crate::names::told;
 use crate::output::{self, Output};
 use crate::stop::{Status, Stop};
+use crate::text::names::{told, word};
 use crate::words::Words;
 use crate::{input, streams};
 use std::ffi::OsStr;
 use std::os::unix::ffi::OsStrExt;
 use std::path::{Path, PathBuf};
 use std::{fs, io};
-
-/// As many reels as an image has.
-const MOST_REELS: usize = 16;
+use tardorelga::MOST_REELS;
 
 pub fn run(words: &Words) -> Result<Status, Stop> {
     let [file] = words.exactly(["file"])?;
     let name = words.needed("-o")?;
     if name.is_empty() || name.as_bytes().ends_with(b"/") {
-        return Err(Stop::words(format!("-o is how the names of the reels begin, not {name:?}")));
+        let what = format!("-o is how the names of the reels begin, not {}", word(name));
+        return Err(Stop::words(what));
     }
     let image = input::image(file)?;
     // No item grows more than a block of one byte, from 4 bytes to 10.

@@ -1,18 +1,14 @@
 //! The reels of a set in SIMH's form, a file each, and the image that the library makes of them.
 
-use crate::input;
-use crate::pack::LONGEST_IMAGE;
 use crate::stop::Stop;
+use crate::{halves, input, room};
 use std::ffi::{OsStr, OsString};
-use tardorelga::Verdict;
+use tardorelga::numbers::{TORN_ITEM, TORN_TAPE};
+use tardorelga::{Verdict, LONGEST_IMAGE};
 
 /// Far more than a set has, since where reels are at fault only all of their bytes tell; but no more, so
 /// that an endless input ends.
 const MOST: u64 = 1 << 28;
-
-/// The library's numbers for a torn reel, and for more reels than a set has.
-const TORN: u32 = 15;
-const TOO_MANY: u32 = 2;
 
 /// What a set of reels is called in a message: by its first.
 pub fn name(files: &[OsString]) -> String {
@@ -30,10 +26,9 @@ pub fn more(files: &[OsString]) -> String {
 /// The image of the set on these reels.
 pub fn image(files: &[OsString]) -> Result<Vec<u8>, Stop> {
     let reels = Reels::read(files)?;
-    let mut image = vec![0; LONGEST_IMAGE];
-    let length = tardorelga::from_simh(&reels.tape, &reels.lengths, &mut image);
-    image.truncate(length.map_err(|verdict| reels.refused(verdict))?);
-    Ok(image)
+    let Reels { tape, lengths, .. } = &reels;
+    room::filled(LONGEST_IMAGE, |room| tardorelga::from_simh(tape, lengths, room))
+        .map_err(|verdict| reels.refused(verdict))
 }
 
 struct Reels<'a> {
@@ -70,25 +65,19 @@ impl Reels<'_> {
     fn refused(&self, verdict: Verdict) -> Stop {
         let name = name(self.files);
         match verdict.number {
-            TORN => Stop::refused(input::name(self.torn()), verdict),
-            TOO_MANY => {
+            TORN_TAPE => Stop::refused(input::name(self.torn()), verdict),
+            // Given here for more reels than a set has.
+            TORN_ITEM => {
                 Stop::Refused(verdict, format!("{name}: {verdict}: a set has 1 to 16 reels"))
             }
             _ => Stop::refused(name, verdict),
         }
     }
 
-    /// The first reel that is torn, by halves: a set is torn exactly if one of its reels is.
+    /// The first reel that is torn: a set is torn exactly if one of its reels is.
     fn torn(&self) -> &OsStr {
-        let (mut whole, mut torn) = (0, self.files.len());
-        while torn - whole > 1 {
-            let middle = whole + (torn - whole) / 2;
-            match self.is_torn_within(middle) {
-                true => torn = middle,
-                false => whole = middle,
-            }
-        }
-        &self.files[whole]
+        let count = halves::least(1, self.files.len(), |count| self.is_torn_within(count));
+        &self.files[count - 1]
     }
 
     /// What the library says of the first so many reels alone.
@@ -96,6 +85,6 @@ impl Reels<'_> {
         let lengths = &self.lengths[..count];
         let tape = &self.tape[..lengths.iter().sum::<u64>() as usize];
         let answer = tardorelga::from_simh(tape, lengths, &mut []);
-        matches!(answer, Err(verdict) if verdict.number == TORN)
+        matches!(answer, Err(verdict) if verdict.number == TORN_TAPE)
     }
 }

@@ -1,12 +1,13 @@
 //! A set by its names, and what is known of it.
 
 use crate::fault::Fault;
-use crate::names::told;
+use crate::input::{self, reels};
 use crate::stop::{reason, say, Status, Stop};
-use crate::text::many;
-use crate::{input, json, list, reels};
+use crate::text::names::told;
+use crate::text::{json, many};
 use std::ffi::{OsStr, OsString};
 use std::io::{self, ErrorKind};
+use tardorelga::Files;
 
 /// A set by its names.
 pub enum Named<'a> {
@@ -39,9 +40,9 @@ impl Answer {
     }
 
     fn on(image: &[u8]) -> Answer {
-        match Fault::found_in(image) {
-            None => Answer::Accepted(counts(image)),
-            Some(fault) => Answer::Refused(fault),
+        match tardorelga::files(image) {
+            Ok(files) => Answer::Accepted(counts(files)),
+            Err(verdict) => Answer::Refused(Fault::of(image, verdict)),
         }
     }
 
@@ -62,33 +63,24 @@ impl Answer {
         Answer::Unread(why)
     }
 
-    /// What keeps reels from being an image is told at once, with the reel that it is.
     fn on_reels(files: &[OsString]) -> Result<Answer, Stop> {
-        let (answer, sentence) = match reels::image(files) {
-            Ok(image) => return Ok(Answer::on(&image)),
-            Err(Stop::Refused(verdict, sentence)) => {
-                (Answer::Refused(Fault::unseen(verdict)), sentence)
+        match reels::image(files) {
+            Ok(image) => Ok(Answer::on(&image)),
+            Err(Stop::Trouble(sentence)) => {
+                say(&sentence);
+                Ok(Answer::Unread(sentence))
             }
-            Err(Stop::Trouble(sentence)) => (Answer::Unread(sentence.clone()), sentence),
-            Err(stop) => return Err(stop),
-        };
-        say(&sentence);
-        Ok(answer)
+            Err(stop) => Fault::told(stop).map(Answer::Refused),
+        }
     }
 }
 
-/// The sums of the listing: behind number, identifier and format each line has RECORDS and BYTES.
-fn counts(image: &[u8]) -> Counts {
-    const BEHIND_FORMAT: usize = 25;
+fn counts(files: Files) -> Counts {
     let mut counts = Counts::default();
-    for line in list::listing(image).split(|&byte| byte == b'\n').skip(1) {
-        let numbers = String::from_utf8_lossy(line.get(BEHIND_FORMAT..).unwrap_or(b""));
-        let mut numbers = numbers.split(' ').filter_map(|number| number.parse::<u64>().ok());
-        if let (Some(records), Some(bytes)) = (numbers.next(), numbers.next()) {
-            counts.files += 1;
-            counts.records += records;
-            counts.bytes += bytes;
-        }
+    for file in files {
+        counts.files += 1;
+        counts.records += file.records().len() as u64;
+        counts.bytes += file.bytes();
     }
     counts
 }
@@ -121,7 +113,7 @@ impl Named<'_> {
     pub fn json_line(&self, answer: &Answer) -> Vec<u8> {
         let names = match self {
             Named::Image(file) => json::file(file),
-            Named::Reels(files) => json::files("reels", files),
+            Named::Reels(files) => json::files("tapes", files),
         };
         let rest = match answer {
             Answer::Accepted(Counts { files, records, bytes }) => {

@@ -1,17 +1,18 @@
 //! The items as one JSON object.
 
 use super::view::View;
+use crate::commands::members;
 use crate::fault::Fault;
 use crate::stop::{Status, Stop};
 use crate::streams::Out;
+use crate::text::json;
 use crate::words::Words;
-use crate::{json, list};
 use std::ffi::OsString;
 use tardorelga::{Field, Item};
 
 pub fn put(words: &Words, files: &[OsString], view: &View, out: &mut Out) -> Result<(), Stop> {
-    let names = list::json_names(words, files);
-    let verdict = list::json_verdict(view.image, view.fault.as_ref());
+    let names = members::names(words, files);
+    let verdict = members::verdict(view.image, view.fault.as_ref());
     out.put(format!("{{{names},{verdict},\"items\":[").as_bytes())?;
     let (mut comma, mut behind) = ("", 0);
     for item in view.items() {
@@ -29,7 +30,7 @@ pub fn put(words: &Words, files: &[OsString], view: &View, out: &mut Out) -> Res
 /// Of reels that no image could be made of.
 pub fn put_unseen(words: &Words, files: &[OsString], fault: &Fault) -> Result<Status, Stop> {
     let mut out = Out::open()?;
-    let names = list::json_names(words, files);
+    let names = members::names(words, files);
     out.put(format!("{{{names},{}}}\n", fault.json()).as_bytes())?;
     out.end()?;
     Ok(Status::Refused)

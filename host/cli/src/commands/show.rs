@@ -9,18 +9,17 @@ mod view;
 
 use crate::fault::Fault;
 use crate::input::Set;
-use crate::stop::{say, Status, Stop};
+use crate::stop::{Status, Stop};
 use crate::streams::Out;
-use crate::words::{number, Words};
-use std::ffi::{OsStr, OsString};
+use crate::words::{number, too_many, Words};
+use std::ffi::OsString;
 use view::View;
 
 pub fn run(words: &Words) -> Result<Status, Stop> {
     let (files, item) = asked(words)?;
     let set = match Set::read(words, files) {
-        Err(Stop::Refused(verdict, sentence)) if words.has("--json") => {
-            say(&sentence);
-            return object::put_unseen(words, files, &Fault::unseen(verdict));
+        Err(stop) if words.has("--json") => {
+            return object::put_unseen(words, files, &Fault::told(stop)?);
         }
         read => read?,
     };
@@ -39,7 +38,7 @@ pub fn run(words: &Words) -> Result<Status, Stop> {
 
 /// The words of the set, and the number of the one item to show.
 fn asked(words: &Words) -> Result<(&[OsString], Option<u64>), Stop> {
-    let plain = words.some(if words.is_simh() { "reel" } else { "file" })?;
+    let plain = words.some(words.of_a_set())?;
     let (files, behind) = plain.split_at(if words.is_simh() { plain.len() } else { 1 });
     let item = match (behind, words.value("--item")?) {
         ([], item) => item,
@@ -60,8 +59,4 @@ fn without(number: u64, set: &Set, view: &View) -> Stop {
             Stop::Trouble(format!("{name}: there is no item {number}; the last is {last}"))
         }
     }
-}
-
-fn too_many(word: &OsStr) -> Stop {
-    Stop::words(format!("one word too many: {word:?}"))
 }

@@ -1,18 +1,12 @@
 //! `record FILE N R` and `records FILE N`: the bytes of records.
 
 use crate::input::Set;
-use crate::list;
 use crate::stop::{Status, Stop};
 use crate::streams::Out;
-use crate::text::many;
+use crate::text::{hex, many};
 use crate::words::{number, Words};
-use tardorelga::Verdict;
-
-/// Room for any record: its length is a number of five digits.
-const LONGEST: usize = 99_999;
-
-/// The library's number for a file or a record that is not there.
-const MISSING: u32 = 13;
+use tardorelga::numbers::NOT_THERE;
+use tardorelga::{Verdict, LONGEST_RECORD};
 
 /// How a record is printed.
 #[derive(Clone, Copy, PartialEq, Eq)]
@@ -44,15 +38,10 @@ impl Form {
         match self {
             Form::Raw => return put(record),
             Form::Lines => put(record)?,
-            Form::Hex => record.chunks(4096).try_for_each(|part| put(&hex(part)))?,
+            Form::Hex => record.chunks(4096).try_for_each(|part| put(hex(part).as_bytes()))?,
         }
         put(b"\n")
     }
-}
-
-fn hex(bytes: &[u8]) -> Vec<u8> {
-    let digit = |value: u8| b"0123456789abcdef"[value as usize];
-    bytes.iter().flat_map(|&byte| [digit(byte >> 4), digit(byte & 15)]).collect()
 }
 
 pub fn one(words: &Words) -> Result<Status, Stop> {
@@ -60,7 +49,7 @@ pub fn one(words: &Words) -> Result<Status, Stop> {
     let (n, r) = (number(n, "N")?, number(r, "R")?);
     let form = Form::of(words)?;
     let set = Set::read(words, files)?;
-    let mut join = vec![0; LONGEST];
+    let mut join = vec![0; LONGEST_RECORD];
     let record = tardorelga::record(&set.image, n, r, &mut join);
     let record = record.map_err(|verdict| missing(&set, n, verdict))?;
     let mut out = Out::open()?;
@@ -70,12 +59,15 @@ pub fn one(words: &Words) -> Result<Status, Stop> {
 
 /// A refusal; where there is no such file or record, with how many there are.
 fn missing(set: &Set, file: u64, verdict: Verdict) -> Stop {
-    if verdict.number != MISSING {
+    if verdict.number != NOT_THERE {
         return set.refused(verdict);
     }
     let there = match tardorelga::file(&set.image, file) {
         Ok(found) => format!("file {file} has {}", many(found.records().len() as u64, "record")),
-        Err(_) => format!("the set has {}", many(list::file_count(&set.image), "file")),
+        Err(_) => {
+            let count = tardorelga::files(&set.image).map_or(0, Iterator::count);
+            format!("the set has {}", many(count as u64, "file"))
+        }
     };
     set.refused_for(verdict, &format!("{there}, counted from 1"))
 }
