@@ -19,7 +19,6 @@ use Rattle.content.specs.declared.Step.{Step}
 use Rattle.content.specs.declared.Step.the-variants.{InImage, Joined, Refused}
 use Rattle.content.specs.declared.FileAt.{FileAt}
 use Rattle.content.specs.declared.NextFile.{NextFile}
-use Rattle.content.specs.declared.NextFile.the-variants.{At as Next, Nowhere as NoFile}
 use Rattle.content.specs.declared.Begun.{Begun}
 use Rattle.content.specs.declared.Begun.the-variants.{At, Refused as NotBegun}
 use Rattle.content.specs.declared.Found.{Found}

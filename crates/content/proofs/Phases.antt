@@ -6,14 +6,13 @@ use Prim.Native.Nat.{ℕ, _+_, _-_, _≤_}
 use native.Mathlib.Omega.{arith}
 use borrow.Author.Tests.{leb-true, eqb-true}
 use lib.Dec.{leb, eqb}
-use lib.ListN.{length, getD}
 use Rattle.base.specs.If.{ifB, if-true, if-false, if-case, and-first, and-second}
-use Rattle.base.specs.Part.{part, same}
 use Rattle.charset.specs.declared.Number.{Number}
 use Rattle.charset.specs.declared.Number.the-variants.{Value, Wrong as NoNumber}
 use Rattle.image.specs.Item.{block}
 use Rattle.order.specs.Kind.{hdr, eof, dataBlock, tapeMark, endOfReel, isKind}
 use Rattle.order.specs.Due.{dues, dueAfter}
+use Rattle.order.specs.Group.{amongData}
 use Rattle.order.specs.declared.Kind.{Kind}
 use Rattle.order.specs.declared.Phase.{Phase}
 use Rattle.order.specs.declared.Phase.the-variants.{Reel, Volume, UserVolume, FirstHeader, Header, UserHeader, Data, Trailer, FirstEof, Eof, EofUser, FirstEov, Eov, EovUser, FileEnd, VolumeEnd, SetClosed, ReelClosed, Over, Accepted}
@@ -22,8 +21,9 @@ use Rattle.label.specs.Field.{formatOf, blockLengthOf, recordLengthOf, offsetOf
 use Rattle.label.specs.Table.{second, fieldsOf}
 use Rattle.label.specs.Judged.{goodAt, labelFault}
 use Rattle.volume.specs.Fault.{valueOf}
-use Rattle.volume.specs.Step.{kindIn, isDue}
+use Rattle.volume.specs.Step.{kindIn}
 use Rattle.order.proofs.Laws.{Each, nine, chosen}
+use Rattle.order.proofs.Groups.{groupOf}
 use Rattle.volume.proofs.Reels.{block-other}
 use Rattle.sheet.proofs.Entries.{Rows, label-rows}
 
@@ -53,26 +53,7 @@ labels Over = false
 labels Accepted = false
 
 abbrev pub isData : Phase → Bool
-isData Reel = false
-isData (Volume n) = false
-isData (UserVolume n) = false
-isData FirstHeader = false
-isData (Header n) = false
-isData (UserHeader n) = false
-isData Data = true
-isData Trailer = false
-isData FirstEof = false
-isData (Eof n) = false
-isData (EofUser n) = false
-isData FirstEov = false
-isData (Eov n) = false
-isData (EovUser n) = false
-isData FileEnd = false
-isData VolumeEnd = false
-isData SetClosed = false
-isData ReelClosed = false
-isData Over = false
-isData Accepted = false
+isData p = eqb (groupOf p) amongData
 
 pub data-is : (p : Phase) → isData p ≡ true → p ≡ Data
 data-is Reel h = absurd (false≢true h)

@@ -14,25 +14,23 @@ use lib.ListN.{length, take, drop}
 use Rattle.base.specs.If.{ifB, if-true, if-false}
 use Rattle.base.specs.Part.{part}
 use Rattle.base.proofs.Parts.{part-within}
-use Rattle.image.specs.Item.{Item, block, mark, reelEnd, broken, shape, decode}
+use Rattle.image.specs.Item.{Item, block, mark, reelEnd, shape, decode}
 use Rattle.image.specs.Framing.{items}
 use Rattle.image.specs.declared.Shape.{Shape}
 use Rattle.image.specs.declared.Shape.the-variants.{Block, Mark, ReelEnd, Broken}
 use Rattle.image.proofs.Items.{block-within, mark-within, reel-end-within, decode-block, decode-mark, decode-reel-end, decode-broken, decode-past, shape-past}
-use Rattle.order.specs.Kind.{kind, other, dataBlock, tapeMark, endOfReel, endOfImage}
-use Rattle.order.specs.Due.{dueAfter}
+use Rattle.order.specs.Kind.{dataBlock, tapeMark, endOfReel, endOfImage}
 use Rattle.order.specs.Group.{amongLabels, amongData, groupAfter}
 use Rattle.order.specs.declared.Kind.{Kind}
 use Rattle.order.specs.declared.Phase.{Phase}
 use Rattle.order.specs.declared.Phase.the-variants.{Data}
-use Rattle.order.specs.declared.Due.{Due}
 use Rattle.order.specs.declared.Due.the-variants.{To, Wrong}
 use Rattle.order.proofs.Groups.{groupOf, due-group, data-group}
 use Rattle.label.specs.Name.{kindOf}
 use Rattle.volume.specs.State.{State, start}
 use Rattle.volume.specs.Step.{isDue, kindIn, bytesIn, stateAfter}
 use Rattle.volume.proofs.Reels.{broken-undue}
-use Rattle.volume.specs.Accepted.{Faultless, behind, All, MayEnd, Accepted}
+use Rattle.volume.specs.Accepted.{behind, All, MayEnd, Accepted}
 use Rattle.content.specs.Items.{torn, itemOf, kindAmong, restAt, itemBy, itemAt, Told, Met}
 use Rattle.content.specs.declared.items.ItemAt.{ItemAt}
 use Rattle.content.proofs.Sections.{by-place, start-fits, end-fits}
@@ -107,9 +105,9 @@ told s at g n st x xs k e h b again i (p, f, rest) =
     group = ap (λ (j : ℕ). groupAfter j k) e ∙ ap (groupAfter (groupOf (st .phase))) h ∙ sym (due-group (st .phase) p (kindIn (st .phase) x) (f .due))
 
 -- nothing is left: the image ends here
-met-end : (s : List ℕ) (at g : ℕ) (st : State) → length s ≤ at → itemAt s at g ≡ itemOf g endOfImage at 0
+met-end : (s : List ℕ) (at g : ℕ) → length s ≤ at → itemAt s at g ≡ itemOf g endOfImage at 0
 unfolding itemAt itemBy
-met-end s at g st h = ap (itemBy s g at) (sym (shape-past s at h)) ∙ sym (rest-end s g at _ refl h)
+met-end s at g h = ap (itemBy s g at) (sym (shape-past s at h)) ∙ sym (rest-end s g at _ refl h)
 
 -- from any place on, what is left without fault is met item by item
 met : (s : List ℕ) (at g : ℕ) (st : State) → g ≡ groupOf (st .phase) → All MayEnd st (decode (drop at s)) → Met (itemAt s) s at g st (decode (drop at s))
@@ -125,7 +123,7 @@ met s = by-place s (λ (at : ℕ). (g : ℕ) (st : State) → g ≡ groupOf (st 
         Goal xs = All MayEnd st xs → Met (itemAt s) s at g st xs
 
         by-end : Dec (at < length s) → Goal (decode (drop at s))
-        by-end (no past) = let h : length s ≤ at = omega arith in subst Goal (sym (decode-past s at h)) (λ _. met-end s at g st h)
+        by-end (no past) = let h : length s ≤ at = omega arith in subst Goal (sym (decode-past s at h)) (λ _. met-end s at g h)
         by-end (yes l) = by-shape (shape (drop at s)) refl
           where
             bare : (x : Item) (k : Kind) → k ≡ kindIn (st .phase) x → [] ≡ bytesIn x → at + 3 ≤ length s → decode (drop at s) ≡ x ∷ decode (drop (at + 3) s)

@@ -1,6 +1,6 @@
 // An image item by item, whatever its bytes: what stands at a place, and where the next item does. It knows the groups of items, and no fault.
 ghost use mathlib.Core.Path.{_≡_};
-ghost use Prim.Native.Nat.{_+_, _≤_, _<_};
+ghost use Prim.Native.Nat.{_+_, _<_};
 ghost use Rattle.content.specs.Items.{itemOf, kindAmong, restAt, itemAt};
 use image::Shape;
 use image::shape_at;

@@ -1,11 +1,10 @@
 -- The judgement of one label: its first wrong field (number 4), its accessibility (5), and the lowest unequal field of two labels (for 6); and the field in
 -- which a byte stands, for whoever shows a label.
 -- Document 01, "Numbers given back": within one item the smallest number; for 4, 5 and 6 the place is the first BP of the lowest wrong field.
-use mathlib.Core.Bool.{Bool, true, false}
+use mathlib.Core.Bool.{Bool, true}
 use mathlib.Core.List.{List, [], _∷_}
 use Prim.Native.Nat.{ℕ, _+_, _-_}
 use lib.Dec.{eqb, ltb}
-use lib.ListN.{getD}
 use Rattle.base.specs.If.{ifB}
 use Rattle.base.specs.Part.{part, same}
 use Rattle.base.specs.Answer.{fault}

@@ -6,10 +6,10 @@ use mathlib.Core.List.{List, [], _∷_, _++_}
 use Prim.Native.Nat.{ℕ, _+_, _≤_, _<_}
 use native.Mathlib.Omega.{arith}
 use borrow.Author.Tests.{leb-false, eqb-false, ne-eqb}
-use lib.Dec.{leb, eqb}
+use lib.Dec.{leb}
 use lib.ListN.{length, length-append}
 use Rattle.base.specs.If.{ifB, if-true, if-false, if-case, ap-if, and-left, and-first, and-second}
-use Rattle.base.specs.Answer.{verdict, fault, orElse}
+use Rattle.base.specs.Answer.{verdict, fault}
 use Rattle.base.specs.declared.Fault.{Fault}
 use Rattle.base.proofs.Faults.{or-second}
 use Rattle.image.specs.Item.{Item, block, mark, reelEnd, broken}
@@ -30,7 +30,7 @@ use Rattle.label.proofs.Families.{kind-other}
 use Rattle.volume.specs.State.{State, start}
 use Rattle.volume.specs.Fault.{volumeFault, contextFault, itemFault}
 use Rattle.volume.specs.Step.{kindIn, bytesIn, isDue, stateAfter, namesAfter}
-use Rattle.volume.specs.Accepted.{Faultless, All, MayEnd, behind}
+use Rattle.volume.specs.Accepted.{All, MayEnd, behind}
 
 -- ---- the table of what is due
 
