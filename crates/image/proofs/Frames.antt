@@ -17,7 +17,7 @@ use Rattle.base.proofs.Bytes.{same-refl, same-true}
 use Rattle.image.specs.declared.Shape.{Shape}
 use Rattle.image.specs.declared.Shape.the-variants.{Block, Mark, ReelEnd, Broken}
 use Rattle.image.specs.Item.{Item, block, mark, reelEnd, broken, mostBytes, shape, itemOf, decode, isItem, allItems}
-use Rattle.image.specs.Framing.{mostImage, mostReels, head, framedFrom, items, opens, framing}
+use Rattle.image.specs.Framing.{mostImage, mostReels, head, framedFrom, items, opens, framing, framingFrom}
 use Rattle.image.proofs.Items.{BlockAt, block-at, block-fits, decode-none, decode-more, by-items, decode-past, decode-at, decode-block, decode-mark, decode-reel-end, decode-broken}
 
 -- the first five bytes, as the code takes them
@@ -48,63 +48,59 @@ pub framed-reel-end : (n r : ℕ) (closed : Bool) (xs : List Item) → (r ≡ mo
 unfolding framedFrom
 framed-reel-end n r closed xs h = if-false _ _ _ (ne-eqb r mostReels h)
 
--- ---- the loop: at a place, with n items and r reels passed
+-- ---- the loop: at a place, with n items and r reels before it, from which the framing is that of the whole
 
-pub record Walked (s : List ℕ) (at n r : ℕ) (closed : Bool) : Type 0 where
-  pub counted : n ≤ at
+pub record Walked (s : List ℕ) (whole : Verdict) (at n r : ℕ) (closed : Bool) : Type 0 where
+  pub counted : n ≤ mostImage + at
   pub reels : r ≤ mostReels
-  pub left : framedFrom n r closed (decode (drop at s)) ≡ framedFrom 0 0 false (items s)
+  pub left : framedFrom n r closed (decode (drop at s)) ≡ whole
 
-pub walked-none : (s : List ℕ) → Walked s 5 0 0 false
-unfolding items
-walked-none s = record { counted = omega arith; reels = omega arith; left = refl }
+pub walked-none : (s : List ℕ) (at n r : ℕ) (closed : Bool) → n ≤ mostImage → r ≤ mostReels → Walked s (framedFrom n r closed (decode (drop at s))) at n r closed
+walked-none s at n r closed c e = record { counted = omega arith; reels = e; left = refl }
 
-pub walked-block : (s : List ℕ) (at n r m : ℕ) (closed : Bool) (p : Shape) → Walked s at n r closed → at < length s → (r ≡ mostReels → ⊥)
-    → p ≡ shape (drop at s) → p ≡ Block m → Walked s (at + 3 + m) (n + 1) r false
-walked-block s at n r m closed p w h f e q =
+pub walked-block : (s : List ℕ) (whole : Verdict) (at n r m : ℕ) (closed : Bool) (p : Shape) → Walked s whole at n r closed → at < length s → (r ≡ mostReels → ⊥)
+    → p ≡ shape (drop at s) → p ≡ Block m → Walked s whole (at + 3 + m) (n + 1) r false
+walked-block s whole at n r m closed p w h f e q =
     record {
       counted = omega arith;
       reels = w .reels;
       left = sym (ap (framedFrom n r closed) (decode-block s at m p h e q) ∙ framed-block n r closed _ _ f) ∙ w .left;
     }
 
-pub walked-mark : (s : List ℕ) (at n r : ℕ) (closed : Bool) (p : Shape) → Walked s at n r closed → at < length s → (r ≡ mostReels → ⊥)
-    → p ≡ shape (drop at s) → p ≡ Mark → Walked s (at + 3) (n + 1) r false
-walked-mark s at n r closed p w h f e q =
+pub walked-mark : (s : List ℕ) (whole : Verdict) (at n r : ℕ) (closed : Bool) (p : Shape) → Walked s whole at n r closed → at < length s → (r ≡ mostReels → ⊥)
+    → p ≡ shape (drop at s) → p ≡ Mark → Walked s whole (at + 3) (n + 1) r false
+walked-mark s whole at n r closed p w h f e q =
     record {
       counted = omega arith;
       reels = w .reels;
       left = sym (ap (framedFrom n r closed) (decode-mark s at p h e q) ∙ framed-mark n r closed _ f) ∙ w .left;
     }
 
-pub walked-reel-end : (s : List ℕ) (at n r : ℕ) (closed : Bool) (p : Shape) → Walked s at n r closed → at < length s → (r ≡ mostReels → ⊥)
-    → p ≡ shape (drop at s) → p ≡ ReelEnd → Walked s (at + 3) (n + 1) (r + 1) true
-walked-reel-end s at n r closed p w h f e q =
+pub walked-reel-end : (s : List ℕ) (whole : Verdict) (at n r : ℕ) (closed : Bool) (p : Shape) → Walked s whole at n r closed → at < length s → (r ≡ mostReels → ⊥)
+    → p ≡ shape (drop at s) → p ≡ ReelEnd → Walked s whole (at + 3) (n + 1) (r + 1) true
+walked-reel-end s whole at n r closed p w h f e q =
     record {
       counted = omega arith;
       reels = omega arith;
       left = sym (ap (framedFrom n r closed) (decode-reel-end s at p h e q) ∙ framed-reel-end n r closed _ f) ∙ w .left;
     }
 
-pub walked-full : (s : List ℕ) (at n r : ℕ) (closed : Bool) (v : Verdict) → v ≡ verdict 2 n 0 → Walked s at n r closed → at < length s → r ≡ mostReels
-    → v ≡ framedFrom 0 0 false (items s)
-walked-full s at n r closed v a w h e = a ∙ sym (ap (framedFrom n r closed) (decode-at s at h) ∙ framed-full n r closed _ _ e) ∙ w .left
+pub walked-full : (s : List ℕ) (whole : Verdict) (at n r : ℕ) (closed : Bool) (v : Verdict) → v ≡ verdict 2 n 0 → Walked s whole at n r closed → at < length s → r ≡ mostReels → v ≡ whole
+walked-full s whole at n r closed v a w h e = a ∙ sym (ap (framedFrom n r closed) (decode-at s at h) ∙ framed-full n r closed _ _ e) ∙ w .left
 
-pub walked-broken : (s : List ℕ) (at n r : ℕ) (closed : Bool) (p : Shape) (v : Verdict) → v ≡ verdict 2 n 0 → Walked s at n r closed → at < length s
-    → p ≡ shape (drop at s) → p ≡ Broken → v ≡ framedFrom 0 0 false (items s)
+pub walked-broken : (s : List ℕ) (whole : Verdict) (at n r : ℕ) (closed : Bool) (p : Shape) (v : Verdict) → v ≡ verdict 2 n 0 → Walked s whole at n r closed → at < length s
+    → p ≡ shape (drop at s) → p ≡ Broken → v ≡ whole
 unfolding framedFrom
-walked-broken s at n r closed p v a w h e q = a ∙ sym (ap (framedFrom n r closed) (decode-broken s at p h e q)) ∙ w .left
+walked-broken s whole at n r closed p v a w h e q = a ∙ sym (ap (framedFrom n r closed) (decode-broken s at p h e q)) ∙ w .left
 
 -- behind the last item: right only behind the end of a reel
-pub walked-closed : (s : List ℕ) (at n r : ℕ) (closed : Bool) (v : Verdict) → v ≡ verdict 0 0 0 → Walked s at n r closed → length s ≤ at → closed ≡ true
-    → v ≡ framedFrom 0 0 false (items s)
+pub walked-closed : (s : List ℕ) (whole : Verdict) (at n r : ℕ) (closed : Bool) (v : Verdict) → v ≡ verdict 0 0 0 → Walked s whole at n r closed → length s ≤ at → closed ≡ true → v ≡ whole
 unfolding framedFrom
-walked-closed s at n r closed v a w h e = a ∙ sym (ap (framedFrom n r closed) (decode-past s at h) ∙ if-true _ _ _ e) ∙ w .left
+walked-closed s whole at n r closed v a w h e = a ∙ sym (ap (framedFrom n r closed) (decode-past s at h) ∙ if-true _ _ _ e) ∙ w .left
 
-pub walked-open : (s : List ℕ) (at n r : ℕ) (closed : Bool) (v : Verdict) → v ≡ verdict 2 n 0 → Walked s at n r closed → length s ≤ at → closed ≡ false
-    → v ≡ framedFrom 0 0 false (items s)
+pub walked-open : (s : List ℕ) (whole : Verdict) (at n r : ℕ) (closed : Bool) (v : Verdict) → v ≡ verdict 2 n 0 → Walked s whole at n r closed → length s ≤ at → closed ≡ false → v ≡ whole
 unfolding framedFrom
-walked-open s at n r closed v a w h e = a ∙ sym (ap (framedFrom n r closed) (decode-past s at h) ∙ if-false _ _ _ e) ∙ w .left
+walked-open s whole at n r closed v a w h e = a ∙ sym (ap (framedFrom n r closed) (decode-past s at h) ∙ if-false _ _ _ e) ∙ w .left
 
 pub ruleset walks = (walked-none, walked-block, walked-mark, walked-reel-end, walked-full, walked-broken, walked-closed, walked-open, block-fits, needs)
 
@@ -167,6 +163,13 @@ framing-zero s =
 pub framing-items : (s : List ℕ) → framing s .number ≡ 0 → allItems (items s) ≡ true
 unfolding items
 framing-items s h = framed-items (drop 5 s) 0 0 false (framing-zero s h .right)
+
+-- the framing from a place on, where the counts before it are those of an image
+pub framing-from : (s : List ℕ) (at n r : ℕ) (closed : Bool) → length s ≤ mostImage → n ≤ mostImage → r ≤ mostReels
+    → framingFrom s at n r closed ≡ framedFrom n r closed (decode (drop at s))
+unfolding framingFrom
+framing-from s at n r closed short counted reels =
+    if-false _ _ _ (le-ltb mostImage (length s) short) ∙ if-false _ _ _ (le-ltb mostImage n counted) ∙ if-false _ _ _ (le-ltb mostReels r reels)
 
 -- ---- an image that opens as one
 

@@ -39,6 +39,13 @@ items s = decode (drop 5 s)
 unfoldable pub opens : List ℕ → Bool
 opens s = ifB (ltb mostImage (length s)) false (same (take 5 s) head)
 
+-- the framing of what stands from a place on, behind n items and r ended reels; 9 where the image is too long, or n or r are more than an image has
+unfoldable pub framingFrom : List ℕ → ℕ → ℕ → ℕ → Bool → Verdict
+framingFrom s at n r closed =
+    ifB (ltb mostImage (length s)) (verdict 9 0 0)
+    (ifB (ltb mostImage n) (verdict 9 0 0)
+    (ifB (ltb mostReels r) (verdict 9 0 0) (framedFrom n r closed (decode (drop at s)))))
+
 unfoldable pub framing : List ℕ → Verdict
 framing s =
     ifB (ltb mostImage (length s)) (verdict 9 0 0)

@@ -6,16 +6,18 @@ ghost use Prim.Native.Nat.{_≤_, _<_};
 ghost use lib.ListN.{length, take, drop};
 ghost use Rattle.base.specs.Part.{same};
 ghost use Rattle.base.specs.Answer.{verdict};
-ghost use Rattle.image.specs.Item.{ledBy, shape};
-ghost use Rattle.image.specs.Framing.{mostImage, head, framedFrom, items, opens, framing};
+ghost use Rattle.image.specs.Item.{ledBy, shape, decode};
+ghost use Rattle.image.specs.Framing.{mostImage, mostReels, head, framedFrom, framingFrom, opens, framing};
 
 // The most bytes of a block, and the length word that ends a reel.
 pub const MOST_BYTES: usize = 99999;
 
 pub const REEL_END_WORD: usize = 16777215;
 
-// An image is at most so many bytes and has at most so many reels.
+// An image is at most so many bytes, so it has no more items than that, and has at most so many reels.
 const MOST_IMAGE: usize = 16777215;
+
+const MOST_ITEMS: u32 = 16777215;
 
 pub const MOST_REELS: usize = 16;
 
@@ -25,6 +27,14 @@ pub enum Shape {
     Mark,
     ReelEnd,
     Broken,
+}
+
+// A place between two items: how many stand before it, how many of them ended a reel, and whether the last of them did.
+pub struct Frame {
+    pub at: usize,
+    pub reels: usize,
+    pub item: u32,
+    pub closed: bool,
 }
 
 // A byte as a number.
@@ -100,15 +110,17 @@ fn answer(number: u32, item: u32) -> Verdict
     }
 }
 
-// Number 2 with its item, or 0, over the items of an image that is not too long.
-fn framed(s: &[u8]) -> Verdict
+// Number 2 with its item, or 0, over the items from a place on, in an image that is not too long.
+fn framed(s: &[u8], from: Frame) -> Verdict
     requires { ⌜ length (now s) ≤ mostImage ⌝ }
-    ensures { λ r. ⌜ r ≡ framedFrom 0 0 false (items (now (s .entry))) ⌝ }
+    requires { ⌜ from .item ≤ mostImage ⌝ }
+    requires { ⌜ from .reels ≤ mostReels ⌝ }
+    ensures { λ r. ⌜ r ≡ framedFrom (from .item) (from .reels) (from .closed) (decode (drop (from .at) (now (s .entry)))) ⌝ }
 {
-    let mut at: usize = 5;
-    let mut item: u32 = 0;
-    let mut reels: usize = 0;
-    let mut closed = false;
+    let mut at = from.at;
+    let mut item = from.item;
+    let mut reels = from.reels;
+    let mut closed = from.closed;
     while at < s.len() {
         if reels == MOST_REELS {
             return answer(2, item);
@@ -139,6 +151,22 @@ fn framed(s: &[u8]) -> Verdict
     answer(2, item)
 }
 
+// The framing of what stands from a place on: 2 with its item, or 0; 9 where the image is too long, or more stands before the place than an image holds.
+pub fn framing_from(s: &[u8], from: Frame) -> Verdict
+    ensures { λ r. ⌜ r ≡ framingFrom (now (s .entry)) (from .at) (from .item) (from .reels) (from .closed) ⌝ }
+{
+    if MOST_IMAGE < s.len() {
+        return answer(9, 0);
+    }
+    if MOST_ITEMS < from.item {
+        return answer(9, 0);
+    }
+    if MOST_REELS < from.reels {
+        return answer(9, 0);
+    }
+    framed(s, from)
+}
+
 // The framing of an image: 9, 1 or 2 with its item, or 0.
 pub fn framing(s: &[u8]) -> Verdict
     ensures { λ r. ⌜ r ≡ framing (now (s .entry)) ⌝ }
@@ -147,7 +175,13 @@ pub fn framing(s: &[u8]) -> Verdict
         return answer(9, 0);
     }
     if has_head(s) {
-        return framed(s);
+        let first = Frame {
+            at: 5,
+            reels: 0,
+            item: 0,
+            closed: false,
+        };
+        return framed(s, first);
     }
     answer(1, 0)
 }

@@ -25,14 +25,14 @@ use Rattle.simh.proofs.Lengths.{lengths-alike}
 use Rattle.simh.proofs.Sizes.{no-file, file-block, file-mark, file-end}
 
 pub record Sizing (s : List ℕ) (at n r : ℕ) (closed : Bool) (len : ℕ) : Type 0 where
-  pub walked : Walked s at n r closed
+  pub walked : Walked s (framedFrom 0 0 false (items s)) at n r closed
   pub small : len ≤ 3 * at
   pub bytes : len + length (encode (decode (drop at s))) ≡ length (encode (items s))
   pub count : r + length (lengthsFrom 0 (decode (drop at s))) ≡ length (lengthsFrom 0 (items s))
 
 pub sizing-none : (s : List ℕ) → Sizing s 5 0 0 false 0
 unfolding items
-sizing-none s = record { walked = walked-none s; small = omega arith; bytes = omega arith; count = omega arith }
+sizing-none s = record { walked = walked-none s 5 0 0 false (omega arith) (omega arith); small = omega arith; bytes = omega arith; count = omega arith }
 
 module _ (s : List ℕ) (at n r : ℕ) (closed : Bool) (len : ℕ) (p : Shape) (w : Sizing s at n r closed len) (h : at < length s) (f : r ≡ mostReels → ⊥)
     (e : p ≡ shape (drop at s)) where
@@ -47,7 +47,7 @@ module _ (s : List ℕ) (at n r : ℕ) (closed : Bool) (len : ℕ) (p : Shape) (
       let size = ap (λ (ys : List Item). length (encode ys)) d ∙ file-block bs xs in
       let more = ap (λ (ys : List Item). length (lengthsFrom 0 ys)) d ∙ lengths-alike (0 + spanOf (length bs)) 0 xs in
       record {
-        walked = walked-block s at n r m closed p (w .walked) h f e q;
+        walked = walked-block s _ at n r m closed p (w .walked) h f e q;
         small = omega (arith, w .small);
         bytes = omega (arith, w .bytes);
         count = omega (arith, w .count);
@@ -61,7 +61,7 @@ module _ (s : List ℕ) (at n r : ℕ) (closed : Bool) (len : ℕ) (p : Shape) (
       let size = ap (λ (ys : List Item). length (encode ys)) d ∙ file-mark xs in
       let more = ap (λ (ys : List Item). length (lengthsFrom 0 ys)) d ∙ lengths-alike (0 + 4) 0 xs in
       record {
-        walked = walked-mark s at n r closed p (w .walked) h f e q;
+        walked = walked-mark s _ at n r closed p (w .walked) h f e q;
         small = omega (arith, w .small);
         bytes = omega (arith, w .bytes);
         count = omega (arith, w .count);
@@ -75,7 +75,7 @@ module _ (s : List ℕ) (at n r : ℕ) (closed : Bool) (len : ℕ) (p : Shape) (
       let size = ap (λ (ys : List Item). length (encode ys)) d ∙ file-end xs in
       let more = ap (λ (ys : List Item). length (lengthsFrom 0 ys)) d in
       record {
-        walked = walked-reel-end s at n r closed p (w .walked) h f e q;
+        walked = walked-reel-end s _ at n r closed p (w .walked) h f e q;
         small = omega (arith, w .small);
         bytes = omega (arith, w .bytes);
         count = omega (arith, w .count);
@@ -96,13 +96,13 @@ answer-of z n e = ap (λ (y : Size). y .verdict) e
 
 module _ (s : List ℕ) (at n r : ℕ) (closed : Bool) (len : ℕ) (w : Sizing s at n r closed len) where
   pub sized-full : (z : Size) → z ≡ wrongItem n → at < length s → r ≡ mostReels → Sized (framedFrom 0 0 false (items s)) s z
-  sized-full z e h q = sized-refused s z n e (walked-full s at n r closed (z .verdict) (answer-of z n e) (w .walked) h q)
+  sized-full z e h q = sized-refused s z n e (walked-full s _ at n r closed (z .verdict) (answer-of z n e) (w .walked) h q)
 
   pub sized-broken : (p : Shape) (z : Size) → z ≡ wrongItem n → at < length s → p ≡ shape (drop at s) → p ≡ Broken → Sized (framedFrom 0 0 false (items s)) s z
-  sized-broken p z e h k q = sized-refused s z n e (walked-broken s at n r closed p (z .verdict) (answer-of z n e) (w .walked) h k q)
+  sized-broken p z e h k q = sized-refused s z n e (walked-broken s _ at n r closed p (z .verdict) (answer-of z n e) (w .walked) h k q)
 
   pub sized-open : (z : Size) → z ≡ wrongItem n → length s ≤ at → closed ≡ false → Sized (framedFrom 0 0 false (items s)) s z
-  sized-open z e h q = sized-refused s z n e (walked-open s at n r closed (z .verdict) (answer-of z n e) (w .walked) h q)
+  sized-open z e h q = sized-refused s z n e (walked-open s _ at n r closed (z .verdict) (answer-of z n e) (w .walked) h q)
 
   pub sized-closed : (z : Size) → z ≡ sizeOf len r → length s ≤ at → closed ≡ true → Sized (framedFrom 0 0 false (items s)) s z
   unfolding sizeOf verdict lengthsFrom
@@ -112,7 +112,7 @@ module _ (s : List ℕ) (at n r : ℕ) (closed : Bool) (len : ℕ) (w : Sizing s
       let over = ap (λ (ys : List Item). length (lengthsFrom 0 ys)) gone in
       subst (Sized (framedFrom 0 0 false (items s)) s) (sym e)
       (record {
-        said = walked-closed s at n r closed (verdict 0 0 0) refl (w .walked) h q;
+        said = walked-closed s _ at n r closed (verdict 0 0 0) refl (w .walked) h q;
         bytes = λ _. omega (arith, w .bytes);
         reels = λ _. omega (arith, w .count);
       })

@@ -28,7 +28,7 @@ use Rattle.volume.specs.State.{State}
 use Rattle.volume.specs.Fault.{outcomeIn, volumeFault, contextFault, itemFault}
 use Rattle.volume.specs.Step.{stateAfter, namesAfter, filesAfter, goesOnAfter, firstAfter, secondAfter, countAfter, pendingAfter}
 use Rattle.volume.specs.Place.{labelAt, namesAt, contents}
-use Rattle.volume.specs.Walk.{Sized, Room, Behind}
+use Rattle.volume.specs.Walk.{Sized, Room, Small, Behind}
 use Rattle.volume.proofs.Faults.{length-names}
 
 -- a place past the sixteenth is not kept
@@ -100,7 +100,7 @@ if-most : (t : Bool) (a b m x : ℕ) → a ≤ m → b ≤ m → x ≡ ifB t a b
 if-most t a b m x p q e = subst (λ (y : ℕ). y ≤ m) (sym e) (if-case (λ (y : ℕ). y ≤ m) t a b (λ _. p) (λ _. q))
 
 pub behind-made : (s : List ℕ) (st : Reading) (p : Phase) (k : Kind) (start len : ℕ) (names : List ℕ) (reels files first second count pending : ℕ) (ongoing : Bool)
-    → Sized k len → Room k st
+    → Sized k len → Room k st → Small st → length (st .names) ≡ 16
     → names ≡ ifB (isKind k (vol 1)) (set (st .names) (st .reels) start) (st .names)
     → reels ≡ ifB (isKind k (vol 1)) (st .reels + 1) (st .reels)
     → files ≡ ifB (isKind k (hdr 2)) (ifB (st .ongoing) (st .files) (st .files + 1)) (st .files)
@@ -111,10 +111,12 @@ pub behind-made : (s : List ℕ) (st : Reading) (p : Phase) (k : Kind) (start le
     → pending ≡ ifB (isKind k dataBlock) (outcomeIn (labelAt s (st .second)) (st .pending) (part start len s) .pending) (st .pending)
     → Behind s st p k start len
     (record { phase = p; names = names; reels = reels; files = files; ongoing = ongoing; first = first; second = second; count = count; pending = pending })
-behind-made s st p k start len names reels files first second count pending ongoing z room en er ef eo e1 e2 ec ep =
+behind-made s st p k start len names reels files first second count pending ongoing z room small long en er ef eo e1 e2 ec ep =
     record {
-      same = contents-after s st p k start len names reels files first second count pending ongoing z room en er ef eo e1 e2 ec ep;
-      reels = if-most _ _ _ _ _ (omega arith) (omega arith) er;
+      same = contents-after s st p k start len names reels files first second count pending ongoing z (λ v. omega (arith, room v, long)) en er ef eo e1 e2 ec ep;
+      reels =
+          subst (λ (y : ℕ). y ≤ mostReels) (sym er)
+          (if-case (λ (y : ℕ). y ≤ mostReels) (isKind k (vol 1)) _ _ (λ v. omega (arith, room v)) (λ _. small .reels));
       files = if-most _ _ _ _ _ (if-case (λ (y : ℕ). y ≤ st .files + 1) (st .ongoing) _ _ (λ _. omega arith) (λ _. omega arith)) (omega arith) ef;
       blocks = if-most _ _ _ _ _ (omega arith) (if-case (λ (y : ℕ). y ≤ st .count + 1) (isKind k (hdr 1)) _ _ (λ _. omega arith) (λ _. omega arith)) ec;
     }
@@ -139,7 +141,7 @@ names-room names l =
 
 -- so one without fault is at most the sixteenth
 pub room-for-name : (s : List ℕ) (st : Reading) (k : Kind) (l : List ℕ) (f : Fault) → f ≡ itemFault (contents s st) k l → f .number ≡ 0
-    → length (st .names) ≡ 16 → isKind k (vol 1) ≡ true → st .reels < length (st .names)
+    → length (st .names) ≡ 16 → isKind k (vol 1) ≡ true → st .reels < mostReels
 unfolding itemFault contextFault isKind ifB contents
 room-for-name s st k l f e z n v =
     let sound : itemFault (contents s st) k l .number ≡ 0 = ap (λ (x : Fault). x .number) (sym e) ∙ z in

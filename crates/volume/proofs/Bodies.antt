@@ -32,9 +32,9 @@ use Rattle.volume.specs.declared.blocks.Between.{Between}
 use Rattle.volume.specs.State.{State}
 use Rattle.volume.specs.Fault.{valueOf, outcomeIn, blockFault, contextFault, itemFault}
 use Rattle.volume.specs.Step.{Event, Next, go, step, ordered, judged, kindIn, bytesIn, isDue, stateAfter, eventsOf, namesAfter, filesAfter, goesOnAfter, firstAfter, secondAfter, countAfter, pendingAfter}
-use Rattle.volume.specs.Run.{runs, answerOf}
-use Rattle.volume.specs.Body.{body, Given, Inside, answerBetween, Skipped, between}
-use Rattle.volume.proofs.Runs.{answer-go}
+use Rattle.volume.specs.Told.{toldFrom}
+use Rattle.volume.specs.Body.{body, Given, Inside, toldBetween, Skipped, between}
+use Rattle.volume.proofs.Runs.{told-go}
 
 -- a data block has the fault of its units and turns, and no other
 pub data-fault : (s : State) (l : List ℕ) → itemFault s dataBlock l ≡ blockFault (s .second) (s .pending) l
@@ -69,7 +69,7 @@ pub skip-block : (s : List ℕ) (h : Lengths) (a : Between) (at item count pendi
     → Skipped s h a (between at item count pending) → at < length s → p ≡ shape (drop at s) → p ≡ Block n
     → o ≡ blockOutcome (h .format) (h .block) (h .size) (h .offset) pending (take (at + 3 + n - (at + 3)) (drop (at + 3) s)) → o .number ≡ 0
     → Skipped s h a (between (at + 3 + n) (item + 1) (count + 1) (o .pending))
-unfolding answerBetween
+unfolding toldBetween
 skip-block s h a at item count pending n p o k m e b q z =
     let w : at + 3 + n ≤ length s = block-within s at n p e b in
     let i : Inside s at item count = k .inside in
@@ -79,10 +79,10 @@ skip-block s h a at item count pending n p o k m e b q z =
     record {
       same = λ t g.
           k .same t g
-          ∙ ap (λ xs. answerOf item (runs (body t count pending) xs)) (decode-block s at n p m e b)
-          ∙ answer-go item (body t count pending) (body t (count + 1) (outcomeIn (t .second) pending l .pending)) (block l) (decode (drop (at + 3 + n) s)) _
+          ∙ ap (toldFrom item (body t count pending)) (decode-block s at n p m e b)
+          ∙ told-go item (body t count pending) (body t (count + 1) (outcomeIn (t .second) pending l .pending)) (block l) (decode (drop (at + 3 + n) s)) _
           (step-block t count pending l (ap (λ x. x .number) (sym (made ∙ outcome-given h (t .second) pending l g)) ∙ z))
-          ∙ ap (λ (x : Outcome). answerOf (item + 1) (runs (body t (count + 1) (x .pending)) (decode (drop (at + 3 + n) s)))) (sym (made ∙ outcome-given h (t .second) pending l g));
+          ∙ ap (λ (x : Outcome). toldFrom (item + 1) (body t (count + 1) (x .pending)) (decode (drop (at + 3 + n) s))) (sym (made ∙ outcome-given h (t .second) pending l g));
       onward = omega (arith, k .onward);
       passed = omega (arith, k .passed);
       inside = record { short = i .short; within = w; items = omega (arith, i .items); blocks = omega (arith, i .blocks) };

@@ -13,6 +13,7 @@ use Rattle.order.specs.Kind.{endOfImage}
 use Rattle.order.specs.Due.{dueAfter}
 use Rattle.volume.specs.State.{State}
 use Rattle.volume.specs.Step.{Event, Next, go, no, step, isDue}
+use Rattle.volume.specs.Told.{toldNext, toldFrom}
 use Rattle.volume.specs.Run.{Run, ended, stopped, further, next, runs, answerOf}
 
 -- ---- the answer, item by item
@@ -23,10 +24,9 @@ answer-further n es (ended fs) = refl
 answer-further n es (stopped k i b) = let e : n + suc i ≡ n + 1 + i = omega arith in ap (λ (m : ℕ). verdict k m b) e
 
 -- an item that goes on
-pub answer-go : (n : ℕ) (s t : State) (x : Item) (xs : List Item) (es : List Event) → step s x ≡ go t es
-    → answerOf n (runs s (x ∷ xs)) ≡ answerOf (n + 1) (runs t xs)
-unfolding runs next
-answer-go n s t x xs es e = ap (λ (r : Next). answerOf n (next r (λ u. runs u xs))) e ∙ answer-further n es (runs t xs)
+pub told-go : (n : ℕ) (s t : State) (x : Item) (xs : List Item) (es : List Event) → step s x ≡ go t es → toldFrom n s (x ∷ xs) ≡ toldFrom (n + 1) t xs
+unfolding toldFrom toldNext
+told-go n s t x xs es e = ap (λ (r : Next). toldNext n s (x ∷ xs) r (λ u. toldFrom (n + 1) u xs)) e
 
 -- an item that is refused
 pub answer-no : (n : ℕ) (s : State) (x : Item) (xs : List Item) (k b : ℕ) → step s x ≡ no k b → answerOf n (runs s (x ∷ xs)) ≡ verdict k n b

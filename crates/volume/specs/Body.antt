@@ -11,7 +11,7 @@ use Rattle.volume.specs.declared.blocks.Lengths.{Lengths}
 use Rattle.volume.specs.declared.blocks.Between.{Between}
 use Rattle.volume.specs.State.{State}
 use Rattle.volume.specs.Fault.{valueOf}
-use Rattle.volume.specs.Run.{runs, answerOf}
+use Rattle.volume.specs.Told.{toldFrom}
 use Rattle.base.specs.declared.Verdict.{Verdict}
 
 -- state s between two data blocks, with so many blocks counted and so much pending
@@ -38,9 +38,9 @@ pub record Given (h : Lengths) (second : List ℕ) : Type 0 where
 abbrev pub between : ℕ → ℕ → ℕ → ℕ → Between
 between at item count pending = record { at = at; item = item; count = count; pending = pending }
 
--- the answer on what is left from a place between two blocks
-unfoldable pub answerBetween : List ℕ → State → Between → Verdict
-answerBetween s t b = answerOf (b .item) (runs (body t (b .count) (b .pending)) (decode (drop (b .at) s)))
+-- the verdict from a place between two blocks on
+unfoldable pub toldBetween : List ℕ → State → Between → Verdict
+toldBetween s t b = toldFrom (b .item) (body t (b .count) (b .pending)) (decode (drop (b .at) s))
 
 -- a place of an image that is not too long; each item before it took a byte or more, and each block is an item
 pub record Inside (s : List ℕ) (at item count : ℕ) : Type 0 where
@@ -49,9 +49,9 @@ pub record Inside (s : List ℕ) (at item count : ℕ) : Type 0 where
   pub items : item ≤ at
   pub blocks : count ≤ item
 
--- whatever else the state holds, reading on from the second place gives the answer that reading on from the first one gives
+-- whatever else the state holds, reading on from the second place gives the verdict that reading on from the first one gives
 pub record Skipped (s : List ℕ) (h : Lengths) (a b : Between) : Type 0 where
-  pub same : (t : State) → Given h (t .second) → answerBetween s t a ≡ answerBetween s t b
+  pub same : (t : State) → Given h (t .second) → toldBetween s t a ≡ toldBetween s t b
   pub onward : a .at ≤ b .at
   pub passed : a .item ≤ b .item
   pub inside : Inside s (b .at) (b .item) (b .count)

@@ -2,6 +2,7 @@ pub mod State
 pub mod Fault
 pub mod Step
 pub mod Run
+pub mod Told
 pub mod Accepted
 pub mod Meaning
 pub mod Dates

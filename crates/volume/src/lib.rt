@@ -4,13 +4,11 @@ mod after; // after.rt: the reading behind an item
 mod among; // among.rt: the names of the volumes read before
 mod blocks; // blocks.rt: data blocks passed in a row
 mod fault; // fault.rt: the fault of an item against what was read before it
+mod frame; // frame.rt: the framing from a wrong item on
 mod walk; // walk.rt: the items of an image, one after the other
 
 ghost use mathlib.Core.Path.{_≡_};
-ghost use mathlib.Core.Bool.{true};
-ghost use Rattle.image.specs.Framing.{items, opens};
-ghost use Rattle.volume.specs.State.{start as begin};
-ghost use Rattle.volume.specs.Run.{runs, answerOf, imageVerdict};
+ghost use Rattle.volume.specs.Run.{imageVerdict};
 use base::Verdict;
 use image::framing;
 use image::opens;
@@ -30,28 +28,12 @@ pub struct Reading {
     pub pending: usize,
 }
 
-// The verdict on an image whose walk ends with v. A walk without fault has shown that the framing is good; a fault gives way to one of the framing.
-fn first_fault(image: &[u8], v: Verdict) -> Verdict
-    requires { ⌜ opens (now image) ≡ true ⌝ }
-    requires { ⌜ v ≡ answerOf 0 (runs begin (items (now image))) ⌝ }
-    ensures { λ r. ⌜ r ≡ imageVerdict (now (image .entry)) ⌝ }
-{
-    if v.number == 0 {
-        return v;
-    }
-    let f = framing(image);
-    if f.number != 0 {
-        return f;
-    }
-    v
-}
-
 // The verdict on an image, whatever its bytes: number 0 exactly for an accepted set, else the number and place of the first wrong item.
 pub fn check(image: &[u8]) -> Verdict
     ensures { λ r. ⌜ r ≡ imageVerdict (now (image .entry)) ⌝ }
 {
     if opens(image) {
-        return first_fault(image, walk::walk(image));
+        return walk::walk(image);
     }
     framing(image)
 }

@@ -9,10 +9,9 @@ ghost use Rattle.image.specs.Item.{block};
 ghost use Rattle.image.specs.Framing.{mostImage, items};
 ghost use Rattle.volume.specs.State.{start as begin};
 ghost use Rattle.volume.specs.Step.{kindIn};
-ghost use Rattle.volume.specs.Run.{runs, answerOf};
-ghost use Rattle.volume.specs.Place.{contents};
+ghost use Rattle.volume.specs.Told.{toldFrom};
 ghost use Rattle.volume.specs.Body.{Given};
-ghost use Rattle.volume.specs.Walk.{answerFrom, answerBy, answerJudged, stopTurn, acceptTurn, BlockHere, BareHere, Begun, Past, Bounded, Sized, Room, Ahead, Onward, Owes};
+ghost use Rattle.volume.specs.Walk.{toldAt, toldBy, toldDue, framedElse, lastTurn, BlockHere, BareHere, Begun, Past, Bounded, Sized, Room, Ahead, Onward, Owes};
 use crate::Reading;
 use crate::after::reading_after;
 use crate::blocks::Between;
@@ -20,6 +19,7 @@ use crate::blocks::Lengths;
 use crate::blocks::past_blocks;
 use crate::fault::item_fault;
 use crate::fault::value_of;
+use crate::frame::framed_or;
 use base::Verdict;
 use base::part_of;
 use image::Shape;
@@ -58,15 +58,23 @@ fn answer(number: u32, item: u32, byte: u32) -> Verdict
     Verdict { number, item, byte }
 }
 
-// A turn that ends with a number at the item that stands here.
-fn stop(x: Spot, number: u32, byte: u32) -> Turn
-    ensures { λ r. ⌜ r ≡ stopTurn x number byte ⌝ }
+// A turn that ends the walk.
+fn last(x: Spot, verdict: Verdict) -> Turn
+    ensures { λ r. ⌜ r ≡ lastTurn x verdict ⌝ }
 {
     Turn {
         on: false,
-        verdict: answer(number, x.item, byte),
+        verdict,
         spot: x,
     }
+}
+
+// A turn that ends with a number at the item that stands here, or with a fault of the framing from it on.
+fn stop(image: &[u8], x: Spot, number: u32, byte: u32) -> Turn
+    requires { ⌜ Bounded (now image) (x .at) (x .item) (x .state) ⌝ }
+    ensures { λ r. ⌜ r ≡ lastTurn x (framedElse (now (image .entry)) x (verdict number (x .item) byte)) ⌝ }
+{
+    last(x, framed_or(image, x, answer(number, x.item, byte)))
 }
 
 // A turn that goes on to `behind`, past an item of kind k that stands at `start` and has no fault.
@@ -93,12 +101,12 @@ fn go_on(image: &[u8], x: Spot, p: Phase, k: Kind, start: usize, len: usize, beh
 fn judge(image: &[u8], x: Spot, p: Phase, k: Kind, start: usize, len: usize, behind: usize) -> Turn
     requires { ⌜ Sized k len ⌝ }
     requires { ⌜ Ahead (now image) x behind ⌝ }
-    ensures { λ r. ⌜ Owes (now (image .entry)) (x .at) (answerJudged (now (image .entry)) (x .item) (contents (now (image .entry)) (x .state)) p k (part start len (now (image .entry))) behind) r ⌝ }
+    ensures { λ r. ⌜ Owes (now (image .entry)) (x .at) (toldDue (now (image .entry)) x p k (part start len (now (image .entry))) behind) r ⌝ }
 {
     let st = x.state;
     let f = item_fault(image, st, k, part_of(image, start, len));
     if f.number != 0 {
-        return stop(x, f.number, f.byte);
+        return stop(image, x, f.number, f.byte);
     }
     go_on(image, x, p, k, start, len, behind)
 }
@@ -107,31 +115,21 @@ fn judge(image: &[u8], x: Spot, p: Phase, k: Kind, start: usize, len: usize, beh
 fn order_turn(image: &[u8], x: Spot, k: Kind, start: usize, len: usize, behind: usize) -> Turn
     requires { ⌜ Sized k len ⌝ }
     requires { ⌜ Ahead (now image) x behind ⌝ }
-    ensures { λ r. ⌜ Owes (now (image .entry)) (x .at) (answerBy (now (image .entry)) (x .item) (contents (now (image .entry)) (x .state)) k (part start len (now (image .entry))) behind) r ⌝ }
+    ensures { λ r. ⌜ Owes (now (image .entry)) (x .at) (toldBy (now (image .entry)) x k (part start len (now (image .entry))) behind) r ⌝ }
 {
     let st = x.state;
     let phase = st.phase;
     match due_after(phase, k) {
-        Due::Wrong => stop(x, 3, 0),
+        Due::Wrong => stop(image, x, 3, 0),
         Due::To(p) => judge(image, x, p, k, start, len, behind),
-    }
-}
-
-// A turn that accepts the set.
-fn accept(x: Spot) -> Turn
-    ensures { λ r. ⌜ r ≡ acceptTurn x ⌝ }
-{
-    Turn {
-        on: false,
-        verdict: answer(0, 0, 0),
-        spot: x,
     }
 }
 
 // The turn at the end of the image.
 fn end_turn(image: &[u8], x: Spot) -> Turn
+    requires { ⌜ Bounded (now image) (x .at) (x .item) (x .state) ⌝ }
     requires { ⌜ length (now image) ≤ x .at ⌝ }
-    ensures { λ r. ⌜ Owes (now (image .entry)) (x .at) (answerFrom (now (image .entry)) x) r ⌝ }
+    ensures { λ r. ⌜ Owes (now (image .entry)) (x .at) (toldAt (now (image .entry)) x) r ⌝ }
 {
     let st = x.state;
     let phase = st.phase;
@@ -140,8 +138,8 @@ fn end_turn(image: &[u8], x: Spot) -> Turn
         number: 0,
     };
     match due_after(phase, k) {
-        Due::Wrong => stop(x, 3, 0),
-        Due::To(_) => accept(x),
+        Due::Wrong => stop(image, x, 3, 0),
+        Due::To(_) => last(x, answer(0, 0, 0)),
     }
 }
 
@@ -162,7 +160,7 @@ fn kind_in(phase: Phase, l: &[u8]) -> Kind
 // The turn of a block of n bytes.
 fn block_turn(image: &[u8], x: Spot, n: usize) -> Turn
     requires { ⌜ BlockHere (now image) x n ⌝ }
-    ensures { λ r. ⌜ Owes (now (image .entry)) (x .at) (answerFrom (now (image .entry)) x) r ⌝ }
+    ensures { λ r. ⌜ Owes (now (image .entry)) (x .at) (toldAt (now (image .entry)) x) r ⌝ }
 {
     let st = x.state;
     let phase = st.phase;
@@ -175,7 +173,7 @@ fn block_turn(image: &[u8], x: Spot, n: usize) -> Turn
 // The turn of an item without bytes.
 fn bare_turn(image: &[u8], x: Spot, family: u32, behind: usize) -> Turn
     requires { ⌜ BareHere (now image) x family behind ⌝ }
-    ensures { λ r. ⌜ Owes (now (image .entry)) (x .at) (answerFrom (now (image .entry)) x) r ⌝ }
+    ensures { λ r. ⌜ Owes (now (image .entry)) (x .at) (toldAt (now (image .entry)) x) r ⌝ }
 {
     let k = Kind { family, number: 0 };
     order_turn(image, x, k, 0, 0, behind)
@@ -185,7 +183,7 @@ fn bare_turn(image: &[u8], x: Spot, family: u32, behind: usize) -> Turn
 fn item_turn(image: &[u8], x: Spot) -> Turn
     requires { ⌜ Bounded (now image) (x .at) (x .item) (x .state) ⌝ }
     requires { ⌜ x .at < length (now image) ⌝ }
-    ensures { λ r. ⌜ Owes (now (image .entry)) (x .at) (answerFrom (now (image .entry)) x) r ⌝ }
+    ensures { λ r. ⌜ Owes (now (image .entry)) (x .at) (toldAt (now (image .entry)) x) r ⌝ }
 {
     let at = x.at;
     match image::shape_at(image, at) {
@@ -199,7 +197,7 @@ fn item_turn(image: &[u8], x: Spot) -> Turn
 // The turn at a spot.
 fn take_turn(image: &[u8], x: Spot) -> Turn
     requires { ⌜ Bounded (now image) (x .at) (x .item) (x .state) ⌝ }
-    ensures { λ r. ⌜ Owes (now (image .entry)) (x .at) (answerFrom (now (image .entry)) x) r ⌝ }
+    ensures { λ r. ⌜ Owes (now (image .entry)) (x .at) (toldAt (now (image .entry)) x) r ⌝ }
 {
     if image.len() <= x.at {
         return end_turn(image, x);
@@ -288,11 +286,11 @@ fn first_spot(image: &[u8]) -> Spot
     }
 }
 
-// The answer on the items of an image, up to the first wrong one.
+// The verdict on the items of an image, up to the first wrong one, and on the framing from there on.
 pub(crate) fn walk(image: &[u8]) -> Verdict
     requires { ⌜ 5 ≤ length (now image) ⌝ }
     requires { ⌜ length (now image) ≤ mostImage ⌝ }
-    ensures { λ r. ⌜ r ≡ answerOf 0 (runs begin (items (now (image .entry)))) ⌝ }
+    ensures { λ r. ⌜ r ≡ toldFrom 0 begin (items (now (image .entry))) ⌝ }
 {
     let mut x = first_spot(image);
     loop {

@@ -1,5 +1,5 @@
 use Rattle.base.proofs.Rules.{ifs}
-use Rattle.image.specs.Framing.{framing}
+use Rattle.image.specs.Framing.{framing, items}
 use Rattle.image.proofs.framing.Statement.{statement}
 use Rattle.image.proofs.framing.Tie as tie
 
@@ -17,7 +17,7 @@ framed-requires : tie.Need-framed-requires
 framed-requires c κs = search ifs
 
 returns-2 : tie.Need-returns-2
-unfolding framing
+unfolding framing items
 returns-2 c = search ifs
 
 answer-requires-2 : tie.Need-answer-requires-2

@@ -8,9 +8,6 @@ opens-requires c κs = search verdicts
 walk-requires : tie.Need-walk-requires
 walk-requires c κs = search verdicts
 
-first-fault-requires : tie.Need-first-fault-requires
-first-fault-requires c κs = search verdicts
-
 returns : tie.Need-returns
 returns c = search verdicts
 
@@ -23,4 +20,4 @@ returns-2 c = search verdicts
 pub check-spec : {M : Type 1} → statement M
 check-spec =
     tie.close
-    (tie.spec opens-requires walk-requires first-fault-requires returns framing-requires returns-2)
+    (tie.spec opens-requires walk-requires returns framing-requires returns-2)

@@ -14,8 +14,11 @@ stop-requires c κs = search items
 enum-told-2 : tie.Need-enum-told-2
 enum-told-2 c = search items
 
-accept-requires : tie.Need-accept-requires
-accept-requires c κs = search items
+answer-requires : tie.Need-answer-requires
+answer-requires c κs = search items
+
+last-requires : tie.Need-last-requires
+last-requires c κs = search items
 
 returns : tie.Need-returns
 returns c = search items
@@ -31,6 +34,7 @@ end-turn-spec =
     enum-told
     stop-requires
     enum-told-2
-    accept-requires
+    answer-requires
+    last-requires
     returns
     returns-2)
