@@ -5,7 +5,7 @@ use crate::{Case, ACCEPTED};
 use oracle::generate::Piece;
 
 pub fn cases() -> Vec<Case> {
-    [whole_sets(), optional_labels(), user_labels(), not_due(), ends_of_reels()]
+    [whole_sets(), optional_labels(), user_labels(), not_due(), ends_of_reels(), behind_a_fault()]
         .into_iter()
         .flatten()
         .collect()
@@ -95,5 +95,21 @@ fn ends_of_reels() -> Vec<Case> {
         Case::set("an empty reel behind the set", empty_behind, (3, 11, 0), empty),
         Case::set("an end of reel among the data", in_data, (3, 5, 0), "a mark ends the data"),
         Case::set("one mark at the end", without(base(), 9), (3, 9, 0), "a second mark is due"),
+    ]
+}
+
+/// Sixteen reels of ten items each, with a fault at the VOL1 of the last and with one inside it: 2 of what follows goes first.
+fn behind_a_fault() -> Vec<Case> {
+    let sixteen = |item, text| changed(reels(16, |reel| format!("GATE{reel:02}")), item, 5, text);
+    let (outside, inside) = (|| sixteen(150, "GATE01"), || sixteen(151, "LEDGES"));
+    let good = "16 reels with an end each are well framed, whatever is wrong in them";
+    let late = "2 goes before the fault, though it stands behind it";
+    vec![
+        Case::set("a name again on reel 16", outside(), (6, 150, 5), good),
+        Case::set("another file on reel 16", inside(), (6, 151, 5), good),
+        Case::set("a name again, and a mark", plus(outside(), 160, &[TapeMark]), (2, 160, 0), late),
+        Case::set("another file, and a mark", plus(inside(), 160, &[TapeMark]), (2, 160, 0), late),
+        Case::set("a name again, and no end", cut(outside(), 159), (2, 159, 0), late),
+        Case::set("another file, and no end", cut(inside(), 159), (2, 159, 0), late),
     ]
 }

@@ -54,7 +54,8 @@ fn every_byte_of_every_field() {
 fn images_of_the_most_bytes() {
     let mut both = Both::new(MOST_BYTES + 100);
     let mut scratch = vec![0; MOST_BYTES];
-    for kind in Large::ALL {
+    // A sheet at the edge has two files more.
+    for kind in Large::ALL.into_iter().filter(|kind| kind.files() == 1) {
         let edge = Edge::new(kind, &mut scratch);
         for (more, number) in [(-1, 0), (0, 0), (1, 14), (2, 14), (500, 14)] {
             let mut order = edge.over(more);

@@ -178,11 +178,44 @@ pub enum Large {
     Short,
     /// D records of 6 bytes, each in a block of 10.
     Tiny,
+    /// D records of 6 bytes in blocks of 32,760.
+    Packed,
+    /// S records of 6 bytes, each in a block of 11.
+    Eleven,
+    /// S records of 7 bytes, each in a block of 12.
+    Twelve,
+    /// D records of 80 bytes in blocks of 4,096: 64 files on 16 reels.
+    Files,
 }
 
 impl Large {
-    pub const ALL: [Large; 5] =
-        [Large::Variable, Large::Fixed, Large::Segmented, Large::Short, Large::Tiny];
+    pub const ALL: [Large; 9] = [
+        Large::Variable,
+        Large::Fixed,
+        Large::Segmented,
+        Large::Short,
+        Large::Tiny,
+        Large::Packed,
+        Large::Eleven,
+        Large::Twelve,
+        Large::Files,
+    ];
+
+    pub fn files(self) -> usize {
+        match self {
+            Large::Files => 64,
+            _ => 1,
+        }
+    }
+
+    /// Blocks a reel, where each file has so many records.
+    fn quota(self, records: usize) -> u64 {
+        match self {
+            // Four of the 64 files, with 48 records a block.
+            Large::Files => 4 * records.div_ceil(48) as u64,
+            _ => 999_999,
+        }
+    }
 
     fn shape(self) -> (Shape, usize) {
         let shape = |format, block, record| Shape { format, block, record, offset: 0 };
@@ -192,17 +225,24 @@ impl Large {
             Large::Segmented => (shape(b'S', 4_096, 5_000), 5_000),
             Large::Short => (shape(b'S', 4_096, 80), 80),
             Large::Tiny => (shape(b'D', 10, 10), 6),
+            Large::Packed => (shape(b'D', 32_760, 10), 6),
+            Large::Eleven => (shape(b'S', 11, 6), 6),
+            Large::Twelve => (shape(b'S', 12, 7), 7),
+            Large::Files => (shape(b'D', 4_096, 84), 80),
         }
     }
 
     /// Bytes of the image for each record, about.
     fn cost(self) -> usize {
         match self {
-            Large::Variable => 84,
+            Large::Variable | Large::Files => 84,
             Large::Fixed => 81,
             Large::Segmented => 5_011,
             Large::Short => 86,
             Large::Tiny => 13,
+            Large::Packed => 10,
+            Large::Eleven => 14,
+            Large::Twelve => 15,
         }
     }
 }
@@ -211,12 +251,16 @@ impl Large {
 pub fn large_order(kind: Large, size: usize) -> Order {
     let rng = &mut Rng::new(1);
     let (shape, len) = kind.shape();
-    let mut order = Order { set: b"LARGE ".to_vec(), quota: 999_999, ..Order::default() };
-    order.begin_file(&facts(rng, &shape));
+    let records = size / kind.cost() / kind.files();
+    let quota = kind.quota(records);
+    let mut order = Order { set: b"LARGE ".to_vec(), quota, ..Order::default() };
     let mut record = vec![0; len];
-    for _ in 0..size / kind.cost() {
-        rng.fill(&mut record, Rng::a_character);
-        order.push_record(&record);
+    for _ in 0..kind.files() {
+        order.begin_file(&facts(rng, &shape));
+        for _ in 0..records {
+            rng.fill(&mut record, Rng::a_character);
+            order.push_record(&record);
+        }
     }
     order.names = names(rng, 16);
     order

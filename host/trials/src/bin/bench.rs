@@ -46,6 +46,10 @@ fn name(kind: Large) -> &'static str {
         Large::Segmented => "S 5,000 in 4,096",
         Large::Short => "S 80 in 4,096",
         Large::Tiny => "D 6 in 10",
+        Large::Packed => "D 6 in 32,760",
+        Large::Eleven => "S 6 in 11",
+        Large::Twelve => "S 7 in 12",
+        Large::Files => "D 80 in 4,096, 64 files on 16 reels",
     }
 }
 
@@ -88,7 +92,7 @@ fn checking() {
     for kind in Large::ALL {
         let image = large(kind, SIZE);
         check_row(name(kind), &image);
-        if matches!(kind, Large::Variable | Large::Tiny) {
+        if matches!(kind, Large::Variable | Large::Tiny | Large::Eleven) {
             let (end, middle) = (wrong_at_the_end(&image), wrong_in_the_middle(&image));
             check_row(&format!("{}, fault in the last trailer", name(kind)), &end);
             check_row(&format!("{}, fault in the middle", name(kind)), &middle);
@@ -167,22 +171,23 @@ fn row(what: &str, count: usize, bytes: usize, times: Times<3>) {
 
 /// Walking by steps from state to state, in the archive and in the oracle, each of which looks whether
 /// its state can be one at all; and the oracle's iterator, which trusts the set that it was begun on.
+/// Each file is begun by its number, behind a check.
 fn walking() {
     println!(
         "| walk over all records | records | bytes | archive ms | oracle ms | ratio | iterator ms | ratio | copy ms |"
     );
     println!("|---|--:|--:|--:|--:|--:|--:|--:|--:|");
     for kind in Large::ALL {
-        let image = &large(kind, SIZE)[..];
+        let (image, files) = (&large(kind, SIZE)[..], kind.files() as u64);
         let (mut join, mut copied) = (vec![0; 100_000], vec![0; image.len()]);
         let mut other = join.clone();
-        let found = walked(image, &mut join);
-        assert_eq!(found, stepped(image, &mut other), "both hand out the same");
-        assert_eq!(found, read(image), "both hand out the same");
+        let found = walked(image, files, &mut join);
+        assert_eq!(found, stepped(image, files, &mut other), "both hand out the same");
+        assert_eq!(found, read(image, files), "both hand out the same");
         let times = Times::of([
-            &mut || _ = black_box(walked(black_box(image), &mut join)),
-            &mut || _ = black_box(stepped(black_box(image), &mut other)),
-            &mut || _ = black_box(read(black_box(image))),
+            &mut || _ = black_box(walked(black_box(image), files, &mut join)),
+            &mut || _ = black_box(stepped(black_box(image), files, &mut other)),
+            &mut || _ = black_box(read(black_box(image), files)),
             &mut || copied.copy_from_slice(black_box(image)),
         ]);
         black_box(&copied);
@@ -195,41 +200,47 @@ fn walking() {
     }
 }
 
-/// Number and length of the records by the archive's walk.
-fn walked(image: &[u8], join: &mut [u8]) -> (usize, usize) {
-    let mut walk = tardorelga::begin(image, 1).expect("an accepted image");
+/// Number and length of the records of all files by the archive's walk.
+fn walked(image: &[u8], files: u64, join: &mut [u8]) -> (usize, usize) {
     let (mut records, mut bytes) = (0, 0);
-    while let Ok((place, behind)) = walk.step(image, join) {
-        records += 1;
-        bytes += black_box(place.of(image, join)).len();
-        walk = behind;
+    for file in 1..=files {
+        let mut walk = tardorelga::begin(image, file).expect("an accepted image");
+        while let Ok((place, behind)) = walk.step(image, join) {
+            records += 1;
+            bytes += black_box(place.of(image, join)).len();
+            walk = behind;
+        }
     }
     (records, bytes)
 }
 
-/// Number and length of the records by the oracle's walk.
-fn stepped(image: &[u8], join: &mut [u8]) -> (usize, usize) {
-    let mut walk = oracle::walk::begin(image, 1).expect("an accepted image").walk;
+/// Number and length of the records of all files by the oracle's walk.
+fn stepped(image: &[u8], files: u64, join: &mut [u8]) -> (usize, usize) {
     let (mut records, mut bytes) = (0, 0);
-    while let Ok((found, behind)) = walk.step(image, join) {
-        records += 1;
-        bytes += match found {
-            Found::InImage { start, len } => black_box(&image[start..start + len]).len(),
-            Found::Joined { len } => black_box(&join[..len]).len(),
-            Found::Refused(_) => 0,
-        };
-        walk = behind;
+    for file in 1..=files {
+        let mut walk = oracle::walk::begin(image, file).expect("an accepted image").walk;
+        while let Ok((found, behind)) = walk.step(image, join) {
+            records += 1;
+            bytes += match found {
+                Found::InImage { start, len } => black_box(&image[start..start + len]).len(),
+                Found::Joined { len } => black_box(&join[..len]).len(),
+                Found::Refused(_) => 0,
+            };
+            walk = behind;
+        }
     }
     (records, bytes)
 }
 
-/// Number and length of the records by the oracle's iterator.
-fn read(image: &[u8]) -> (usize, usize) {
-    let mut all = Records::of(image, 1).expect("an accepted image");
+/// Number and length of the records of all files by the oracle's iterator.
+fn read(image: &[u8], files: u64) -> (usize, usize) {
     let (mut records, mut bytes) = (0, 0);
-    while let Some(record) = all.next_record() {
-        records += 1;
-        bytes += black_box(record).len();
+    for file in 1..=files {
+        let mut all = Records::of(image, file).expect("an accepted image");
+        while let Some(record) = all.next_record() {
+            records += 1;
+            bytes += black_box(record).len();
+        }
     }
     (records, bytes)
 }
