@@ -67,11 +67,11 @@ right-here b p s e h w = if-true _ _ _ (sym e ∙ h) ∙ w
 pub four-right : (a b c d t u v w : ℕ) (p q x y : Bool)
     → p ≡ isDigit a → p ≡ true → q ≡ isDigit b → q ≡ true → x ≡ isDigit c → x ≡ true → y ≡ isDigit d → y ≡ true
     → t ≡ a - 48 → u ≡ b - 48 → v ≡ c - 48 → w ≡ d - 48
-    → Value ((t * 10 + u) * 100 + (v * 10 + w)) ≡ numberIn (a ∷ b ∷ c ∷ d ∷ [])
+    → Value (t * 1000 + u * 100 + (v * 10 + w)) ≡ numberIn (a ∷ b ∷ c ∷ d ∷ [])
 unfolding numberIn value
 four-right a b c d t u v w p q x y e₁ h₁ e₂ h₂ e₃ h₃ e₄ h₄ q₁ q₂ q₃ q₄ =
     let all : allDigits (a ∷ b ∷ c ∷ d ∷ []) ≡ true = right-here a p _ e₁ h₁ (right-here b q _ e₂ h₂ (right-here c x _ e₃ h₃ (right-here d y [] e₄ h₄ right-none))) in
-    let sum : (t * 10 + u) * 100 + (v * 10 + w) ≡ value 0 (a ∷ b ∷ c ∷ d ∷ []) = omega arith in
+    let sum : t * 1000 + u * 100 + (v * 10 + w) ≡ value 0 (a ∷ b ∷ c ∷ d ∷ []) = omega arith in
     ap Value sum ∙ sym (if-true _ _ _ refl ∙ if-true _ _ _ all)
 
 pub ruleset four = (wrong-here, wrong-later, number-wrong, four-right, so-true, needs)

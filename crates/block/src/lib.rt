@@ -110,7 +110,7 @@ fn value_of(b: u8) -> u32
     (b - b'0') as u32
 }
 
-// The number that four digits mean.
+// The number that four digits mean: of products side by side, since a walk waits for it before the next record is found.
 fn four_digits(a: u8, b: u8, c: u8, d: u8) -> Number
     ensures { λ r. ⌜ r ≡ numberIn (a ∷ b ∷ c ∷ d ∷ []) ⌝ }
 {
@@ -118,8 +118,8 @@ fn four_digits(a: u8, b: u8, c: u8, d: u8) -> Number
         if is_digit(b) {
             if is_digit(c) {
                 if is_digit(d) {
-                    let high = value_of(a) * 10 + value_of(b);
-                    return Number::Value(high * 100 + (value_of(c) * 10 + value_of(d)));
+                    let high = value_of(a) * 1000 + value_of(b) * 100;
+                    return Number::Value(high + (value_of(c) * 10 + value_of(d)));
                 }
             }
         }

@@ -23,26 +23,26 @@ mul-high c = search four
 value-of-requires-2 : tie.Need-value-of-requires-2
 value-of-requires-2 c κs = search four
 
+mul-high-2 : tie.Need-mul-high-2
+mul-high-2 c = search four
+
 add-high : tie.Need-add-high
 add-high c = search four
-
-mul-t10 : tie.Need-mul-t10
-mul-t10 c = search four
 
 value-of-requires-3 : tie.Need-value-of-requires-3
 value-of-requires-3 c κs = search four
 
-mul-t11 : tie.Need-mul-t11
-mul-t11 c = search four
+mul-t13 : tie.Need-mul-t13
+mul-t13 c = search four
 
 value-of-requires-4 : tie.Need-value-of-requires-4
 value-of-requires-4 c κs = search four
 
+add-t11 : tie.Need-add-t11
+add-t11 c = search four
+
 add-t14 : tie.Need-add-t14
 add-t14 c = search four
-
-add-t15 : tie.Need-add-t15
-add-t15 c = search four
 
 returns : tie.Need-returns
 returns c = search four
@@ -70,13 +70,13 @@ four-digits-spec =
     value-of-requires
     mul-high
     value-of-requires-2
+    mul-high-2
     add-high
-    mul-t10
     value-of-requires-3
-    mul-t11
+    mul-t13
     value-of-requires-4
+    add-t11
     add-t14
-    add-t15
     returns
     returns-2
     returns-3
