@@ -192,6 +192,21 @@ typedef struct tardorelga_stepped {
 tardorelga_stepped tardorelga_step(const uint8_t *image, size_t image_len, tardorelga_walk walk,
                                    uint8_t *join, size_t join_len);
 
+/* How many steps were taken, and the walk behind them. */
+typedef struct tardorelga_row {
+    uint64_t count;
+    tardorelga_walk walk;
+} tardorelga_row;
+
+/*
+ * As many steps at once as both lists have room for, as long as each gives a part of the image: its start
+ * and its len go to the next place of the two lists, what is behind these stays. It stops before a record
+ * that must be joined and behind the last one: with less than a full list tardorelga_step, from the walk of
+ * the answer, says which.
+ */
+tardorelga_row tardorelga_steps(const uint8_t *image, size_t image_len, tardorelga_walk walk,
+                                uint64_t *starts, size_t starts_len, uint64_t *lens, size_t lens_len);
+
 /* A number of records, and of the bytes of all of them. */
 typedef struct tardorelga_facts {
     uint64_t records;

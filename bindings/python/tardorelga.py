@@ -72,6 +72,7 @@ HIGHEST_QUOTA = 999_999
 _LONGEST_LISTING = 4_096
 _LABEL = 80
 _FIRST_ITEM = 5
+_ROW = 256
 
 _WORDS = {
     0: "accepted, or done",
@@ -578,6 +579,10 @@ class _Stepped(ctypes.Structure):
     _fields_ = [("number", _u32), ("joined", _u32), ("start", _u64), ("len", _u64), ("walk", _Walk)]
 
 
+class _Row(ctypes.Structure):
+    _fields_ = [("count", _u64), ("walk", _Walk)]
+
+
 class _Facts(ctypes.Structure):
     _fields_ = [("records", _u64), ("bytes", _u64)]
 
@@ -603,6 +608,7 @@ _FUNCTIONS = {
     "next_file": (_Begun, *_slice, _u64, _u64),
     "count": (_Facts, *_slice, _Walk),
     "step": (_Stepped, *_slice, _Walk, *_out),
+    "steps": (_Row, *_slice, _Walk, *_words, *_words),
     "listing": (_Written, *_slice, *_out),
     "rewrite": (_Written, *_slice, _u64, *_slice, *_out),
     "write": (_Written, *_slice, *_slice, *_words, *_words, *_slice, _u64, *_slice, *_out),
@@ -691,8 +697,16 @@ def _texts(kind: str, image: bytes, at: int) -> typing.Dict[str, str]:
 
 
 def _walked(image: bytes, walk: _Walk) -> typing.Iterator[bytes]:
+    """The records that stand whole come as many at a time as two lists hold; one that must be joined, by a step."""
     join = ctypes.create_string_buffer(walk.size or 1)
+    starts, lens = (_u64 * _ROW)(), (_u64 * _ROW)()
     while True:
+        row = _call("steps", image, len(image), walk, starts, _ROW, lens, _ROW)
+        for start, length in zip(starts[: row.count], lens[: row.count]):
+            yield image[start : start + length]
+        walk = row.walk
+        if row.count == _ROW:
+            continue
         step = _call("step", image, len(image), walk, join, walk.size)
         if step.number:
             return

@@ -208,7 +208,7 @@ fn variable_length(size: u32, s: &[u8], at: usize) -> usize
 }
 
 // The bytes of the segment at a place, with its control word, or 0 where there is none.
-fn segment_length(s: &[u8], at: usize) -> usize
+pub fn segment_length(s: &[u8], at: usize) -> usize
     ensures { λ r. ⌜ r ≡ lengthOf (segment (drop at (now (s .entry)))) ⌝ }
 {
     let left = left_of(s, at);

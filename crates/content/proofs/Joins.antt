@@ -298,33 +298,46 @@ split-sum s w m i start n v t c e q =
     = ap length (g .bytes) ∙ length-append (part start n s) (bytesBehind s v) in
     omega (arith, c .fits)
 
-pub first-room : (s old : List ℕ) (w : Walk) (i start n : ℕ) (v : Walk) (t : Taken) (l : List ℕ) → SplitAt s w (length old) → t ≡ unitFrom s w → t ≡ One i start n v
-    → l ≡ part start n s → 0 + length l ≤ length old
-first-room s old w i start n v t l c e q h =
-    let a = splitting s w (length old) i start n v t c e q .long in
-    let k : length l ≡ length (part start n s) = ap length h in
-    omega (arith, split-sum s w (length old) i start n v t c e q)
+pub first-within : (s : List ℕ) (w : Walk) (m i start n : ℕ) (v : Walk) (t : Taken) → SplitAt s w m → t ≡ unitFrom s w → t ≡ One i start n v → start + n ≤ length s
+first-within s w m i start n v t c e q = from-behind s w i start n v (c .inside) (sym e ∙ q) .within
 
-pub rest-goes : (s old : List ℕ) (w : Walk) (i start n : ℕ) (v : Walk) (t : Taken) (out : List ℕ) → SplitAt s w (length old) → t ≡ unitFrom s w → t ≡ One i start n v
-    → length out ≡ length old → GoesOn s v n (length out)
-rest-goes s old w i start n v t out c e q k =
+pub rest-goes : (s old : List ℕ) (w : Walk) (i start n : ℕ) (v : Walk) (t : Taken) → SplitAt s w (length old) → t ≡ unitFrom s w → t ≡ One i start n v
+    → GoesOn s v n (length old)
+rest-goes s old w i start n v t c e q =
     let g = splitting s w (length old) i start n v t c e q in
-    record { inside = g .inside; ended = g .ended; fits = omega (arith, split-sum s w (length old) i start n v t c e q) }
+    record { inside = g .inside; ended = g .ended; fits = split-sum s w (length old) i start n v t c e q }
 
-pub join-whole : (s old : List ℕ) (w : Walk) (i start n : ℕ) (v : Walk) (t : Taken) (l out new : List ℕ) → SplitAt s w (length old) → t ≡ unitFrom s w
-    → t ≡ One i start n v → l ≡ part start n s → out ≡ putAt old 0 l → new ≡ putAt out n (bytesBehind s v) → new ≡ putAt old 0 (recordBytes (recordAt s w))
-join-whole s old w i start n v t l out new c e q h p k =
-    let g = splitting s w (length old) i start n v t c e q in
-    let a = g .long in
-    let sum = split-sum s w (length old) i start n v t c e q in
-    let z : n ≡ 0 + length (part start n s) = omega arith in
-    let room : 0 + length (part start n s) ≤ length old = omega arith in
-    k
-    ∙ ap₂ (λ (x : List ℕ) (j : ℕ). putAt x j (bytesBehind s v)) (p ∙ ap (putAt old 0) h) z
-    ∙ put-put old 0 (part start n s) (bytesBehind s v) room
-    ∙ ap (putAt old 0) (sym (g .bytes))
+pub join-whole : (s old : List ℕ) (w : Walk) (i start n : ℕ) (v : Walk) (t : Taken) (new : List ℕ) → SplitAt s w (length old) → t ≡ unitFrom s w
+    → t ≡ One i start n v → new ≡ putAt old 0 (part start n s ++ bytesBehind s v) → new ≡ putAt old 0 (recordBytes (recordAt s w))
+join-whole s old w i start n v t new c e q p = p ∙ ap (putAt old 0) (sym (splitting s w (length old) i start n v t c e q .bytes))
 
 pub split-here : (s : List ℕ) (w : Walk) (m : ℕ) → SplitAt s w m → Inside s w
 split-here s w m c = c .inside
 
-pub ruleset joins = (join-nothing, first-room, rest-goes, join-whole, split-here, needs)
+pub ruleset joins = (join-nothing, first-within, rest-goes, join-whole, split-here, needs)
+
+-- ---- from the first segment on
+
+pub first-room : (s old : List ℕ) (start n : ℕ) (v : Walk) (l : List ℕ) → start + n ≤ length s → GoesOn s v n (length old) → l ≡ part start n s
+    → 0 + length l ≤ length old
+first-room s old start n v l h c e =
+    let a : length (part start n s) ≡ n = length-part start n s h in
+    let b : length l ≡ length (part start n s) = ap length e in
+    let f = c .fits in
+    omega arith
+
+pub still-goes : (s old out : List ℕ) (n : ℕ) (v : Walk) → GoesOn s v n (length old) → length out ≡ length old → GoesOn s v n (length out)
+still-goes s old out n v c e = let f = c .fits in record { inside = c .inside; ended = c .ended; fits = omega arith }
+
+pub joined-behind : (s old : List ℕ) (start n : ℕ) (v : Walk) (l out new : List ℕ) → start + n ≤ length s → GoesOn s v n (length old) → l ≡ part start n s
+    → out ≡ putAt old 0 l → new ≡ putAt out n (bytesBehind s v) → new ≡ putAt old 0 (part start n s ++ bytesBehind s v)
+joined-behind s old start n v l out new h c e p q =
+    let a : length (part start n s) ≡ n = length-part start n s h in
+    let f = c .fits in
+    let z : n ≡ 0 + length (part start n s) = omega arith in
+    let room : 0 + length (part start n s) ≤ length old = omega arith in
+    q
+    ∙ ap₂ (λ (x : List ℕ) (j : ℕ). putAt x j (bytesBehind s v)) (p ∙ ap (putAt old 0) e) z
+    ∙ put-put old 0 (part start n s) (bytesBehind s v) room
+
+pub ruleset joins-from = (first-room, still-goes, joined-behind, needs)

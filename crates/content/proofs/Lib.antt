@@ -6,8 +6,10 @@ pub mod Units
 pub mod Rests
 pub mod Measures
 pub mod Wholes
+pub mod Segments
 pub mod Joins
-pub mod Steps
+pub mod Stepping
+pub mod Rows
 pub mod Files
 pub mod Founds
 pub mod Blocks

@@ -27,7 +27,7 @@ use Rattle.content.proofs.Units.{inside-true, inside-is}
 use Rattle.content.proofs.Searches.{Follows, Leads}
 use Rattle.content.proofs.Rests.{Behind, next-behind, from-behind}
 use Rattle.content.proofs.Joins.{Going, going, not-nothing, Splitting, splitting, split-not-nothing}
-use Rattle.content.proofs.Steps.{split-stands}
+use Rattle.content.proofs.Stepping.{split-stands}
 
 -- ---- a record handed out is passed: the walk behind it is further on by at least its bytes, inside the image and over the same file, and
 -- from its block on the same file follows

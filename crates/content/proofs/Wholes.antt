@@ -168,7 +168,7 @@ unfolding unitFrom orNext
 leads-self s w =
     record { format = refl; size = refl; offset = refl; inside = λ h. h; unit = λ i start n u e. ap (λ (t : Taken). orNext t (unitNext s w)) e }
 
-none-left : (s : List ℕ) (w : Walk) → w .left ≡ 0 → unitHere s w ≡ Nothing
+pub none-left : (s : List ℕ) (w : Walk) → w .left ≡ 0 → unitHere s w ≡ Nothing
 unfolding unitHere taken
 none-left s w h = by-unit (unitOf (w .format) (w .size) (leftOf s w)) refl
   where

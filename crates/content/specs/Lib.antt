@@ -8,3 +8,4 @@ pub mod Items
 pub mod Found
 pub mod Walked
 pub mod Records
+pub mod Row

@@ -1,14 +1,16 @@
 -- The record that stands whole in what is left of the current block, or at the head of the next: most records do, and one number tells them.
--- `record-whole` (proofs/Wholes.antt) says that it is the record at the walk's place.
+-- `record-whole` (proofs/Wholes.antt) says that it is the record at the walk's place. And the segment that stands there, which one number tells as well.
+use mathlib.Core.Path.{_≡_}
 use mathlib.Core.List.{List}
 use Prim.Native.Nat.{ℕ, _+_, _-_}
 use lib.Dec.{leb, eqb}
-use lib.ListN.{drop}
+use lib.ListN.{drop, getD}
 use Rattle.base.specs.If.{ifB}
+use Rattle.base.specs.Format.{S}
 use Rattle.image.specs.Item.{shape}
 use Rattle.image.specs.declared.Shape.{Shape}
 use Rattle.image.specs.declared.Shape.the-variants.{Block, Mark, ReelEnd, Broken}
-use Rattle.block.specs.Unit.{unitOf, wholeOf}
+use Rattle.block.specs.Unit.{segment, unitOf, lengthOf, wholeOf}
 use Rattle.content.specs.Walk.{moved, leftOf, isInside}
 use Rattle.content.specs.declared.Walk.{Walk}
 
@@ -33,3 +35,19 @@ wholeIn s w = ifB (eqb (w .size) 0) 0 (ifB (isInside s w) (wholeOf (w .size) (un
 
 abbrev pub wholeAt : List ℕ → Walk → ℕ
 wholeAt s w = wholeIn s (standsAt (w .format) (w .size) (w .at) (w .left))
+
+-- the bytes, with its control word, of the segment at the head of what is left of the current block of an S file, with `before` bytes left of the block before it;
+-- 0 where there is none, or something is left there
+unfoldable pub segmentIn : List ℕ → ℕ → Walk → ℕ
+segmentIn s before w = ifB (eqb before 0) (ifB (eqb (w .format) S) (ifB (isInside s w) (lengthOf (segment (leftOf s w))) 0) 0) 0
+
+-- the same where that segment, whose indicator is the digit 1, begins a record of at most R bytes
+unfoldable pub begunIn : List ℕ → Walk → ℕ
+begunIn s w =
+    ifB (eqb (w .size) 0) 0
+    (ifB (eqb (segmentIn s 0 w) 0) 0 (ifB (eqb (getD s (w .at) 0) 49) (ifB (leb (segmentIn s 0 w - 5) (w .size)) (segmentIn s 0 w) 0) 0))
+
+-- k is that number, and not 0
+pub record BegunAt (s : List ℕ) (w : Walk) (k : ℕ) : Type 0 where
+  pub is : k ≡ begunIn s w
+  pub some : k ≡ 0 → ⊥

@@ -1,8 +1,9 @@
 // Joining: the segments of one record, end to end, in the front of a lent buffer. It knows no refusal: whoever calls it knows that all of it fits.
 ghost use mathlib.Core.Path.{_≡_};
+ghost use mathlib.Core.List.{_++_};
 ghost use Prim.Native.Nat.{_+_, _≤_};
 ghost use lib.ListN.{length};
-ghost use Rattle.base.specs.Part.{putAt};
+ghost use Rattle.base.specs.Part.{part, putAt};
 ghost use Rattle.content.specs.Walk.{recordAt};
 ghost use Rattle.content.specs.Measure.{GoesOn, bytesBehind, SplitAt, recordBytes};
 use crate::Walk;
@@ -45,6 +46,16 @@ fn copy_rest(image: &[u8], from: Walk, join: &mut [u8], place: usize)
     }
 }
 
+// A record whose first segment, of n bytes, is known by its place, and the walk behind it.
+pub(crate) fn join_from(image: &[u8], start: usize, n: usize, behind: Walk, join: &mut [u8])
+    requires { ⌜ start + n ≤ length (now image) ⌝ }
+    requires { ⌜ GoesOn (now image) behind n (length (now join)) ⌝ }
+    ensures { λ r. ⌜ now (join .exit) ≡ putAt (now (join .entry)) 0 (part start n (now (image .entry)) ++ bytesBehind (now (image .entry)) behind) ⌝ }
+{
+    copy_in(part_of(image, start, n), join, 0);
+    copy_rest(image, behind, join, n);
+}
+
 // The record of several segments at a walk's place, joined.
 pub(crate) fn join_record(image: &[u8], w: Walk, join: &mut [u8])
     requires { ⌜ SplitAt (now image) w (length (now join)) ⌝ }
@@ -52,9 +63,6 @@ pub(crate) fn join_record(image: &[u8], w: Walk, join: &mut [u8])
 {
     match unit_from(image, w) {
         Taken::Nothing => return,
-        Taken::One(_, start, n, v) => {
-            copy_in(part_of(image, start, n), join, 0);
-            copy_rest(image, v, join, n);
-        }
+        Taken::One(_, start, n, v) => join_from(image, start, n, v, join),
     }
 }

@@ -6,6 +6,7 @@ mod items; // items.rt: an image item by item
 mod join; // join.rt: segments joined in a buffer
 mod measuring; // measuring.rt: the record at a place, by its numbers
 mod numbers; // numbers.rt: an answer as document 01's number and values
+mod row; // row.rt: the records that stand whole, as many as a pair of lists has room for
 mod section; // section.rt: the next data block of a file
 mod segment; // segment.rt: a record segment by segment
 mod unit; // unit.rt: the next unit of a file
@@ -30,6 +31,8 @@ pub use numbers::beginning_of;
 pub use numbers::file_of;
 pub use numbers::record_of;
 pub use numbers::stepped_of;
+pub use row::Row;
+pub use row::steps;
 pub use segment::first_segment;
 pub use segment::next_segment;
 pub use unit::Taken;
@@ -37,15 +40,23 @@ ghost use mathlib.Core.Path.{_≡_};
 ghost use lib.ListN.{length};
 ghost use Rattle.base.specs.Answer.{verdict};
 ghost use Rattle.content.specs.Walk.{stepAt, joinAt};
+ghost use Rattle.content.specs.Whole.{BegunAt};
 ghost use Rattle.content.specs.File.{begunAt};
 ghost use Rattle.content.specs.Numbers.{recordOf, beginningOf, steppedOf, Said};
 ghost use Rattle.content.specs.Found.{passed, foundBy, foundIn, leftIn, foundFrom, leftFrom, foundAt, leftAt, partOf};
 use base::Verdict;
 use base::part_of;
+use block::word_of;
 use file::file_numbered;
+use join::join_from;
 use join::join_record;
+use measuring::Tail;
+use measuring::begun_at;
+use measuring::measure_units;
+use measuring::rest_length;
 use numbers::begun_by;
 use unit::Place;
+use unit::moved;
 use volume::check;
 
 // A walk over the records of one file: the format, the record length and the offset length of the file, the place of what is left of the
@@ -100,18 +111,66 @@ impl Walk {
         ensures { λ r. ⌜ Said (steppedOf self) r (stepAt (now (image .entry)) (length (now (join .entry))) self) ⌝ }
         ensures { λ r. ⌜ now (join .exit) ≡ joinAt (now (image .entry)) (now (join .entry)) self ⌝ }
     {
-        match measure(image, self) {
-            Measured::Nothing => Step::Refused(13),
-            Measured::Whole(start, n, v) => Step::InImage(start, n, v),
-            Measured::Split(n, v) => {
-                if join.len() < n {
-                    return Step::Refused(10);
-                }
-                join_record(image, self, join);
-                Step::Joined(n, v)
+        let v = at_block(image, self);
+        let k = whole_at(image, v.format, v.size, v.at, v.left);
+        if k != 0 {
+            let word = word_of(v.format);
+            return Step::InImage(v.at + word, k - word, moved(v, v.at + k, v.left - k));
+        }
+        step_split(image, self, join)
+    }
+}
+
+// The same, unit by unit.
+fn step_units(image: &[u8], w: Walk, join: &mut [u8]) -> Step
+    ensures { λ r. ⌜ r ≡ stepAt (now (image .entry)) (length (now (join .entry))) w ⌝ }
+    ensures { λ r. ⌜ now (join .exit) ≡ joinAt (now (image .entry)) (now (join .entry)) w ⌝ }
+{
+    match measure_units(image, w) {
+        Measured::Nothing => Step::Refused(13),
+        Measured::Whole(start, n, v) => Step::InImage(start, n, v),
+        Measured::Split(n, v) => {
+            if join.len() < n {
+                return Step::Refused(10);
             }
+            join_record(image, w, join);
+            Step::Joined(n, v)
         }
     }
+}
+
+// The record that begins with the segment, of k bytes with its control word, at the head of what is left of the current block.
+fn step_begun(image: &[u8], v: Walk, k: usize, join: &mut [u8]) -> Step
+    requires { ⌜ BegunAt (now image) v k ⌝ }
+    ensures { λ r. ⌜ r ≡ stepAt (now (image .entry)) (length (now (join .entry))) v ⌝ }
+    ensures { λ r. ⌜ now (join .exit) ≡ joinAt (now (image .entry)) (now (join .entry)) v ⌝ }
+{
+    let n = k - 5;
+    let most = v.size as usize;
+    let u = moved(v, v.at + k, v.left - k);
+    match rest_length(image, most - n, u) {
+        Tail::Fails => Step::Refused(13),
+        Tail::Ends(m, x) => {
+            if join.len() < n + m {
+                return Step::Refused(10);
+            }
+            join_from(image, v.at + 5, n, u, join);
+            Step::Joined(n + m, x)
+        }
+    }
+}
+
+// The same, where no whole record stands in the current block, or at the head of the next: most often one begins there.
+fn step_split(image: &[u8], w: Walk, join: &mut [u8]) -> Step
+    ensures { λ r. ⌜ r ≡ stepAt (now (image .entry)) (length (now (join .entry))) w ⌝ }
+    ensures { λ r. ⌜ now (join .exit) ≡ joinAt (now (image .entry)) (now (join .entry)) w ⌝ }
+{
+    let v = at_block(image, w);
+    let k = begun_at(image, v.format, v.size, v.at, v.left);
+    if k == 0 {
+        return step_units(image, w, join);
+    }
+    step_begun(image, v, k, join)
 }
 
 // An answer without a place.

@@ -1,7 +1,7 @@
 // The record at a walk's place, by its numbers: where it stands or how long it is, and the walk behind it. It changes no byte.
 ghost use mathlib.Core.Path.{_≡_};
 ghost use Rattle.content.specs.Walk.{Inside, restAt, recordAt};
-ghost use Rattle.content.specs.Whole.{atBlock, standsAt, wholeIn};
+ghost use Rattle.content.specs.Whole.{atBlock, standsAt, wholeIn, segmentIn, begunIn};
 ghost use Rattle.content.specs.Measure.{tailBy, measuredBy};
 use crate::Walk;
 use crate::unit::Taken;
@@ -9,6 +9,8 @@ use crate::unit::is_inside;
 use crate::unit::moved;
 use crate::unit::unit_from;
 use crate::unit::unit_next;
+use base::SEGMENTED;
+use block::segment_length;
 use block::whole_length;
 use block::word_of;
 use image::Shape;
@@ -68,8 +70,50 @@ pub fn whole_at(image: &[u8], format: u32, size: u32, at: usize, left: usize) ->
     whole_length(format as u8, size, &image[at..end], 0)
 }
 
+// The bytes, with its control word, of the segment at the head of what is left of a block of an S file, where `before` bytes are left of the block before it:
+// none have to be. Or 0.
+pub(crate) fn segment_in(image: &[u8], before: usize, format: u32, at: usize, left: usize) -> usize
+    ensures { λ r. ⌜ r ≡ segmentIn (now (image .entry)) before (standsAt format 0 at left) ⌝ }
+{
+    if before != 0 {
+        return 0;
+    }
+    if format != SEGMENTED as u32 {
+        return 0;
+    }
+    if image.len() < at {
+        return 0;
+    }
+    if image.len() - at < left {
+        return 0;
+    }
+    let end = at + left;
+    segment_length(&image[at..end], 0)
+}
+
+// The same, where the segment begins a record of at most R bytes.
+pub(crate) fn begun_at(image: &[u8], format: u32, size: u32, at: usize, left: usize) -> usize
+    ensures { λ r. ⌜ r ≡ begunIn (now (image .entry)) (standsAt format size at left) ⌝ }
+{
+    if size == 0 {
+        return 0;
+    }
+    let k = segment_in(image, 0, format, at, left);
+    if k == 0 {
+        return 0;
+    }
+    if image[at] != b'1' {
+        return 0;
+    }
+    let most = size as usize;
+    if most < k - 5 {
+        return 0;
+    }
+    k
+}
+
 // The rest of a record that may have `most` bytes more.
-fn rest_length(image: &[u8], most: usize, from: Walk) -> Tail
+pub(crate) fn rest_length(image: &[u8], most: usize, from: Walk) -> Tail
     requires { ⌜ Inside (now image) from ⌝ }
     ensures { λ r. ⌜ r ≡ tailBy (restAt (now (image .entry)) most from) ⌝ }
 {
@@ -98,7 +142,7 @@ fn rest_length(image: &[u8], most: usize, from: Walk) -> Tail
 }
 
 // The record at a walk's place, unit by unit.
-fn measure_units(image: &[u8], w: Walk) -> Measured
+pub(crate) fn measure_units(image: &[u8], w: Walk) -> Measured
     ensures { λ r. ⌜ r ≡ measuredBy (recordAt (now (image .entry)) w) ⌝ }
 {
     if w.size == 0 {

@@ -4,6 +4,8 @@ ghost use lib.ListN.{drop};
 ghost use Rattle.block.specs.Unit.{unitOf};
 ghost use Rattle.content.specs.Walk.{moved, Inside, isInside, unitHere, blockNext, unitNext, unitFrom};
 use crate::Walk;
+use crate::measuring::at_block;
+use crate::measuring::segment_in;
 use crate::section::Extent;
 use crate::section::next_data;
 use base::part_of;
@@ -93,8 +95,8 @@ fn block_next(image: &[u8], w: Walk) -> Place
     }
 }
 
-// The first unit of the next block.
-pub(crate) fn unit_next(image: &[u8], w: Walk) -> Taken
+// The first unit of the next block, wherever that is.
+fn unit_beyond(image: &[u8], w: Walk) -> Taken
     requires { ⌜ Inside (now image) w ⌝ }
     ensures { λ r. ⌜ r ≡ unitNext (now (image .entry)) w ⌝ }
 {
@@ -102,6 +104,21 @@ pub(crate) fn unit_next(image: &[u8], w: Walk) -> Taken
         Place::Nowhere => Taken::Nothing,
         Place::At(v) => unit_here(image, v),
     }
+}
+
+// The first unit of the next block. Most often that is a segment, and its block stands right behind the current one.
+pub(crate) fn unit_next(image: &[u8], w: Walk) -> Taken
+    requires { ⌜ Inside (now image) w ⌝ }
+    ensures { λ r. ⌜ r ≡ unitNext (now (image .entry)) w ⌝ }
+{
+    let v = at_block(image, w);
+    let k = segment_in(image, w.left, v.format, v.at, v.left);
+    if k != 0 {
+        let at = v.at;
+        let i = (image[at] - b'0') as u32;
+        return Taken::One(i, at + 5, k - 5, moved(v, at + k, v.left - k));
+    }
+    unit_beyond(image, w)
 }
 
 // The unit at the walk's place.

@@ -3,7 +3,7 @@
 use mathlib.Core.Path.{_≡_}
 use mathlib.Core.Logic.{_↔_}
 use mathlib.Core.List.{List, [], _∷_, _++_}
-use Prim.Native.Nat.{ℕ, _+_, _≤_}
+use Prim.Native.Nat.{ℕ, _+_, _≤_, min}
 use lib.ListN.{length, take}
 use Rattle.base.specs.Answer.{verdict}
 use Rattle.base.specs.declared.Verdict.{Verdict}
@@ -18,6 +18,7 @@ use Rattle.volume.specs.Accepted.{Accepted, FirstFault, Placed}
 use Rattle.volume.specs.Meaning.{File, content, Means}
 use Rattle.sheet.specs.Flat.{Flat, reelsNumber, sheetOf, sheetNumber}
 use Rattle.content.specs.Walk.{stepAt, joinAt}
+use Rattle.content.specs.Row.{stays}
 use Rattle.content.specs.File.{begunAt}
 use Rattle.content.specs.Items.{itemAt, Met}
 use Rattle.content.specs.Found.{partOf}
@@ -30,8 +31,8 @@ use Rattle.content.specs.declared.Begun.the-variants.{Refused as NotBegun}
 use Rattle.content.specs.declared.Step.the-variants.{Refused as NoStep}
 use Rattle.listing.specs.Text.{listingOf, refusalLine}
 use Rattle.writer.specs.Rewrite.{sheetFrom}
-use Rattle.demands.specs.Operations.{Operations}
-use Rattle.demands.specs.Terms.{Answered, noneGiven, OutOf, noRecord, FileGiven, ByReader, Fits, Outcome}
+use Rattle.demands.specs.Operations.{listing, Operations}
+use Rattle.demands.specs.Terms.{Answered, noneGiven, OutOf, noRecord, rowBy, FileGiven, ByReader, Fits, Outcome}
 
 -- "1. Any bytes, any numbers: every operation ends and answers by itself, without asking the caller to have checked anything."
 -- An operation is a function of lists and numbers, and no public function has a `requires`.
@@ -48,6 +49,8 @@ pub record Demand1 (p : Operations) : Type 0 where
       → Answered (p .check s) (13 ∷ 10 ∷ []) (p .find s n r old .at .verdict) (p .find s n r old ≡ noRecord (p .find s n r old .at .verdict) old)
   pub step : (s : List ℕ) (w : Walk) (old : List ℕ)
       → Answered noneGiven (13 ∷ 10 ∷ []) (verdict (p .step s w old .answer .number) 0 0) (p .step s w old ≡ record { answer = steppedOf w (NoStep (p .step s w old .answer .number)); left = old })
+  -- Steps at once give no number: where none is taken the walk and both lists stay. Ruled out: one that shortens the lists to what it found (`shortens`).
+  pub steps : (s : List ℕ) (w : Walk) (places lengths : List ℕ) → p .steps s w places lengths .answer .count ≡ 0 → p .steps s w places lengths ≡ listing places lengths (stays w)
   pub reader : ByReader p
   pub part : (s join : List ℕ) (v : Verdict) → p .part s join (NotFound v) ≡ []
   pub facts : (s : List ℕ) (n : ℕ) → (p .begin s n .verdict .number ≡ 0 → ⊥) → p .facts s (p .begin s n .walk) ≡ factsOf []
@@ -91,6 +94,9 @@ pub record Demand2 (p : Operations) : Type 0 where
   pub item : (s : List ℕ) (at g : ℕ) → p .item s at g ≡ itemAt s at g
   pub field : (family number byte : ℕ) → p .field family number byte ≡ fieldWith (kind family number) byte
   pub step : (s : List ℕ) (w : Walk) (old : List ℕ) → p .step s w old ≡ record { answer = steppedOf w (stepAt s (length old) w); left = joinAt s old w }
+  -- Steps at once are steps one by one, as many as both lists have room for, up to the first that gives no part of the image: they put these parts, and nothing else, at the front of the lists.
+  -- Ruled out: one that takes no step (`takes-none`).
+  pub steps : (s : List ℕ) (w : Walk) (places lengths : List ℕ) → p .steps s w places lengths ≡ listing places lengths (rowBy p s (min (length places) (length lengths)) w)
   pub facts : (s : List ℕ) (w : Walk) → p .facts s w ≡ factsOf (recordsAt s w)
   pub part : (s join : List ℕ) (x : Found) → p .part s join x ≡ partOf s join x
   pub listed : (s out : List ℕ) → Accepted s → p .list s out ≡ fitted (listingOf (content s)) out

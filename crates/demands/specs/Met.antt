@@ -13,8 +13,8 @@ use Rattle.writer.specs.Rewrite.{sheetFrom}
 use Rattle.writer.proofs.RoundTrip.{write-reads-back}
 use Rattle.demands.specs.Operations.{ours}
 use Rattle.demands.specs.Terms.{Fits}
-use Rattle.demands.specs.Refusals.{begin-refused, search-refused, find-refused, step-refused, by-reader, no-facts, list-refused, write-refused, rewrite-refused, import-refused, export-refused}
-use Rattle.demands.specs.Records.{file-given, no-file, first-begun, further-begun, set-listed, none-begun, none-found, none-listed, none-rewritten}
+use Rattle.demands.specs.Refusals.{begin-refused, search-refused, find-refused, step-refused, steps-none, by-reader, no-facts, list-refused, write-refused, rewrite-refused, import-refused, export-refused}
+use Rattle.demands.specs.Records.{file-given, no-file, first-begun, further-begun, steps-listed, set-listed, none-begun, none-found, none-listed, none-rewritten}
 use Rattle.demands.specs.Normal.{write-done, write-outcome, rewrite-outcome, rewrite-done, rewrite-means, rewrite-again, equal-images}
 use Rattle.demands.specs.Demands.{Demand1, Demand2, Normal, Demand3}
 
@@ -28,6 +28,7 @@ demand-1 =
       further = λ s a b. search-refused _;
       find = find-refused;
       step = step-refused;
+      steps = steps-none;
       reader = by-reader;
       part = λ s join v. refl;
       facts = no-facts;
@@ -53,6 +54,7 @@ demand-2 =
       item = λ s at g. refl;
       field = λ family number byte. refl;
       step = λ s w old. refl;
+      steps = λ s w places lengths. steps-listed s w places lengths;
       facts = λ s w. refl;
       part = λ s join x. refl;
       listed = set-listed;

@@ -9,7 +9,9 @@ use Rattle.output.specs.Output.{Written, Result, fitted}
 use Rattle.simh.specs.Set.{Converted, fromSimh, toSimh}
 use Rattle.volume.specs.Run.{imageVerdict}
 use Rattle.sheet.specs.Flat.{Flat}
+use Rattle.base.specs.Part.{putAt}
 use Rattle.content.specs.Walk.{stepAt, joinAt}
+use Rattle.content.specs.Row.{Steps, stepsIn, rowOf}
 use Rattle.label.specs.Judged.{fieldWith}
 use Rattle.content.specs.File.{begunAt, firstFile, nextFile}
 use Rattle.content.specs.Items.{itemAt}
@@ -22,6 +24,7 @@ use Rattle.content.specs.declared.items.ItemAt.{ItemAt}
 use Rattle.content.specs.declared.numbers.Located.{Located}
 use Rattle.content.specs.declared.numbers.Beginning.{Beginning}
 use Rattle.content.specs.declared.numbers.Stepped.{Stepped}
+use Rattle.content.specs.declared.row.Row.{Row}
 use Rattle.content.specs.declared.counting.Facts.{Facts}
 use Rattle.reader.specs.Read.{openedAt, readAt, countAt}
 use Rattle.reader.specs.declared.Opened.{Opened}
@@ -41,6 +44,12 @@ pub record Moving : Type 0 where
   pub answer : Stepped
   pub left : List ℕ
 
+-- steps taken at once, and what the lists of places and lengths hold afterwards
+pub record Listing : Type 0 where
+  pub answer : Row
+  pub places : List ℕ
+  pub lengths : List ℕ
+
 pub record Operations : Type 0 where
   -- the verdict on an image
   pub check : List ℕ → Verdict
@@ -53,6 +62,8 @@ pub record Operations : Type 0 where
   pub find : List ℕ → ℕ → ℕ → List ℕ → Handing
   -- the record at a walk's place, with a joining buffer
   pub step : List ℕ → Walk → List ℕ → Moving
+  -- steps from a walk's place, as many as two lists have room for
+  pub steps : List ℕ → Walk → List ℕ → List ℕ → Listing
   -- the record that was found: a part of the image or the front of the joining buffer
   pub part : List ℕ → List ℕ → Found → List ℕ
   -- how many records, and how many bytes of them, there are from a walk on
@@ -86,6 +97,10 @@ readingOf x =
       walk = x .walk;
     }
 
+-- steps, put at the front of the two lists
+abbrev pub listing : List ℕ → List ℕ → Steps → Listing
+listing places lengths x = record { answer = rowOf x; places = putAt places 0 (x .places); lengths = putAt lengths 0 (x .lengths) }
+
 abbrev pub ours : Operations
 ours =
     record {
@@ -95,6 +110,7 @@ ours =
       further = λ s hdr1 hdr2. fileOf (nextFile s (record { first = hdr1; second = hdr2; walk = noWalk }));
       find = λ s n r old. record { at = recordOf (foundAt s n r (length old)); left = leftAt s n r old };
       step = λ s w old. record { answer = steppedOf w (stepAt s (length old) w); left = joinAt s old w };
+      steps = λ s w places lengths. listing places lengths (stepsIn s places lengths w);
       part = partOf;
       facts = λ s w. factsOf (recordsAt s w);
       opened = openedAt;

@@ -2,7 +2,7 @@
 use mathlib.Core.Path.{_≡_, refl, sym, ap, _∙_, subst}
 use mathlib.Core.Bool.{Bool, true, false}
 use mathlib.Core.List.{List, [], _∷_, _++_}
-use Prim.Native.Nat.{ℕ, zero, suc, _+_, _-_, _≤_, _<_}
+use Prim.Native.Nat.{ℕ, zero, suc, _+_, _-_, _≤_, _<_, min}
 use native.Mathlib.Omega.{arith}
 use native.Mathlib.Numerals.{add-one}
 use native.Mathlib.Decide.{decLt}
@@ -19,6 +19,7 @@ use Rattle.volume.specs.Accepted.{Accepted}
 use Rattle.volume.specs.Meaning.{File, fieldsFrom, content}
 use Rattle.volume.proofs.Accepted.{accepted-iff}
 use Rattle.content.specs.Walk.{ends, fails, Record, whole, split, nothing as noRecordHere, recordAt, stepBy, joinBy, stepAt, joinAt}
+use Rattle.content.specs.Row.{Steps as Row, stepsBy, stepsAt}
 use Rattle.content.specs.File.{firstFile, nextFile, fileNumbered, begunBy, begunAt}
 use Rattle.content.specs.Found.{passedBy, passed, foundBy, foundIn, leftIn, foundFrom, leftFrom, foundAt, leftAt}
 use Rattle.content.specs.Measure.{measuredBy}
@@ -41,8 +42,8 @@ use Rattle.content.proofs.Records.{whole-within, walks-records}
 use Rattle.content.proofs.Walked.{walk-records, walk-none}
 use Rattle.listing.specs.Text.{textOf, listingOf, refusalLine}
 use Rattle.writer.specs.Rewrite.{rewrite}
-use Rattle.demands.specs.Operations.{Handing, ours}
-use Rattle.demands.specs.Terms.{OutOf, noRecord, Handed, one, several, locatedIn, Steps, FileGiven}
+use Rattle.demands.specs.Operations.{Handing, listing, ours}
+use Rattle.demands.specs.Terms.{OutOf, noRecord, Handed, one, several, locatedIn, Steps, rowOn, rowBy, FileGiven}
 
 -- ---- the record at a walk's place
 
@@ -118,6 +119,29 @@ steps-walk s w (r ∷ rs) (v, e, rest) = (
   λ old z. moved-on s old w r v (recordAt s w) e z,
   steps-walk s v rs rest,
 )
+
+-- ---- steps at once
+
+-- a step without a buffer to join in, by the record at the walk's place
+row-on : (w : Walk) (x : Record) (f : Walk → Row) → rowOn w (steppedOf w (stepBy 0 x)) f ≡ stepsBy w (stepBy 0 x) f
+unfolding rowOn steppedOf stepBy stepsBy ifB
+row-on w (whole start n v) f = refl
+row-on w (split bs v) f = by-room (leb (length bs) 0)
+  where
+    by-room : (t : Bool) → rowOn w (steppedOf w (ifB t (Joined (length bs) v) (NoStep 10))) f ≡ stepsBy w (ifB t (Joined (length bs) v) (NoStep 10)) f
+    by-room true = refl
+    by-room false = refl
+row-on w noRecordHere f = refl
+
+row-by : (s : List ℕ) (room : ℕ) (w : Walk) → rowBy ours s room w ≡ stepsAt s room w
+unfolding rowBy stepsAt stepAt
+row-by s zero w = refl
+row-by s (suc room) w =
+    ap (rowOn w (steppedOf w (stepBy 0 (recordAt s w)))) (λ i v. row-by s room v i) ∙ row-on w (recordAt s w) (λ v. stepsAt s room v)
+
+pub steps-listed : (s : List ℕ) (w : Walk) (places lengths : List ℕ)
+    → ours .steps s w places lengths ≡ listing places lengths (rowBy ours s (min (length places) (length lengths)) w)
+steps-listed s w places lengths = ap (listing places lengths) (sym (row-by s (min (length places) (length lengths)) w))
 
 -- ---- a record by its number
 

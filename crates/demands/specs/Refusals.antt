@@ -2,7 +2,8 @@
 use mathlib.Core.Path.{_≡_, refl, sym, ap, _∙_}
 use mathlib.Core.Bool.{Bool, true, false, _&&_}
 use mathlib.Core.List.{List, [], _∷_, _++_, flatten as endToEnd}
-use Prim.Native.Nat.{ℕ, _-_}
+use Prim.Native.Nat.{ℕ, zero, suc, _-_, min}
+use native.Mathlib.Omega.{arith}
 use borrow.Author.Tests.{eqb-false}
 use lib.Dec.{eqb, leb}
 use lib.ListN.{length}
@@ -18,6 +19,7 @@ use Rattle.volume.specs.Run.{imageVerdict}
 use Rattle.sheet.specs.Legal.{legalSheet, legalQuota, legalNames}
 use Rattle.sheet.specs.Flat.{Flat, inParts, addsUp, sheetOf, sheetNumber, reelsNumber}
 use Rattle.content.specs.Walk.{Record, whole, split, nothing as noRecordHere, recordAt, stepBy, joinBy, stepAt, joinAt}
+use Rattle.content.specs.Row.{stays, stepsBy, stepsAt, rowOf}
 use Rattle.content.specs.File.{fileNumbered, begunBy, begunAt}
 use Rattle.content.specs.Found.{passed, foundBy, foundIn, leftIn, foundFrom, leftFrom, foundAt, leftAt}
 use Rattle.content.specs.Records.{recordsAt, factsOf}
@@ -39,7 +41,7 @@ use Rattle.listing.specs.Text.{textOf}
 use Rattle.writer.specs.Lay.{Laid, laid, short, lay}
 use Rattle.writer.specs.Write.{stored, storedLaid, writeSheet, write}
 use Rattle.writer.specs.Rewrite.{sheetFrom, rewrite}
-use Rattle.demands.specs.Operations.{Handing, Moving, readingOf, ours}
+use Rattle.demands.specs.Operations.{Handing, Moving, readingOf, listing, ours}
 use Rattle.demands.specs.Terms.{isIn, Answer, done, given, other, Answered, noneGiven, noRecord, ByReader}
 
 -- ---- three ways to answer
@@ -67,6 +69,22 @@ by-record Q old (split bs v) there here off = by-room (leb (length bs) (length o
     by-room : (t : Bool) → Q (ifB t (Joined (length bs) v) (NoStep 10)) (ifB t (putAt old 0 bs) old)
     by-room true = here bs v
     by-room false = off 10 refl
+
+-- no step is taken exactly where the row is empty
+none-taken : (s : List ℕ) (room : ℕ) (w : Walk) → length (stepsAt s room w .places) ≡ 0 → stepsAt s room w ≡ stays w
+unfolding stepsAt stepsBy
+none-taken s zero w h = refl
+none-taken s (suc room) w h = by-step (stepAt s 0 w) h
+  where
+    by-step : (x : Step) → length (stepsBy w x (λ v. stepsAt s room v) .places) ≡ 0 → stepsBy w x (λ v. stepsAt s room v) ≡ stays w
+    by-step (InImage start n v) e = absurd (omega arith)
+    by-step (Joined n v) e = refl
+    by-step (NoStep k) e = refl
+
+pub steps-none : (s : List ℕ) (w : Walk) (places lengths : List ℕ) → ours .steps s w places lengths .answer .count ≡ 0 → ours .steps s w places lengths ≡ listing places lengths (stays w)
+unfolding rowOf
+steps-none s w places lengths h = ap (listing places lengths) (none-taken s (min (length places) (length lengths)) w h)
+
 
 pub step-refused : (s : List ℕ) (w : Walk) (old : List ℕ) → Answered noneGiven (13 ∷ 10 ∷ []) (verdict (ours .step s w old .answer .number) 0 0)
     (ours .step s w old ≡ record { answer = steppedOf w (NoStep (ours .step s w old .answer .number)); left = old })

@@ -2,7 +2,7 @@
 use mathlib.Core.Path.{_≡_}
 use mathlib.Core.Bool.{Bool, true, false}
 use mathlib.Core.List.{List, [], _∷_, _++_}
-use Prim.Native.Nat.{ℕ, _+_, _≤_, _<_}
+use Prim.Native.Nat.{ℕ, zero, suc, _+_, _≤_, _<_}
 use lib.Dec.{eqb, leb}
 use lib.ListN.{length, drop}
 use Rattle.base.specs.If.{ifB}
@@ -15,6 +15,7 @@ use Rattle.output.specs.Output.{Written, refused}
 use Rattle.volume.specs.Meaning.{File, fieldsFrom}
 use Rattle.sheet.specs.Legal.{Sheet}
 use Rattle.content.specs.Walk.{Record, whole, split, recordAt}
+use Rattle.content.specs.Row.{Steps as Row, stays, ahead}
 use Rattle.content.specs.Found.{passed}
 use Rattle.content.specs.Records.{factsOf}
 use Rattle.content.specs.Numbers.{recordOf, steppedOf}
@@ -80,6 +81,14 @@ Steps p s w [] = (old : List ℕ) → p .step s w old ≡ record { answer = step
 Steps p s w (r ∷ rs) =
     (v : Walk) × Handed s r (λ old. handing (p .step s w old)) (recordAt s w) × ((old : List ℕ) → p .step s w old .answer .number ≡ 0 → p .step s w old .answer .walk ≡ v)
     × Steps p s v rs
+
+-- at most so many steps from w, one after the other and without a buffer to join in, as long as each gives a part of the image
+unfoldable pub rowOn : Walk → Stepped → (Walk → Row) → Row
+rowOn w x others = ifB (eqb (x .number) 0) (ifB (eqb (x .joined) 0) (ahead (x .start) (x .len) (others (x .walk))) (stays w)) (stays w)
+
+unfoldable pub rowBy : Operations → List ℕ → ℕ → Walk → Row
+rowBy p s zero w = stays w
+rowBy p s (suc room) w = rowOn w (p .step s w [] .answer) (λ v. rowBy p s room v)
 
 -- file n of image s is d: its labels have its fields; a walk over it, and asking by number, give its records and no other
 pub record FileGiven (p : Operations) (s : List ℕ) (n : ℕ) (d : File) : Type 0 where

@@ -3,14 +3,15 @@ use mathlib.Core.Path.{_≡_, refl, sym, ap, ap₂, _∙_, subst}
 use mathlib.Core.List.{List, [], _∷_, _++_}
 use Prim.Native.Nat.{ℕ, _+_, _≤_}
 use native.Mathlib.Omega.{arith}
-use borrow.Author.Tests.{ne-eqb}
+use borrow.Author.Tests.{eq-eqb, ne-eqb}
 use lib.Dec.{eqb, leb}
 use lib.ListN.{length, take, drop, getD, replicate}
 use lib.Seq.{take-at, drop-append-seam}
-use Rattle.base.specs.If.{ifB, if-false}
+use Rattle.base.specs.If.{ifB, if-true, if-false}
 use Rattle.base.specs.Answer.{verdict}
 use Rattle.base.specs.declared.Verdict.{Verdict}
 use Rattle.base.specs.Part.{part, putAt, same}
+use Rattle.base.proofs.Parts.{put-none}
 use Rattle.image.specs.Item.{Item, three as threeBytes, bytesOf, encodeBy, encode}
 use Rattle.image.specs.Framing.{framing, items}
 use Rattle.output.specs.Output.{Written, refused, Result, refusedWith, placed, imageIn}
@@ -23,6 +24,7 @@ use Rattle.sheet.proofs.Dates.{later-dates}
 use Rattle.sheet.specs.Legal.{Sheet}
 use Rattle.sheet.specs.Flat.{Flat, sheetNumber}
 use Rattle.content.specs.Walk.{recordAt, stepBy, stepAt}
+use Rattle.content.specs.Row.{Steps, stays, stepsBy, stepsAt, stepsIn, rowOf}
 use Rattle.content.specs.Found.{passed, leftAt}
 use Rattle.content.specs.File.{fileNumbered, begunBy}
 use Rattle.content.specs.Numbers.{noWalk, recordOf, beginningOf, steppedOf}
@@ -38,16 +40,16 @@ use Rattle.listing.specs.Examples.{ledger as miscounting}
 use Rattle.writer.specs.Write.{write}
 use Rattle.writer.specs.Lay.{laid, lay}
 use Rattle.writer.specs.Rewrite.{sheetFrom, rewrite}
-use Rattle.demands.specs.Operations.{Handing, Moving, Operations, ours}
-use Rattle.demands.specs.Terms.{OutOf, noRecord, Handed, one, several, locatedIn, handing, Fits, image, Outcome, fits, illegal, fewReels, tooLong, noRoom}
+use Rattle.demands.specs.Operations.{Handing, Moving, Listing, listing, Operations, ours}
+use Rattle.demands.specs.Terms.{OutOf, noRecord, Handed, one, several, locatedIn, handing, rowOn, rowBy, Fits, image, Outcome, fits, illegal, fewReels, tooLong, noRoom}
 use Rattle.demands.specs.Normal.{written, write-outcome, rewritten, sheet-same}
 use Rattle.demands.specs.NewYear.{first, reel, ledger, newYear, oldYear, imageOf, new-year}
 use Rattle.demands.specs.Demands.{Demand1, Demand2, Demand3}
 use Rattle.demands.specs.Witness.{set, names, document01, set-accepted, reels-legal, set-fits, sheet-legal, sheet-fits, size, set-long, three-legal, three-laid, miscounted, ledgerFile, set-files, record-found, lostReel, lost, noSheet, no-sheet-legal}
 
--- ours, with another checker, beginning of a file, search for the next file, search for a record, step, writer and rewriter
-abbrev pub program : (List ℕ → Verdict) → (List ℕ → ℕ → Beginning) → (List ℕ → ℕ → ℕ → Beginning) → (List ℕ → ℕ → ℕ → List ℕ → Handing) → (List ℕ → Walk → List ℕ → Moving) → (Flat → List ℕ → Written) → (List ℕ → ℕ → List ℕ → List ℕ → Result) → Operations
-program check begin further find step write rewrite =
+-- ours, with another checker, beginning of a file, search for the next file, search for a record, step, steps at once, writer and rewriter
+abbrev pub program : (List ℕ → Verdict) → (List ℕ → ℕ → Beginning) → (List ℕ → ℕ → ℕ → Beginning) → (List ℕ → ℕ → ℕ → List ℕ → Handing) → (List ℕ → Walk → List ℕ → Moving) → (List ℕ → Walk → List ℕ → List ℕ → Listing) → (Flat → List ℕ → Written) → (List ℕ → ℕ → List ℕ → List ℕ → Result) → Operations
+program check begin further find step steps write rewrite =
     record {
       check = check;
       begin = begin;
@@ -55,6 +57,7 @@ program check begin further find step write rewrite =
       further = further;
       find = find;
       step = step;
+      steps = steps;
       part = ours .part;
       facts = ours .facts;
       opened = ours .opened;
@@ -70,25 +73,28 @@ program check begin further find step write rewrite =
     }
 
 abbrev pub checking : (List ℕ → Verdict) → Operations
-checking check = program check (ours .begin) (ours .further) (ours .find) (ours .step) write rewrite
+checking check = program check (ours .begin) (ours .further) (ours .find) (ours .step) (ours .steps) write rewrite
 
 abbrev pub beginning : (List ℕ → ℕ → Beginning) → Operations
-beginning begin = program imageVerdict begin (ours .further) (ours .find) (ours .step) write rewrite
+beginning begin = program imageVerdict begin (ours .further) (ours .find) (ours .step) (ours .steps) write rewrite
 
 abbrev pub searching : (List ℕ → ℕ → ℕ → Beginning) → Operations
-searching further = program imageVerdict (ours .begin) further (ours .find) (ours .step) write rewrite
+searching further = program imageVerdict (ours .begin) further (ours .find) (ours .step) (ours .steps) write rewrite
 
 abbrev pub finding : (List ℕ → ℕ → ℕ → List ℕ → Handing) → Operations
-finding find = program imageVerdict (ours .begin) (ours .further) find (ours .step) write rewrite
+finding find = program imageVerdict (ours .begin) (ours .further) find (ours .step) (ours .steps) write rewrite
 
 abbrev pub stepping : (List ℕ → Walk → List ℕ → Moving) → Operations
-stepping step = program imageVerdict (ours .begin) (ours .further) (ours .find) step write rewrite
+stepping step = program imageVerdict (ours .begin) (ours .further) (ours .find) step (ours .steps) write rewrite
+
+abbrev pub rowing : (List ℕ → Walk → List ℕ → List ℕ → Listing) → Operations
+rowing steps = program imageVerdict (ours .begin) (ours .further) (ours .find) (ours .step) steps write rewrite
 
 abbrev pub writing : (Flat → List ℕ → Written) → Operations
-writing write = program imageVerdict (ours .begin) (ours .further) (ours .find) (ours .step) write rewrite
+writing write = program imageVerdict (ours .begin) (ours .further) (ours .find) (ours .step) (ours .steps) write rewrite
 
 abbrev pub rewriting : (List ℕ → ℕ → List ℕ → List ℕ → Result) → Operations
-rewriting rewrite = program imageVerdict (ours .begin) (ours .further) (ours .find) (ours .step) write rewrite
+rewriting rewrite = program imageVerdict (ours .begin) (ours .further) (ours .find) (ours .step) (ours .steps) write rewrite
 
 -- an answer without the walk's move
 unfoldable pub still : Walk → Stepped → Stepped
@@ -110,6 +116,14 @@ unfolding verdict steppedOf
 moves-and-refuses d =
     let kept = d .step [] (record { format = 0; size = 1; offset = 0; at = 0; left = 0 }) [] .kept (λ z. omega arith) in
     let z : _≡_ {A = ℕ} 0 1 = ap (λ (x : Moving). x .answer .walk .size) kept in
+    omega arith
+
+-- steps that shorten the lists to what they found: here nothing
+pub shortens : Demand1 (rowing (λ s w places lengths. record { answer = rowOf (stepsIn s places lengths w); places = stepsIn s places lengths w .places; lengths = stepsIn s places lengths w .lengths })) → ⊥
+unfolding stepsAt stepsBy stepAt stepBy recordAt rowOf ifB
+shortens d =
+    let kept = d .steps [] noWalk (1 ∷ []) (1 ∷ []) refl in
+    let z : _≡_ {A = ℕ} 0 1 = ap (λ (x : Listing). getD (x .places) 0 0) kept ∙ ap (λ (l : List ℕ). getD l 0 0) (put-none (1 ∷ []) 0) in
     omega arith
 
 -- a number that no table has
@@ -171,6 +185,26 @@ stands-still d =
         → ours .step set (ours .begin set 1 .walk) (replicate 10 0) .answer .number ≡ 0
     taken (one start v stood is at) = ap (λ (h : Handing). h .at .verdict .number) (at (replicate 10 0))
     taken (several v stood at) = ap (λ (h : Handing). h .at .verdict .number) (at (replicate 10 0))
+
+-- steps at once of which none is ever taken: here a record stands at the walk's place
+pub takes-none : Demand2 (rowing (λ s w places lengths. listing places lengths (stays w))) → ⊥
+unfolding ledgerFile locatedIn recordOf verdict rowBy rowOn rowOf bytes
+takes-none d =
+    let (v, handed, moved, last) = d .files set [] ledgerFile [] set-accepted set-files .walked in
+    let (number, joined) = taken handed in
+    let one = if-true (eqb (x .number) 0) _ _ (eq-eqb (x .number) 0 number) ∙ if-true (eqb (x .joined) 0) _ _ (eq-eqb (x .joined) 0 joined) in
+    let z : _≡_ {A = ℕ} 0 1 = ap (λ (l : Listing). l .answer .count) (d .steps set w (0 ∷ []) (0 ∷ [])) ∙ ap (λ (y : Steps). length (y .places)) one in
+    omega arith
+  where
+    w : Walk
+    w = ours .begin set 1 .walk
+
+    x : Stepped
+    x = ours .step set w [] .answer
+
+    taken : Handed set (bytes "0123456789") (λ old. handing (ours .step set w old)) (recordAt set w) → (x .number ≡ 0) × (x .joined ≡ 0)
+    taken (one start v stood is at) = (ap (λ (h : Handing). h .at .verdict .number) (at []), ap (λ (h : Handing). h .at .joined) (at []))
+    taken (several v stood at) = let q = sym (record-found .1) ∙ stood in let z : _≡_ {A = ℕ} 0 1 = cc in absurd (omega arith)
 
 -- a search that stays at its file, and so finds it again and again: here there is one file
 pub same-file-again : Demand2 (searching (λ s a b. ours .first s)) → ⊥

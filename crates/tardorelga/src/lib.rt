@@ -1,6 +1,7 @@
 // The operations as C and Rust call them: a slice is a pointer and a length, a result is a struct of numbers by value.
 ghost use mathlib.Core.Path.{_≡_};
 ghost use lib.ListN.{length};
+ghost use Rattle.base.specs.Part.{putAt};
 ghost use Rattle.output.specs.Output.{Answers, AnswersAt, fitted};
 ghost use Rattle.simh.specs.Set.{fromSimh, toSimh, Converts};
 ghost use Rattle.volume.specs.Run.{imageVerdict};
@@ -10,6 +11,7 @@ ghost use Rattle.content.specs.Items.{itemAt};
 ghost use Rattle.content.specs.Records.{recordsAt, factsOf};
 ghost use Rattle.content.specs.Found.{foundAt, leftAt};
 ghost use Rattle.content.specs.Walk.{stepAt, joinAt};
+ghost use Rattle.content.specs.Row.{stepsIn, rowOf};
 ghost use Rattle.content.specs.Numbers.{recordOf, noWalk, beginningOf, fileOf, steppedOf};
 ghost use Rattle.listing.specs.Text.{textOf};
 ghost use Rattle.writer.specs.Write.{write};
@@ -21,6 +23,7 @@ use content::Facts;
 use content::FileAt;
 use content::ItemAt;
 use content::Located;
+use content::Row;
 use content::Stepped;
 use content::Walk;
 use content::begin;
@@ -121,6 +124,21 @@ pub extern "C" fn tardorelga_step(image: &[u8], walk: Walk, join: &mut [u8]) -> 
     ensures { λ x. ⌜ now (join .exit) ≡ joinAt (now (image .entry)) (now (join .entry)) walk ⌝ }
 {
     stepped_of(walk, walk.step(image, join))
+}
+
+// As many steps at once as two lent lists have room for, from any state whatever: the records that are parts of the image, by their places and lengths.
+#[no_mangle]
+pub extern "C" fn tardorelga_steps(
+    image: &[u8],
+    walk: Walk,
+    places: &mut [u64],
+    lengths: &mut [u64],
+) -> Row
+    ensures { λ x. ⌜ x ≡ rowOf (stepsIn (now (image .entry)) (now (places .entry)) (now (lengths .entry)) walk) ⌝ }
+    ensures { λ x. ⌜ now (places .exit) ≡ putAt (now (places .entry)) 0 (stepsIn (now (image .entry)) (now (places .entry)) (now (lengths .entry)) walk .places) ⌝ }
+    ensures { λ x. ⌜ now (lengths .exit) ≡ putAt (now (lengths .entry)) 0 (stepsIn (now (image .entry)) (now (places .entry)) (now (lengths .entry)) walk .lengths) ⌝ }
+{
+    content::steps(image, walk, places, lengths)
 }
 
 // Writes the listing of an image, or the line of its refusal, into a lent buffer.

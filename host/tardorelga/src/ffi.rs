@@ -43,6 +43,13 @@ pub struct Stepped {
 
 #[repr(C)]
 #[derive(Clone, Copy, Debug, PartialEq, Eq)]
+pub struct Row {
+    pub count: u64,
+    pub walk: Walk,
+}
+
+#[repr(C)]
+#[derive(Clone, Copy, Debug, PartialEq, Eq)]
 pub struct Written {
     pub verdict: Verdict,
     pub len: u64,
@@ -95,6 +102,15 @@ extern "C" {
         join: *mut u8,
         join_len: usize,
     ) -> Stepped;
+    pub fn tardorelga_steps(
+        image: *const u8,
+        image_len: usize,
+        walk: Walk,
+        places: *mut u64,
+        places_len: usize,
+        lengths: *mut u64,
+        lengths_len: usize,
+    ) -> Row;
     pub fn tardorelga_listing(
         image: *const u8,
         image_len: usize,

@@ -98,7 +98,7 @@ impl<'a> File<'a> {
     /// assert!(file.records().eq([&b"0123456789"[..]]));
     /// ```
     pub fn records(&self) -> Records<'a> {
-        Records::new(self.image, self.begun.walk, self.facts.records)
+        Records::new(self.image, self.begun.walk, self.facts.records.into())
     }
 
     /// The bytes of all its records.

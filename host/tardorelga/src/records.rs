@@ -1,10 +1,11 @@
 //! The records of a set, by number and by walk.
 
-use crate::numbers::SHORT_BUFFER;
+use crate::numbers::DONE;
 use crate::{ffi, Verdict};
 use std::borrow::Cow;
-use std::fmt;
 use std::iter::FusedIterator;
+use std::sync::OnceLock;
+use std::{fmt, mem};
 
 /// Where a record is: a record of one unit is a part of the image, one of several segments was joined
 /// into the front of the lent buffer.
@@ -151,6 +152,30 @@ impl Walk {
         }
     }
 
+    /// As many steps at once as both lists have room for, as long as each gives a part of the image: where
+    /// it starts and how long it is, and how many steps these were, with the walk behind them. A record
+    /// that must be joined is left to [`step`](Walk::step).
+    ///
+    /// ```
+    /// let image = include_bytes!("../doc/ledger.tgi");
+    /// let walk = tardorelga::begin(image, 1).unwrap();
+    /// let (mut starts, mut lens) = ([0; 8], [0; 8]);
+    /// let (count, walk) = walk.steps(image, &mut starts, &mut lens);
+    /// assert_eq!((count, starts[0], lens[0]), (1, 260, 10));
+    /// assert_eq!(walk.step(image, &mut []), Err(13));
+    /// ```
+    #[inline]
+    pub fn steps(self, image: &[u8], starts: &mut [u64], lens: &mut [u64]) -> (usize, Walk) {
+        // SAFETY: the image is lent to read and the lists to write for the whole call; they can't overlap,
+        // and nothing of them is kept.
+        let ffi::Row { count, walk } = unsafe {
+            let (image, image_len) = (image.as_ptr(), image.len());
+            let (at, len) = (starts.as_mut_ptr(), starts.len());
+            ffi::tardorelga_steps(image, image_len, self, at, len, lens.as_mut_ptr(), lens.len())
+        };
+        (count as usize, walk)
+    }
+
     /// The number of records from here on, and of their bytes: those that steps would hand out before 13.
     ///
     /// ```
@@ -177,11 +202,39 @@ impl Walk {
 #[derive(Clone)]
 pub struct Records<'a> {
     image: &'a [u8],
+    /// Records that one call of the library found, up to the walk.
+    row: Row,
     walk: Walk,
-    /// How many records the walk has before it.
-    left: u64,
-    /// Empty until a record must be joined, then of R bytes, which hold every record of the file.
+    /// How many records the walk has before it; counted when someone asks.
+    left: OnceLock<u64>,
+    /// Whether the last record was joined, as the next one then most often is.
+    joining: bool,
+    /// Room for the next record that must be joined.
     join: Vec<u8>,
+}
+
+/// How many records a call of the library finds at most.
+const ROW: usize = 64;
+
+/// Records that stand whole in the image, by their places and lengths; those before `next` were handed out.
+#[derive(Clone)]
+struct Row {
+    starts: [u64; ROW],
+    lens: [u64; ROW],
+    next: usize,
+    end: usize,
+}
+
+impl Row {
+    #[inline]
+    fn next<'a>(&mut self, image: &'a [u8]) -> Option<Cow<'a, [u8]>> {
+        if self.next == self.end {
+            return None;
+        }
+        let (start, len) = (self.starts[self.next] as usize, self.lens[self.next] as usize);
+        self.next += 1;
+        Some(Cow::Borrowed(&image[start..start + len]))
+    }
 }
 
 /// The records of file number `file`, from 1, or the image's own number, then 13.
@@ -191,37 +244,78 @@ pub struct Records<'a> {
 /// assert_eq!(none.unwrap_err().number, 13);
 /// ```
 pub fn records(image: &[u8], file: u64) -> Result<Records<'_>, Verdict> {
-    let walk = begin(image, file)?;
-    Ok(Records::new(image, walk, walk.count(image).records))
+    Ok(Records::new(image, begin(image, file)?, OnceLock::new()))
 }
 
 impl<'a> Records<'a> {
     /// The records of a walk that has so many before it.
-    pub(crate) fn new(image: &'a [u8], walk: Walk, left: u64) -> Records<'a> {
-        Records { image, walk, left, join: Vec::new() }
+    pub(crate) fn new(image: &'a [u8], walk: Walk, left: OnceLock<u64>) -> Records<'a> {
+        let row = Row { starts: [0; ROW], lens: [0; ROW], next: 0, end: 0 };
+        Records { image, row, walk, left, joining: false, join: Vec::new() }
+    }
+
+    /// The next record where the row has none: the first of a new row, or one that is joined.
+    #[inline(never)]
+    fn further(&mut self) -> Option<Cow<'a, [u8]>> {
+        if !self.joining {
+            self.fill();
+        }
+        self.row.next(self.image).or_else(|| self.step())
+    }
+
+    /// A new row.
+    fn fill(&mut self) {
+        let (count, walk) = self.walk.steps(self.image, &mut self.row.starts, &mut self.row.lens);
+        (self.row.next, self.row.end) = (0, count);
+        self.pass(count as u64, walk);
+    }
+
+    /// A single record, joined where it has several segments.
+    fn step(&mut self) -> Option<Cow<'a, [u8]>> {
+        let mut join = mem::take(&mut self.join);
+        join.reserve_exact(self.walk.size as usize);
+        // SAFETY: the image is lent to read and the buffer to write for the whole call; they can't
+        // overlap, and nothing of them is kept. No byte of the buffer is read.
+        let step = unsafe {
+            let (image, image_len) = (self.image.as_ptr(), self.image.len());
+            ffi::tardorelga_step(image, image_len, self.walk, join.as_mut_ptr(), join.capacity())
+        };
+        if step.number != DONE {
+            return None;
+        }
+        self.pass(1, step.walk);
+        self.joining = step.joined != 0;
+        if !self.joining {
+            self.join = join;
+            return Some(Cow::Borrowed(&self.image[step.start as usize..][..step.len as usize]));
+        }
+        // SAFETY: the record's bytes were joined in the front of the buffer.
+        unsafe { join.set_len(step.len as usize) };
+        join.shrink_to_fit();
+        Some(Cow::Owned(join))
+    }
+
+    /// Moves the walk on over so many records.
+    fn pass(&mut self, records: u64, walk: Walk) {
+        self.walk = walk;
+        if let Some(left) = self.left.get_mut() {
+            *left -= records;
+        }
     }
 }
 
 impl<'a> Iterator for Records<'a> {
     type Item = Cow<'a, [u8]>;
 
+    #[inline]
     fn next(&mut self) -> Option<Cow<'a, [u8]>> {
-        let mut step = self.walk.step(self.image, &mut self.join);
-        if step == Err(SHORT_BUFFER) {
-            self.join.resize(self.walk.size as usize, 0);
-            step = self.walk.step(self.image, &mut self.join);
-        }
-        let (place, walk) = step.ok()?;
-        self.walk = walk;
-        self.left -= 1;
-        Some(match place {
-            Place::InImage { start, len } => Cow::Borrowed(&self.image[start..start + len]),
-            Place::Joined { len } => Cow::Owned(self.join[..len].to_vec()),
-        })
+        self.row.next(self.image).or_else(|| self.further())
     }
 
     fn size_hint(&self) -> (usize, Option<usize>) {
-        (self.left as usize, Some(self.left as usize))
+        let left = *self.left.get_or_init(|| self.walk.count(self.image).records);
+        let left = left as usize + self.row.end - self.row.next;
+        (left, Some(left))
     }
 }
 
@@ -231,6 +325,6 @@ impl FusedIterator for Records<'_> {}
 /// Without the image, which may be long.
 impl fmt::Debug for Records<'_> {
     fn fmt(&self, f: &mut fmt::Formatter) -> fmt::Result {
-        f.debug_struct("Records").field("walk", &self.walk).field("left", &self.left).finish()
+        f.debug_struct("Records").field("walk", &self.walk).field("left", &self.len()).finish()
     }
 }

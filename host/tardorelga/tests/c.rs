@@ -75,7 +75,7 @@ fn says_of_ledger(program: &Path) {
         &["accepted"][..],
         &one,
         &one,
-        &["image 0123456789", "step 13", "file LEDGER F holds 1 10"],
+        &["row 1 260 10", "image 0123456789", "step 13", "file LEDGER F holds 1 10"],
         &[TOO_SHORT, HEADING, "0001 LEDGER            F 1 10", "rewritten 448 accepted", &tape],
     ]
     .concat();
@@ -91,6 +91,7 @@ fn says_of_joined(program: &Path) {
         "joined ABC",
         "image ",
         "record 3 refused 13 at item 0 byte 0",
+        "row 0",
         "joined ABC",
         "image ",
         "step 13",
@@ -269,7 +270,7 @@ fn the_header_and_the_rust_library_declare_what_the_archive_has() {
         Command::new("nm").args(["-g", "--defined-only"]).arg(archive).output().expect("nm");
     let symbols = String::from_utf8(output.stdout).expect("text");
     let exported = functions(symbols.split_whitespace());
-    assert!(exported.len() >= 14, "{exported:?}");
+    assert!(exported.len() >= 15, "{exported:?}");
     for file in ["include/tardorelga.h", "host/tardorelga/src/ffi.rs"] {
         let text = fs::read_to_string(root().join(file)).expect("the file");
         let code = text.lines().filter(|line| !line.starts_with(" *"));

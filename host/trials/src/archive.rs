@@ -73,6 +73,12 @@ pub fn step(from: Walk, image: &[u8], join: &mut [u8]) -> Result<(Found, Walk), 
     }
 }
 
+/// Steps at once, into two lists: how many, and the walk behind them.
+pub fn steps(from: Walk, image: &[u8], starts: &mut [u64], lens: &mut [u64]) -> (usize, Walk) {
+    let (count, walk) = in_archive(from).steps(image, starts, lens);
+    (count, in_oracle(walk))
+}
+
 fn in_oracle(tardorelga::Walk { format, size, offset, at, left }: tardorelga::Walk) -> Walk {
     Walk { format, size, offset, at, left }
 }

@@ -26,6 +26,8 @@ pub struct Tally {
     pub no_step: u64,
     /// States from which the records were counted too.
     pub counted: u64,
+    /// States from which several steps were taken at once too.
+    pub rows: u64,
 }
 
 impl Tally {
@@ -44,9 +46,10 @@ impl Tally {
 
 impl fmt::Display for Tally {
     fn fmt(&self, f: &mut fmt::Formatter) -> fmt::Result {
-        let Tally { images, in_image, joined, too_short, no_step, counted } = self;
+        let Tally { images, in_image, joined, too_short, no_step, counted, rows } = self;
         write!(f, "{} states in {images} images; in the image: {in_image}, ", self.states())?;
-        write!(f, "joined: {joined}, 10: {too_short}, 13: {no_step}; counted from {counted}")
+        write!(f, "joined: {joined}, 10: {too_short}, 13: {no_step}; ")?;
+        write!(f, "counted from {counted}, steps at once from {rows}")
     }
 }
 
@@ -69,6 +72,10 @@ pub fn compare(seed: u64, count: u64) -> Tally {
                 assert_eq!(counted, due, "{walk:?} in {}", shown(&image));
                 tally.counted += 1;
             }
+            if rng.one_in(8) {
+                assert_row(rng, &image, walk);
+                tally.rows += 1;
+            }
             if let Some(behind) = agreed(rng, &image, walk, &mut twins, &mut tally) {
                 if live.len() < KEPT {
                     live.extend([walk, walk, behind]);
@@ -77,6 +84,23 @@ pub fn compare(seed: u64, count: u64) -> Tally {
         }
     }
     tally
+}
+
+/// Steps at once are the oracle's steps one by one, up to the first that gives no part of the image; the
+/// lists, which need not be of one length, keep what stands behind.
+fn assert_row(rng: &mut Rng, image: &[u8], from: Walk) {
+    let old = [7; 12];
+    let (mut starts, mut lens) = (old, old);
+    let (some, others) = (rng.below(12), rng.below(12));
+    let row = archive::steps(from, image, &mut starts[..some], &mut lens[..others]);
+    let (mut due_starts, mut due_lens, mut walk, mut count) = (old, old, from, 0);
+    while count < some.min(others) {
+        let Ok((Found::InImage { start, len }, behind)) = walk.step(image, &mut []) else { break };
+        (due_starts[count], due_lens[count], walk) = (start as u64, len as u64, behind);
+        count += 1;
+    }
+    let (row, due) = ((row, starts, lens), ((count, walk), due_starts, due_lens));
+    assert_eq!(row, due, "{from:?} with lists of {some} and {others} in {}", shown(image));
 }
 
 /// The step of both; where it gives a record, the walk behind it.

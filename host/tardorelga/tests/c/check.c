@@ -42,6 +42,18 @@ static void say_records(size_t image_len, size_t join_len)
     }
 }
 
+/* The parts of the image that several steps at once give. */
+static uint64_t starts[2], lens[2];
+
+static void say_row(uint64_t count)
+{
+    uint64_t i;
+    printf("row %" PRIu64, count);
+    for (i = 0; i < count; i++)
+        printf(" %" PRIu64 " %" PRIu64, starts[i], lens[i]);
+    putchar('\n');
+}
+
 /* All records of the first file by walk. */
 static void say_walk(size_t image_len)
 {
@@ -52,6 +64,7 @@ static void say_walk(size_t image_len)
         say_verdict(begun.verdict);
         return;
     }
+    say_row(tardorelga_steps(image, image_len, walk, starts, 2, lens, 2).count);
     for (;;) {
         tardorelga_stepped step = tardorelga_step(image, image_len, walk, buffer, sizeof buffer);
         if (step.number != TARDORELGA_DONE) {

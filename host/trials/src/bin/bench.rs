@@ -77,12 +77,17 @@ impl<const N: usize> Times<N> {
         self.0.iter().map(|times| times[run]).fold(f64::MAX, f64::min)
     }
 
-    /// How long the first run takes, measured by another: the median over the rounds, since in one round
-    /// both see the same machine, and the best times of two may be of different moments.
-    fn ratio(&self, other: usize) -> f64 {
-        let mut ratios: Vec<f64> = self.0.iter().map(|times| times[0] / times[other]).collect();
+    /// How long a run takes, measured by another: the median over the rounds, since in one round both see
+    /// the same machine, and the best times of two may be of different moments.
+    fn between(&self, run: usize, other: usize) -> f64 {
+        let mut ratios: Vec<f64> = self.0.iter().map(|times| times[run] / times[other]).collect();
         ratios.sort_by(f64::total_cmp);
         ratios[ROUNDS / 2]
+    }
+
+    /// How long the first run takes, measured by another.
+    fn ratio(&self, other: usize) -> f64 {
+        self.between(0, other)
     }
 }
 
@@ -170,13 +175,13 @@ fn row(what: &str, count: usize, bytes: usize, times: Times<3>) {
 }
 
 /// Walking by steps from state to state, in the archive and in the oracle, each of which looks whether
-/// its state can be one at all; and the oracle's iterator, which trusts the set that it was begun on.
-/// Each file is begun by its number, behind a check.
+/// its state can be one at all; and by iterators, the library's `records()` and the oracle's, which trusts
+/// the set that it was begun on. Each file is begun by its number, behind a check.
 fn walking() {
     println!(
-        "| walk over all records | records | bytes | archive ms | oracle ms | ratio | iterator ms | ratio | copy ms |"
+        "| walk over all records | records | bytes | step ms | oracle's ms | ratio | records() ms | iterator ms | ratio | copy ms |"
     );
-    println!("|---|--:|--:|--:|--:|--:|--:|--:|--:|");
+    println!("|---|--:|--:|--:|--:|--:|--:|--:|--:|--:|");
     for kind in Large::ALL {
         let (image, files) = (&large(kind, SIZE)[..], kind.files() as u64);
         let (mut join, mut copied) = (vec![0; 100_000], vec![0; image.len()]);
@@ -184,18 +189,20 @@ fn walking() {
         let found = walked(image, files, &mut join);
         assert_eq!(found, stepped(image, files, &mut other), "both hand out the same");
         assert_eq!(found, read(image, files), "both hand out the same");
+        assert_eq!(found, iterated(image, files), "both hand out the same");
         let times = Times::of([
             &mut || _ = black_box(walked(black_box(image), files, &mut join)),
             &mut || _ = black_box(stepped(black_box(image), files, &mut other)),
+            &mut || _ = black_box(iterated(black_box(image), files)),
             &mut || _ = black_box(read(black_box(image), files)),
             &mut || copied.copy_from_slice(black_box(image)),
         ]);
         black_box(&copied);
         let (what, (records, _), bytes) = (name(kind), found, image.len());
-        let [archive, oracle, iterator, copy] = [0, 1, 2, 3].map(|run| times.best(run));
-        let (ratio, trusting) = (times.ratio(1), times.ratio(2));
+        let [step, oracle, iterator, trusting, copy] = [0, 1, 2, 3, 4].map(|run| times.best(run));
+        let (ratio, to_trusting) = (times.ratio(1), times.between(2, 3));
         println!(
-            "| {what} | {records} | {bytes} | {archive:.2} | {oracle:.2} | {ratio:.2} | {iterator:.2} | {trusting:.2} | {copy:.2} |"
+            "| {what} | {records} | {bytes} | {step:.2} | {oracle:.2} | {ratio:.2} | {iterator:.2} | {trusting:.2} | {to_trusting:.2} | {copy:.2} |"
         );
     }
 }
@@ -209,6 +216,18 @@ fn walked(image: &[u8], files: u64, join: &mut [u8]) -> (usize, usize) {
             records += 1;
             bytes += black_box(place.of(image, join)).len();
             walk = behind;
+        }
+    }
+    (records, bytes)
+}
+
+/// Number and length of the records of all files by the library's iterator.
+fn iterated(image: &[u8], files: u64) -> (usize, usize) {
+    let (mut records, mut bytes) = (0, 0);
+    for file in 1..=files {
+        for record in tardorelga::records(image, file).expect("an accepted image") {
+            records += 1;
+            bytes += black_box(&record[..]).len();
         }
     }
     (records, bytes)
