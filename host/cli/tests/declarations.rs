@@ -90,6 +90,7 @@ fn structs_of_rust() -> Lines {
         lines_of!("walk", Walk: format size offset at left),
         lines_of!("begun", ffi::Begun: verdict first second walk),
         lines_of!("stepped", ffi::Stepped: number joined start len walk),
+        lines_of!("row", ffi::Row: count walk),
         lines_of!("facts", ffi::Facts: records bytes),
         lines_of!("written", ffi::Written: verdict len),
         lines_of!("tapes", ffi::Tapes: verdict len files),

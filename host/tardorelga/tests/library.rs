@@ -40,13 +40,28 @@ fn reads(image: &[u8], Meaning { set, files }: &Meaning) {
     assert_eq!(tardorelga::file(image, none).map_err(|v| v.number), Err(13));
 }
 
-/// The iterator says before each record how many are left, and stays at its end.
+/// The iterator says before each record how many are left, and half way where it is asked only there; it
+/// stays at its end.
 fn hands_out(mut records: tardorelga::Records, due: &[Vec<u8>]) {
+    let mut unasked = records.clone();
+    unasked.by_ref().take(due.len() / 2).for_each(drop);
+    assert_eq!(unasked.len(), due.len() - due.len() / 2);
     for (at, bytes) in due.iter().enumerate() {
         assert_eq!(records.len(), due.len() - at);
         assert_eq!(records.next().map(Cow::into_owned).as_ref(), Some(bytes), "the iterator");
     }
     assert_eq!((records.len(), records.next(), records.next()), (0, None, None));
+}
+
+/// More records than one call of the library finds, some of them of several segments.
+#[test]
+fn records_by_the_hundred() {
+    let bytes = |n: usize| vec![b'A' + (n % 26) as u8; if n % 90 < 3 { 40 } else { 3 }];
+    let due: Vec<_> = (0..500).map(bytes).collect();
+    let mut order = tardorelga::Order::new("SET001");
+    order.reel("GATE01").file("FULL", tardorelga::Format::Segmented, 30, 40).records(&due);
+    let image = order.write().expect("a legal sheet");
+    hands_out(tardorelga::records(&image, 1).expect("the file is there"), &due);
 }
 
 /// The files of a set one after the other are those by number, and `size_hint` never lies.
