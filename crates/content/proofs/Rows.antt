@@ -1,28 +1,27 @@
 -- Laws of records in a row: each turn of the loop is a step, and the first that is none ends it. Assumes nothing.
 use mathlib.Core.Path.{_≡_, refl, sym, ap, ap₂, _∙_}
 use mathlib.Core.Bool.{true}
-use mathlib.Core.List.{List, [], _∷_, _++_}
+use mathlib.Core.List.{List, _∷_}
 use Prim.Native.Nat.{ℕ, zero, suc, _+_, _-_, _≤_, _<_, min}
 use native.Mathlib.Omega.{arith}
-use native.Mathlib.Numerals.{add-one}
 use mir.Val.{Fits}
 use mir.Syntax.{w64}
 use borrow.Author.Needs.{needs}
-use borrow.Author.Tests.{eq-eqb, ne-eqb, le-leb, leb-true, eqb-true, eqb-false}
+use borrow.Author.Tests.{leb-true, eqb-true, eqb-false}
 use lib.Dec.{leb, eqb}
-use lib.ListN.{length, getD, set, length-set}
-use Rattle.base.specs.If.{ifB, if-true, if-false, if-case}
+use lib.ListN.{length, set, length-set}
+use Rattle.base.specs.If.{if-case}
 use Rattle.base.specs.Part.{putAt}
 use Rattle.base.proofs.Parts.{put-none}
 use Rattle.label.proofs.Put.{put-first}
 use Rattle.block.specs.Unit.{wordOf}
-use Rattle.content.specs.Walk.{moved, leftOf, Inside, isInside, unitFrom, Rest, ends, fails, restAt, Record, whole, split, nothing, splitBy, begunBy, recordAt, stepBy, stepAt}
+use Rattle.content.specs.Walk.{moved, Inside, isInside, unitFrom, Rest, ends, fails, Record, whole, split, nothing, splitBy, begunBy, recordAt, stepBy, stepAt}
 use Rattle.content.specs.Whole.{atBlock, standsAt, wholeAt, begunIn}
 use Rattle.content.specs.Measure.{measuredBy}
 use Rattle.content.specs.Row.{Steps, stays, ahead, stepsBy, stepsAt, rowOf, wholeBy}
 use Rattle.content.specs.declared.Walk.{Walk}
 use Rattle.content.specs.declared.Step.{Step}
-use Rattle.content.specs.declared.Step.the-variants.{InImage, Joined, Refused}
+use Rattle.content.specs.declared.Step.the-variants.{Joined, Refused}
 use Rattle.content.specs.declared.row.Row.{Row}
 use Rattle.content.specs.declared.unit.Taken.{Taken}
 use Rattle.content.specs.declared.unit.Taken.the-variants.{One, Nothing}

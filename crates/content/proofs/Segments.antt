@@ -16,7 +16,6 @@ use Rattle.base.specs.If.{ifB, if-true, if-false, if-case}
 use Rattle.base.specs.Part.{part}
 use Rattle.base.proofs.Parts.{part-within}
 use Rattle.block.specs.Unit.{segment, unitOf, lengthOf}
-use Rattle.block.specs.declared.Unit.{Unit}
 use Rattle.block.specs.declared.Unit.the-variants.{Of}
 use Rattle.block.proofs.Places.{head-at}
 use Rattle.block.proofs.Lengths.{unit-segment, segment-of, segment-least, segment-first, segment-fits}
@@ -24,9 +23,9 @@ use Rattle.content.specs.Walk.{moved, leftOf, Inside, isInside, taken, u
 use Rattle.content.specs.Whole.{atBlock, standsAt, segmentIn, begunIn, BegunAt}
 use Rattle.content.specs.declared.Walk.{Walk}
 use Rattle.content.specs.declared.unit.Taken.{Taken}
-use Rattle.content.specs.declared.unit.Taken.the-variants.{One, Nothing}
+use Rattle.content.specs.declared.unit.Taken.the-variants.{One}
 use Rattle.content.proofs.Units.{inside-not, inside-left, inside-true, inside-is, unit-at}
-use Rattle.content.proofs.Wholes.{end-fits, end-within, Leads, leads, none-left}
+use Rattle.content.proofs.Wholes.{end-fits, end-within, leads, none-left}
 
 -- ---- the number
 

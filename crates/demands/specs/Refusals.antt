@@ -85,7 +85,6 @@ pub steps-none : (s : List ℕ) (w : Walk) (places lengths : List ℕ) → ours 
 unfolding rowOf
 steps-none s w places lengths h = ap (listing places lengths) (none-taken s (min (length places) (length lengths)) w h)
 
-
 pub step-refused : (s : List ℕ) (w : Walk) (old : List ℕ) → Answered noneGiven (13 ∷ 10 ∷ []) (verdict (ours .step s w old .answer .number) 0 0)
     (ours .step s w old ≡ record { answer = steppedOf w (NoStep (ours .step s w old .answer .number)); left = old })
 unfolding stepAt joinAt steppedOf

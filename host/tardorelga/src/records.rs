@@ -257,9 +257,10 @@ impl<'a> Records<'a> {
     /// The next record where the row has none: the first of a new row, or one that is joined.
     #[inline(never)]
     fn further(&mut self) -> Option<Cow<'a, [u8]>> {
-        if !self.joining {
-            self.fill();
+        if self.joining {
+            return self.step();
         }
+        self.fill();
         self.row.next(self.image).or_else(|| self.step())
     }
 
@@ -273,7 +274,9 @@ impl<'a> Records<'a> {
     /// A single record, joined where it has several segments.
     fn step(&mut self) -> Option<Cow<'a, [u8]>> {
         let mut join = mem::take(&mut self.join);
-        join.reserve_exact(self.walk.size as usize);
+        if join.capacity() == 0 {
+            join = Vec::with_capacity(self.walk.size as usize);
+        }
         // SAFETY: the image is lent to read and the buffer to write for the whole call; they can't
         // overlap, and nothing of them is kept. No byte of the buffer is read.
         let step = unsafe {
@@ -281,6 +284,7 @@ impl<'a> Records<'a> {
             ffi::tardorelga_step(image, image_len, self.walk, join.as_mut_ptr(), join.capacity())
         };
         if step.number != DONE {
+            self.join = join;
             return None;
         }
         self.pass(1, step.walk);

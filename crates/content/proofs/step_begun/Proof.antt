@@ -1,77 +1,55 @@
 use Rattle.content.proofs.Stepping.{steps-begun}
 use Rattle.content.proofs.step_begun.Statement.{statement}
 use Rattle.content.proofs.step_begun.Tie as tie
-use Rattle.content.proofs.step_begun.Reads as reads
-use Rattle.content.proofs.step_begun.Lts as lts
-use Rattle.content.proofs.join.join_from.Reads as join-from-reads
-use Rattle.content.proofs.measuring.rest_length.Reads as rest-length-reads
-use Rattle.content.proofs.unit.moved.Reads as moved-reads
 
--- src/lib.rt:148:13
 sub-n : tie.Need-sub-n
 sub-n c = search steps-begun
 
--- src/lib.rt:149:16
 cast-most : tie.Need-cast-most
 cast-most c = search steps-begun
 
--- src/lib.rt:150:22
 add-moved : tie.Need-add-moved
 add-moved c = search steps-begun
 
--- src/lib.rt:150:32
 sub-moved : tie.Need-sub-moved
 sub-moved c = search steps-begun
 
--- src/lib.rt:150:9
 moved-requires : tie.Need-moved-requires
 moved-requires c κs = search steps-begun
 
--- src/lib.rt:151:30
 sub-rest-length : tie.Need-sub-rest-length
 sub-rest-length c = search steps-begun
 
--- src/lib.rt:151:11
 rest-length-requires : tie.Need-rest-length-requires
 rest-length-requires c κs = search steps-begun
 
--- src/lib.rt:152:24
 enum-told : tie.Need-enum-told
 enum-told c = search steps-begun
 
--- src/lib.rt:153:20
 enum-known-m : tie.Need-enum-known-m
 enum-known-m c = search steps-begun
 
--- src/lib.rt:154:29
 add-if1 : tie.Need-add-if1
 add-if1 c = search steps-begun
 
--- src/lib.rt:155:17
 returns : tie.Need-returns
 returns c = search steps-begun
 
--- src/lib.rt:157:30
 add-join-from : tie.Need-add-join-from
 add-join-from c = search steps-begun
 
--- src/lib.rt:157:13
 join-from-requires : tie.Need-join-from-requires
 join-from-requires c κs = (search steps-begun, search steps-begun)
 
--- src/lib.rt:158:26
 add-t15 : tie.Need-add-t15
 add-t15 c = search steps-begun
 
--- src/lib.rt:143:1
 returns-2 : tie.Need-returns-2
 returns-2 c = search steps-begun
 
--- src/lib.rt:143:1
 same-length : tie.Need-same-length
 same-length c = search steps-begun
 
--- src/lib.rt:143:1
 returns-3 : tie.Need-returns-3
 returns-3 c = search steps-begun
 

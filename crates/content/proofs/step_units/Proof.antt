@@ -1,48 +1,34 @@
 use Rattle.content.proofs.Stepping.{step-units}
 use Rattle.content.proofs.step_units.Statement.{statement}
 use Rattle.content.proofs.step_units.Tie as tie
-use Rattle.content.proofs.step_units.Reads as reads
-use Rattle.content.proofs.step_units.Lts as lts
-use Rattle.content.proofs.join.join_record.Reads as join-record-reads
-use Rattle.content.proofs.measuring.measure_units.Reads as measure-units-reads
 
--- src/lib.rt:129:11
 measure-units-requires : tie.Need-measure-units-requires
 measure-units-requires c κs = search step-units
 
--- src/lib.rt:130:30
 enum-told : tie.Need-enum-told
 enum-told c = search step-units
 
--- src/lib.rt:131:25
 enum-known-start : tie.Need-enum-known-start
 enum-known-start c = search step-units
 
--- src/lib.rt:132:25
 enum-known-n : tie.Need-enum-known-n
 enum-known-n c = search step-units
 
--- src/lib.rt:134:17
 returns : tie.Need-returns
 returns c = search step-units
 
--- src/lib.rt:136:13
 join-record-requires : tie.Need-join-record-requires
 join-record-requires c κs = search step-units
 
--- src/lib.rt:125:1
 returns-2 : tie.Need-returns-2
 returns-2 c = search step-units
 
--- src/lib.rt:125:1
 returns-3 : tie.Need-returns-3
 returns-3 c = search step-units
 
--- src/lib.rt:125:1
 same-length : tie.Need-same-length
 same-length c = search step-units
 
--- src/lib.rt:125:1
 returns-4 : tie.Need-returns-4
 returns-4 c = search step-units
 

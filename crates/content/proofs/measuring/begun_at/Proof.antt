@@ -1,39 +1,28 @@
 use Rattle.content.proofs.Segments.{begun-numbers}
 use Rattle.content.proofs.measuring.begun_at.Statement.{statement}
 use Rattle.content.proofs.measuring.begun_at.Tie as tie
-use Rattle.content.proofs.measuring.begun_at.Reads as reads
-use Rattle.content.proofs.measuring.begun_at.Lts as lts
-use Rattle.content.proofs.measuring.segment_in.Reads as segment-in-reads
 
--- src/measuring.rt:99:9
 returns : tie.Need-returns
 returns c = search begun-numbers
 
--- src/measuring.rt:101:9
 segment-in-requires : tie.Need-segment-in-requires
 segment-in-requires c κs = search begun-numbers
 
--- src/measuring.rt:103:9
 returns-2 : tie.Need-returns-2
 returns-2 c = search begun-numbers
 
--- src/measuring.rt:105:8
 shared-slice-read-if3 : tie.Need-shared-slice-read-if3
 shared-slice-read-if3 c = search begun-numbers
 
--- src/measuring.rt:106:9
 returns-3 : tie.Need-returns-3
 returns-3 c = search begun-numbers
 
--- src/measuring.rt:109:15
 sub-if4 : tie.Need-sub-if4
 sub-if4 c = search begun-numbers
 
--- src/measuring.rt:110:9
 returns-4 : tie.Need-returns-4
 returns-4 c = search begun-numbers
 
--- src/measuring.rt:95:1
 returns-5 : tie.Need-returns-5
 returns-5 c = search begun-numbers
 

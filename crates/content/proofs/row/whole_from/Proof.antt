@@ -1,49 +1,34 @@
 use Rattle.content.proofs.Rows.{wholes-from}
 use Rattle.content.proofs.row.whole_from.Statement.{statement}
 use Rattle.content.proofs.row.whole_from.Tie as tie
-use Rattle.content.proofs.row.whole_from.Reads as reads
-use Rattle.content.proofs.row.whole_from.Lts as lts
-use Rattle.content.proofs.measuring.at_block.Reads as at-block-reads
-use Rattle.content.proofs.measuring.begun_at.Reads as begun-at-reads
-use Rattle.content.proofs.measuring.measure_units.Reads as measure-units-reads
 
--- src/row.rt:37:9
 at-block-requires : tie.Need-at-block-requires
 at-block-requires c κs = search wholes-from
 
--- src/row.rt:38:9
 begun-at-requires : tie.Need-begun-at-requires
 begun-at-requires c κs = search wholes-from
 
--- src/row.rt:40:9
 returns : tie.Need-returns
 returns c = search wholes-from
 
--- src/row.rt:42:11
 measure-units-requires : tie.Need-measure-units-requires
 measure-units-requires c κs = search wholes-from
 
--- src/row.rt:43:30
 enum-told : tie.Need-enum-told
 enum-told c = search wholes-from
 
--- src/row.rt:44:34
 enum-told-2 : tie.Need-enum-told-2
 enum-told-2 c = search wholes-from
 
--- src/row.rt:45:25
 enum-known-start : tie.Need-enum-known-start
 enum-known-start c = search wholes-from
 
--- src/row.rt:34:1
 returns-2 : tie.Need-returns-2
 returns-2 c = search wholes-from
 
--- src/row.rt:34:1
 returns-3 : tie.Need-returns-3
 returns-3 c = search wholes-from
 
--- src/row.rt:34:1
 returns-4 : tie.Need-returns-4
 returns-4 c = search wholes-from
 
