@@ -8,11 +8,11 @@ use borrow.Author.Needs.{needs}
 use borrow.Author.Tests.{le-leb, lt-leb, lt-ltb, le-ltb, leb-true}
 use lib.Dec.{leb, ltb}
 use lib.ListN.{length, take, drop, getD, set, length-append, length-take, length-drop, length-set, take-append-drop, drop-of-length-le}
-use lib.Seq.{drop-cons, getD-drop, length-take-le, take-all, take-take}
+use lib.Seq.{drop-cons, drop-drop, getD-drop, length-take-le, take-add, take-all, take-take}
 use Rattle.base.specs.If.{ifB, if-true, if-false, if-case}
 use Rattle.base.specs.Part.{part, putAt}
 use Rattle.base.specs.Digits.{digits}
-use Rattle.base.proofs.Parts.{drop-take, length-put, put-none, put-put, put-again}
+use Rattle.base.proofs.Parts.{drop-take, length-part, length-put, put-none, put-put, put-again}
 use Rattle.label.proofs.Put.{put-first}
 use Rattle.output.specs.Output.{Wrote, Put, Short, putIn, putBelow, refused, refusalOf, Answers}
 
@@ -53,15 +53,16 @@ pub ruleset copying = (copying-none, copying-more, copying-all, needs)
 
 -- ---- digits
 
--- the digits of a number below 10,000, found one from the other
+-- the digits of a number below 10,000, found two by two
 pub digits-of : (n k : ℕ) → k ≡ n % 10000
-    → (48 + k / 10 / 10 / 10) ∷ (48 + (k / 10 / 10 - k / 10 / 10 / 10 * 10)) ∷ (48 + (k / 10 - k / 10 / 10 * 10)) ∷ (48 + (k - k / 10 * 10)) ∷ [] ≡ digits 4 n
+    → (48 + k / 100 / 10) ∷ (48 + (k / 100 - k / 100 / 10 * 10)) ∷ (48 + (k - k / 100 * 100) / 10) ∷ (48 + (k - k / 100 * 100 - (k - k / 100 * 100) / 10 * 10)) ∷ []
+    ≡ digits 4 n
 unfolding digits
 digits-of n k e =
-    let first : k / 10 / 10 / 10 ≡ n / 10 / 10 / 10 % 10 = omega arith in
-    let second : k / 10 / 10 - k / 10 / 10 / 10 * 10 ≡ n / 10 / 10 % 10 = omega arith in
-    let third : k / 10 - k / 10 / 10 * 10 ≡ n / 10 % 10 = omega arith in
-    let fourth : k - k / 10 * 10 ≡ n % 10 = omega arith in
+    let first : k / 100 / 10 ≡ n / 10 / 10 / 10 % 10 = omega arith in
+    let second : k / 100 - k / 100 / 10 * 10 ≡ n / 10 / 10 % 10 = omega arith in
+    let third : (k - k / 100 * 100) / 10 ≡ n / 10 % 10 = omega arith in
+    let fourth : k - k / 100 * 100 - (k - k / 100 * 100) / 10 * 10 ≡ n % 10 = omega arith in
     rw (fourth, third, second, first)
 
 pub ruleset figures = (digits-of, needs)
@@ -116,11 +117,6 @@ put-wrote {most = most} o a bs p r w =
           ∙ if-true _ _ _ (le-leb (a + length bs) (length o) (omega (arith, w .place)));
     }
 
--- what was laid down where it has room
-pub wrote-put : {most : ℕ} (o : List ℕ) (a : ℕ) (bs p : List ℕ) (r : ℕ) → r ≡ min (a + length bs) most → r < most → r ≤ length o → p ≡ putAt o a bs
-    → Wrote most o a bs p r
-wrote-put o a bs p r e l h q = put-wrote o a bs p r (put-room o a bs p r e l h q)
-
 -- ---- few bytes, the first eight and the last eight
 
 first-eight : (t : List ℕ) → 8 ≤ length t
@@ -152,46 +148,156 @@ eight-read s a h =
     let all = first-eight (drop a s) (simp length-drop (omega arith)) in
     cc
 
--- two of eight, which may meet, are all of it
-pub put-ends : (o s : List ℕ) (at : ℕ) (x y p q : List ℕ) → Short (length s) → at + length s ≤ length o → x ≡ part 0 8 s → y ≡ part (length s - 8) 8 s
-    → p ≡ putAt o at x → q ≡ putAt p (at + (length s - 8)) y → q ≡ putAt o at s
+first-four : (t : List ℕ) → 4 ≤ length t → getD t 0 0 ∷ getD t 1 0 ∷ getD t 2 0 ∷ getD t 3 0 ∷ [] ≡ take 4 t
+first-four [] h = absurd (omega arith)
+first-four (a ∷ []) h = absurd (omega arith)
+first-four (a ∷ b ∷ []) h = absurd (omega arith)
+first-four (a ∷ b ∷ c ∷ []) h = absurd (omega arith)
+first-four (a ∷ b ∷ c ∷ d ∷ t) h = refl
+
+pub four-read : (s : List ℕ) (a : ℕ) → a + 4 ≤ length s → getD s a 0 ∷ getD s (a + 1) 0 ∷ getD s (a + 2) 0 ∷ getD s (a + 3) 0 ∷ [] ≡ part a 4 s
 unfolding part
-put-ends o s at x y p q w h i j e f =
-    let m : ℕ = length s - 8 in
+four-read s a h =
+    let here : a + 0 ≡ a = omega arith in
+    let e0 : getD (drop a s) 0 0 ≡ getD s a 0 = getD-drop a s 0 0 ∙ ap (λ (k : ℕ). getD s k 0) here in
+    let e1 : getD (drop a s) 1 0 ≡ getD s (a + 1) 0 = getD-drop a s 1 0 in
+    let e2 : getD (drop a s) 2 0 ≡ getD s (a + 2) 0 = getD-drop a s 2 0 in
+    let e3 : getD (drop a s) 3 0 ≡ getD s (a + 3) 0 = getD-drop a s 3 0 in
+    let all = first-four (drop a s) (simp length-drop (omega arith)) in
+    cc
+
+-- the first i of some bytes, and those from m on, which may meet, are all of them
+put-meet : (o s : List ℕ) (at i m : ℕ) → m ≤ i → i ≤ length s → at + length s ≤ length o → putAt (putAt o at (take i s)) (at + m) (drop m s) ≡ putAt o at s
+put-meet o s at i m h k l =
     let front : List ℕ = take m s in
-    let middle : List ℕ = take (8 - m) (drop m s) in
-    let least : 8 ≤ length s = w .least in
-    let most : length s ≤ 16 = w .most in
+    let middle : List ℕ = take (i - m) (drop m s) in
     let wide : length front ≡ m = length-take-le m s (omega arith) in
-    let rest : length (drop m s) ≡ 8 = simp length-drop (omega arith) in
+    let rest : length (drop m s) ≡ length s - m = length-drop m s in
     let short : length middle ≤ length (drop m s) = simp length-take (omega arith) in
-    let split : take 8 s ≡ front ++ middle
-    = sym (take-append-drop m (take 8 s)) ∙ ap₂ _++_ (take-take m 8 s (omega arith)) (drop-take m 8 s) in
-    let last : take 8 (drop m s) ≡ drop m s = take-all 8 (drop m s) (omega arith) in
+    let split : take i s ≡ front ++ middle = sym (take-append-drop m (take i s)) ∙ ap₂ _++_ (take-take m i s h) (drop-take m i s) in
     let place : at + m ≡ at + length front = omega arith in
     let size : length (putAt o at front) ≡ length o = length-put o at front (omega arith) in
-    let first : p ≡ putAt (putAt o at front) (at + length front) middle
-    = e ∙ ap (putAt o at) (i ∙ split) ∙ sym (put-put o at front middle (omega arith)) in
-    f
-    ∙ ap₂ (λ (l : List ℕ) (k : ℕ). putAt l k y) first place
-    ∙ ap (putAt (putAt (putAt o at front) (at + length front) middle) (at + length front)) (j ∙ last)
+    ap₂ (λ (x : List ℕ) (n : ℕ). putAt x n (drop m s)) (ap (putAt o at) split ∙ sym (put-put o at front middle (omega arith))) place
     ∙ put-again (putAt o at front) (at + length front) middle (drop m s) short (omega arith)
     ∙ put-put o at front (drop m s) (omega arith)
     ∙ ap (putAt o at) (take-append-drop m s)
 
-pub ends-behind : (n : ℕ) → Short n → n - 8 + 8 ≤ n
-ends-behind n w = omega (arith, w .least)
+-- two words, which may meet, are all of it
+module _ (w : ℕ) (o s : List ℕ) (at : ℕ) (y : Short w (length s)) where
+  pub ends-behind : length s - w + w ≤ length s
+  ends-behind = omega (arith, y .least)
 
-pub ends-room : (o s : List ℕ) (at : ℕ) → Short (length s) → at + length s ≤ length o → at + 8 ≤ length o
-ends-room o s at w h = omega (arith, w .least)
+  pub ends-least : w ≤ length s
+  ends-least = y .least
 
-pub ends-last : (o s : List ℕ) (at : ℕ) → Short (length s) → at + length s ≤ length o → at + (length s - 8) + 8 ≤ length o
-ends-last o s at w h = omega (arith, w .least)
+  pub ends-front : 0 + w ≤ length s
+  ends-front = omega (arith, y .least)
 
-pub is-short : (s : List ℕ) → 8 ≤ length s → length s ≤ 16 → Short (length s)
-is-short s h k = record { least = h; most = k }
+  module _ (h : at + length s ≤ length o) where
+    pub ends-room : at + w ≤ length o
+    ends-room = omega (arith, y .least)
 
-pub ruleset ends = (eight-read, put-ends, ends-behind, ends-room, ends-last, is-short, needs)
+    pub ends-last : at + (length s - w) + w ≤ length o
+    ends-last = omega (arith, y .least)
+
+    pub put-ends : (x z p q : List ℕ) → x ≡ part 0 w s → z ≡ part (length s - w) w s → p ≡ putAt o at x → q ≡ putAt p (at + (length s - w)) z → q ≡ putAt o at s
+    unfolding part
+    put-ends x z p q i j e f =
+        let rest : length (drop (length s - w) s) ≡ length s - (length s - w) = length-drop (length s - w) s in
+        f
+        ∙ ap₂ (λ (l t : List ℕ). putAt l (at + (length s - w)) t) (e ∙ ap (putAt o at) i) (j ∙ take-all w (drop (length s - w) s) (omega (arith, y .least)))
+        ∙ put-meet o s at w (length s - w) (omega (arith, y .most)) (y .least) h
+
+pub ruleset ends = (four-read, eight-read, put-ends, ends-behind, ends-least, ends-front, ends-room, ends-last, needs)
+
+-- sixteen bytes are two words, one behind the other
+module _ (o s : List ℕ) (at from : ℕ) (h : from + 16 ≤ length s) (k : at + length s ≤ length o) where
+  pub sixteen-first : from + 8 ≤ length s
+  sixteen-first = omega arith
+
+  pub sixteen-last : from + 8 + 8 ≤ length s
+  sixteen-last = omega arith
+
+  pub sixteen-room : at + from + 8 ≤ length o
+  sixteen-room = omega arith
+
+  pub sixteen-behind : (x p : List ℕ) → x ≡ part from 8 s → p ≡ putAt o (at + from) x → at + from + 8 + 8 ≤ length p
+  sixteen-behind x p e f =
+      let eight : length x ≡ 8 = ap length e ∙ length-part from 8 s (omega arith) in
+      let kept : length p ≡ length o = ap length f ∙ length-put o (at + from) x (omega arith) in
+      omega arith
+
+  pub put-sixteen : (x z p q : List ℕ) → x ≡ part from 8 s → z ≡ part (from + 8) 8 s → p ≡ putAt o (at + from) x → q ≡ putAt p (at + from + 8) z
+      → q ≡ putAt o (at + from) (part from 16 s)
+  unfolding part
+  put-sixteen x z p q i j e f =
+      let eight : length x ≡ 8 = ap length i ∙ length-take-le 8 (drop from s) (simp length-drop (omega arith)) in
+      let place : at + from + 8 ≡ at + from + length x = omega arith in
+      f
+      ∙ ap₂ (λ (l : List ℕ) (n : ℕ). putAt l n z) e place
+      ∙ put-put o (at + from) x z (omega arith)
+      ∙ ap (putAt o (at + from)) (ap₂ _++_ i (j ∙ ap (take 8) (sym (drop-drop 8 from s))) ∙ sym (take-add 8 8 (drop from s)))
+
+pub ruleset sixteens = (sixteen-first, sixteen-last, sixteen-room, sixteen-behind, put-sixteen, needs)
+
+-- sixteen at a time: the first i are written
+pub record Chunked (old : List ℕ) (at : ℕ) (s out : List ℕ) (i : ℕ) : Type 0 where
+  pub least : 16 ≤ length s
+  pub fits : at + length s ≤ length old
+  pub within : i ≤ length s
+  pub is : out ≡ putAt old at (take i s)
+  pub size : length out ≡ length old
+
+pub chunked-none : (o : List ℕ) (at : ℕ) (s : List ℕ) → 16 ≤ length s → at + length s ≤ length o → Chunked o at s o 0
+chunked-none o at s h k = record { least = h; fits = k; within = omega arith; is = sym (put-none o at); size = refl }
+
+module _ (old : List ℕ) (at : ℕ) (s out : List ℕ) (i : ℕ) (c : Chunked old at s out i) where
+  pub chunk-room : at + length s ≤ length out
+  chunk-room = omega (arith, c .fits, c .size)
+
+  pub chunk-last : length s - 16 + 16 ≤ length s
+  chunk-last = omega (arith, c .least)
+
+  module _ (p : List ℕ) (h : i < length s - 16) (e : p ≡ putAt out (at + i) (part i 16 s)) where
+    pub chunked-more : Chunked old at s p (i + 16)
+    unfolding part
+    chunked-more =
+        let wide : length (take i s) ≡ i = length-take-le i s (c .within) in
+        let place : at + i ≡ at + length (take i s) = omega arith in
+        let room : i + 16 ≤ length s = omega arith in
+        record {
+          least = c .least;
+          fits = c .fits;
+          within = room;
+          is =
+              e
+              ∙ ap₂ (λ (l : List ℕ) (n : ℕ). putAt l n (take 16 (drop i s))) (c .is) place
+              ∙ put-put old at (take i s) (take 16 (drop i s)) (omega (arith, c .fits))
+              ∙ ap (putAt old at) (sym (take-add i 16 s));
+          size = ap length e ∙ length-put out (at + i) (take 16 (drop i s)) (omega (arith, c .fits, c .size, length-take-le 16 (drop i s) (simp length-drop (omega arith)))) ∙ c .size;
+        }
+
+  pub chunked-all : (p : List ℕ) → length s - 16 ≤ i → p ≡ putAt out (at + (length s - 16)) (part (length s - 16) 16 s) → p ≡ putAt old at s
+  unfolding part
+  chunked-all p h e =
+      let rest : length (drop (length s - 16) s) ≡ length s - (length s - 16) = length-drop (length s - 16) s in
+      e
+      ∙ ap₂ (λ (l t : List ℕ). putAt l (at + (length s - 16)) t) (c .is) (take-all 16 (drop (length s - 16) s) (omega (arith, c .least)))
+      ∙ put-meet old s at i (length s - 16) h (c .within) (c .fits)
+
+  pub chunked-kept : length out ≡ length old
+  chunked-kept = c .size
+
+pub chunk-index : (s : List ℕ) (i : ℕ) → i < length s - 16 → i + 16 ≤ length s
+chunk-index s i h = omega arith
+
+pub chunk-less : (n i : ℕ) → i < n → n - (i + 16) < n - i
+chunk-less n i h = omega arith
+
+pub chunk-put-kept : (o : List ℕ) (at from : ℕ) (s q : List ℕ) → from + 16 ≤ length s → at + length s ≤ length o → q ≡ putAt o (at + from) (part from 16 s) → length q ≡ length o
+chunk-put-kept o at from s q h k e = ap length e ∙ length-put o (at + from) (part from 16 s) (omega (arith, length-part from 16 s h))
+
+pub ruleset chunks = (chunked-none, chunk-room, chunk-last, chunked-more, chunked-all, chunked-kept, chunk-index, chunk-less, chunk-put-kept, needs)
 
 -- ---- a write that has room, or is not made
 

@@ -32,10 +32,10 @@ pub record Wrote (most : ℕ) (o : List ℕ) (a : ℕ) (bs p : List ℕ) (r : �
   pub place : r ≡ min (a + length bs) most
   pub done : r < most → r ≤ length o → p ≡ putAt o a bs
 
--- 8 to 16 bytes
-pub record Short (n : ℕ) : Type 0 where
-  pub least : 8 ≤ n
-  pub most : n ≤ 16
+-- n bytes are covered by the first w of them and the last w
+pub record Short (w n : ℕ) : Type 0 where
+  pub least : w ≤ n
+  pub most : n ≤ w + w
 
 -- what writing gives: the number, the length of what was written (0 with a refusal), and what the lent buffer then holds
 pub record Written : Type 0 where

@@ -1,15 +1,15 @@
 use Rattle.output.proofs.Writing.{ends}
-use Rattle.output.proofs.copy_ends.Statement.{statement}
-use Rattle.output.proofs.copy_ends.Tie as tie
+use Rattle.output.proofs.copy_fours.Statement.{statement}
+use Rattle.output.proofs.copy_fours.Tie as tie
 
 sub-behind : tie.Need-sub-behind
 sub-behind c = search ends
 
-eight-of-requires : tie.Need-eight-of-requires
-eight-of-requires c κs = search ends
+four-of-requires : tie.Need-four-of-requires
+four-of-requires c κs = search ends
 
-eight-of-requires-2 : tie.Need-eight-of-requires-2
-eight-of-requires-2 c κs = search ends
+four-of-requires-2 : tie.Need-four-of-requires-2
+four-of-requires-2 c κs = search ends
 
 slice-aggregate-copy-to : tie.Need-slice-aggregate-copy-to
 slice-aggregate-copy-to c = search ends
@@ -32,13 +32,13 @@ same-length c = search ends
 returns : tie.Need-returns
 returns c = search ends
 
-pub copy-ends-spec : {M : Type 1} → statement M
-copy-ends-spec =
+pub copy-fours-spec : {M : Type 1} → statement M
+copy-fours-spec =
     tie.close
     (tie.spec
     sub-behind
-    eight-of-requires
-    eight-of-requires-2
+    four-of-requires
+    four-of-requires-2
     slice-aggregate-copy-to
     copy-to-requires
     add-copy-to
