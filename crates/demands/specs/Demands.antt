@@ -30,7 +30,7 @@ use Rattle.content.specs.declared.Found.the-variants.{Refused as NotFound}
 use Rattle.content.specs.declared.Begun.the-variants.{Refused as NotBegun}
 use Rattle.content.specs.declared.Step.the-variants.{Refused as NoStep}
 use Rattle.listing.specs.Text.{listingOf, refusalLine}
-use Rattle.writer.specs.Rewrite.{sheetFrom}
+use Rattle.writing.specs.Rewrite.{sheetFrom}
 use Rattle.demands.specs.Operations.{listing, Operations}
 use Rattle.demands.specs.Terms.{Answered, noneGiven, OutOf, noRecord, rowBy, FileGiven, ByReader, Fits, Outcome}
 

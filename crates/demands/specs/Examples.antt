@@ -18,7 +18,7 @@ use Rattle.block.specs.Unit.{fixed, measured, variable, segment, unitOf, wordOf
 use Rattle.block.specs.Cut.{Segment, onto, cutOne, cutF, cut, someUnits, units}
 use Rattle.block.specs.Turn.{outcome, isTurn, openAfter, turnsFrom, turned, blockOutcome}
 use Rattle.volume.specs.Meaning.{onFirst, joined}
-use Rattle.writer.specs.Pack.{enters, taken, indicatorOf, controlWord, startOf, unitIn, fill, after, weights, weight, blocksF, blocksLeft, blocksOf}
+use Rattle.writing.specs.Pack.{enters, taken, indicatorOf, controlWord, startOf, unitIn, fill, after, weights, weight, blocksF, blocksLeft, blocksOf}
 
 pub data Example : Type 0 where
   -- blocks of a file of format f and record length r hold these records

@@ -9,8 +9,8 @@ use Rattle.volume.proofs.Refusals.{first-fault, verdict-placed}
 use Rattle.sheet.specs.Flat.{reelsNumber}
 use Rattle.content.specs.Found.{partOf}
 use Rattle.content.proofs.Shown.{items-met}
-use Rattle.writer.specs.Rewrite.{sheetFrom}
-use Rattle.writer.proofs.RoundTrip.{write-reads-back}
+use Rattle.writing.specs.Rewrite.{sheetFrom}
+use Rattle.writing.proofs.RoundTrip.{write-reads-back}
 use Rattle.demands.specs.Operations.{ours}
 use Rattle.demands.specs.Terms.{Fits}
 use Rattle.demands.specs.Refusals.{begin-refused, search-refused, find-refused, step-refused, steps-none, by-reader, no-facts, list-refused, write-refused, rewrite-refused, import-refused, export-refused}

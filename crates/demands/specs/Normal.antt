@@ -19,11 +19,11 @@ use Rattle.volume.specs.Meaning.{Meaning, content, Means}
 use Rattle.volume.proofs.Accepted.{accepted-iff}
 use Rattle.sheet.specs.Legal.{Sheet}
 use Rattle.sheet.specs.Flat.{Flat, inParts, reelsNumber, sheetOf, sheetNumber}
-use Rattle.writer.specs.Lay.{Laid, laid, short, lay}
-use Rattle.writer.specs.Write.{stored, storedLaid, writeSheet, write}
-use Rattle.writer.specs.Rewrite.{sheetFrom, rewrite}
-use Rattle.writer.proofs.RoundTrip.{image-means}
-use Rattle.writer.proofs.FromImage.{image-legal}
+use Rattle.writing.specs.Lay.{Laid, laid, short, lay}
+use Rattle.writing.specs.Write.{stored, storedLaid, writeSheet, write}
+use Rattle.writing.specs.Rewrite.{sheetFrom, rewrite}
+use Rattle.writing.proofs.RoundTrip.{image-means}
+use Rattle.writing.proofs.Rewriting.{image-legal}
 use Rattle.demands.specs.Terms.{Fits, image, Outcome, fits, illegal, fewReels, tooLong, noRoom}
 
 -- ---- writing

@@ -31,8 +31,8 @@ use Rattle.reader.specs.declared.Opened.{Opened}
 use Rattle.reader.specs.declared.Reading.{Reading}
 use Rattle.reader.specs.declared.FileFacts.{FileFacts}
 use Rattle.listing.specs.Text.{textOf}
-use Rattle.writer.specs.Write.{write}
-use Rattle.writer.specs.Rewrite.{rewrite}
+use Rattle.writing.specs.Write.{write}
+use Rattle.writing.specs.Rewrite.{rewrite}
 
 -- where a record is, and what the joining buffer holds afterwards
 pub record Handing : Type 0 where

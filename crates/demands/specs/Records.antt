@@ -41,7 +41,7 @@ use Rattle.content.proofs.Files.{numbered-first, numbered-next}
 use Rattle.content.proofs.Records.{whole-within, walks-records}
 use Rattle.content.proofs.Walked.{walk-records, walk-none}
 use Rattle.listing.specs.Text.{textOf, listingOf, refusalLine}
-use Rattle.writer.specs.Rewrite.{rewrite}
+use Rattle.writing.specs.Rewrite.{rewrite}
 use Rattle.demands.specs.Operations.{Handing, listing, ours}
 use Rattle.demands.specs.Terms.{OutOf, noRecord, Handed, one, several, locatedIn, Steps, rowOn, rowBy, FileGiven}
 

@@ -38,9 +38,9 @@ use Rattle.reader.specs.Read.{openedBy, openedAt, walkBehind, readBy, readAt, c
 use Rattle.reader.specs.declared.FileFacts.{FileFacts}
 use Rattle.reader.proofs.Places.{nowhere-none}
 use Rattle.listing.specs.Text.{textOf}
-use Rattle.writer.specs.Lay.{Laid, laid, short, lay}
-use Rattle.writer.specs.Write.{stored, storedLaid, writeSheet, write}
-use Rattle.writer.specs.Rewrite.{sheetFrom, rewrite}
+use Rattle.writing.specs.Lay.{Laid, laid, short, lay}
+use Rattle.writing.specs.Write.{stored, storedLaid, writeSheet, write}
+use Rattle.writing.specs.Rewrite.{sheetFrom, rewrite}
 use Rattle.demands.specs.Operations.{Handing, Moving, readingOf, listing, ours}
 use Rattle.demands.specs.Terms.{isIn, Answer, done, given, other, Answered, noneGiven, noRecord, ByReader}
 

@@ -25,7 +25,7 @@ use Rattle.content.specs.declared.numbers.Located.{Located}
 use Rattle.content.specs.declared.Step.the-variants.{Refused as NoStep}
 use Rattle.content.specs.declared.Found.the-variants.{InImage, Joined, Refused as NotFound}
 use Rattle.content.specs.declared.unit.Place.the-variants.{At}
-use Rattle.writer.specs.Lay.{laid, short, lay}
+use Rattle.writing.specs.Lay.{laid, short, lay}
 use Rattle.demands.specs.Operations.{Handing, Moving, Operations}
 
 -- ---- answers

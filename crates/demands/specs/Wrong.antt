@@ -37,9 +37,9 @@ use Rattle.content.specs.declared.numbers.Beginning.{Beginning}
 use Rattle.content.specs.declared.numbers.Stepped.{Stepped}
 use Rattle.content.specs.declared.Walk.{Walk}
 use Rattle.listing.specs.Examples.{ledger as miscounting}
-use Rattle.writer.specs.Write.{write}
-use Rattle.writer.specs.Lay.{laid, lay}
-use Rattle.writer.specs.Rewrite.{sheetFrom, rewrite}
+use Rattle.writing.specs.Write.{write}
+use Rattle.writing.specs.Lay.{laid, lay}
+use Rattle.writing.specs.Rewrite.{sheetFrom, rewrite}
 use Rattle.demands.specs.Operations.{Handing, Moving, Listing, listing, Operations, ours}
 use Rattle.demands.specs.Terms.{OutOf, noRecord, Handed, one, several, locatedIn, handing, rowOn, rowBy, Fits, image, Outcome, fits, illegal, fewReels, tooLong, noRoom}
 use Rattle.demands.specs.Normal.{written, write-outcome, rewritten, sheet-same}

@@ -1,0 +1,425 @@
+-- The blocks of a legal file are cut back to segments that stand in their turns and join to the file's records. Assumes nothing.
+use mathlib.Core.Path.{_≡_, refl, sym, ap, ap₂, _∙_, subst}
+use mathlib.Core.Bool.{Bool, true, false, false≢true}
+use mathlib.Core.List.{List, [], _∷_, _++_, append-nil}
+use mathlib.Core.Option.{Option, none, some}
+use Prim.Native.Nat.{ℕ, zero, suc, _+_, _-_, _≤_, _<_}
+use native.Mathlib.Omega.{arith}
+use borrow.Author.Tests.{eq-eqb, ne-eqb, leb-true, le-leb}
+use lib.Dec.{eqb}
+use lib.ListN.{length, take, drop, length-append, length-drop, take-append-drop}
+use lib.Seq.{take-all}
+use Rattle.base.specs.If.{ifB, if-true, if-false, and-true}
+use Rattle.base.specs.Part.{allAre}
+use Rattle.image.specs.Item.{isItem, block}
+use Rattle.label.specs.Field.{suits}
+use Rattle.block.specs.Unit.{pad, unitOf}
+use Rattle.block.specs.Cut.{Segment, segmentOf, onto, cut, someUnits, units}
+use Rattle.block.specs.Turn.{outcome, isTurn, openAfter, turnsFrom}
+use Rattle.block.specs.declared.Unit.{Unit as Piece}
+use Rattle.block.specs.declared.Unit.the-variants.{Of, None}
+use Rattle.block.proofs.Units.{unit-stands}
+use Rattle.block.proofs.Cuts.{cut-end}
+use Rattle.volume.specs.Meaning.{onFirst, joined}
+use Rattle.sheet.specs.Legal.{legalRecord, legalRecords}
+use Rattle.writing.specs.Pack.{enters, taken, indicatorOf, Left, finished, going, startOf, unitIn, fill, after, weights, weight, blocksF, blocksLeft, blocksOf, Room, RoomLeft}
+use Rattle.writing.proofs.Packing.{by-test, Entered, entered, segment-enters, whole-enters, segmentIn, segmentsFrom, Said, Ways, by-ways, after-lighter}
+use Rattle.block.proofs.Wholes.{word-fixed, word-variable}
+use Rattle.writing.proofs.Units.{Format, isF, isD, isS, Ready, fresh, begun, both, legal-F, legal-D, legal-S, length-taken, length-unit, cut-back}
+
+-- ---- turns
+
+-- a segment in its turn
+turn : (f b r u t o p : ℕ) (head : Bool) (x : List ℕ) (g : List Segment) → enters f b u (length x) ≡ true
+    → isTurn r o head (indicatorOf t (taken f b u (length x)) (length x)) (taken f b u (length x)) ≡ true
+    → openAfter o (indicatorOf t (taken f b u (length x)) (length x)) (taken f b u (length x)) ≡ p
+    → turnsFrom r o head (segmentIn f b u t x ∷ g) ≡ turnsFrom r p false g
+unfolding turnsFrom segmentIn
+turn f b r u t o p head x g e h q =
+    let i : ℕ = indicatorOf t (taken f b u (length x)) (length x) in
+    let long : length (take (taken f b u (length x)) x) ≡ taken f b u (length x) = length-taken f b u x e in
+    if-true _ _ _ (ap (isTurn r o head i) long ∙ h) ∙ ap (λ (m : ℕ). turnsFrom r m false g) (ap (openAfter o i) long ∙ q)
+
+-- a record that ends here: whole, or the last segment of one
+pub legal-most : (f r : ℕ) (x : List ℕ) → Format f → legalRecord f r x ≡ true → length x ≤ r
+legal-most f r x (isF e) h = let l : length x ≡ r = legal-F f r x e h .0 in omega arith
+legal-most f r x (isD e) h = let l : length x + 4 ≤ r = legal-D f r x e h .0 in omega arith
+legal-most f r x (isS e) h = legal-S f r x e h
+
+record Turned (r o p : ℕ) (head : Bool) (i n : ℕ) : Type 0 where
+  may : isTurn r o head i n ≡ true
+  behind : openAfter o i n ≡ p
+
+turned-0 : (r o n : ℕ) (head : Bool) → o ≡ 0 → n ≤ r → Turned r o 0 head 0 n
+unfolding isTurn openAfter ifB
+turned-0 r o n head z h = record { may = if-true _ _ _ (eq-eqb o 0 z) ∙ le-leb n r h; behind = refl }
+
+turned-1 : (r o n : ℕ) (head : Bool) → o ≡ 0 → n ≤ r → Turned r o (n + 1) head 1 n
+unfolding isTurn openAfter ifB
+turned-1 r o n head z h = record { may = if-true _ _ _ (eq-eqb o 0 z) ∙ le-leb n r h; behind = refl }
+
+turned-2 : (r o n : ℕ) (head : Bool) → head ≡ true → 1 ≤ o → o - 1 + n ≤ r → Turned r o (o + n) head 2 n
+unfolding isTurn openAfter ifB
+turned-2 r o n head e h m =
+    let some : o ≡ 0 → ⊥ = λ q. omega arith in
+    record { may = if-true _ _ _ e ∙ if-false _ _ _ (ne-eqb o 0 some) ∙ le-leb (o - 1 + n) r m; behind = refl }
+
+turned-3 : (r o n : ℕ) (head : Bool) → head ≡ true → 1 ≤ o → o - 1 + n ≤ r → Turned r o 0 head 3 n
+unfolding isTurn openAfter ifB
+turned-3 r o n head e h m =
+    let some : o ≡ 0 → ⊥ = λ q. omega arith in
+    record { may = if-true _ _ _ e ∙ if-false _ _ _ (ne-eqb o 0 some) ∙ le-leb (o - 1 + n) r m; behind = refl }
+
+-- the four indicators
+indicator-0 : (t k n : ℕ) → t ≡ 0 → k ≡ n → 0 ≡ indicatorOf t k n
+unfolding indicatorOf
+indicator-0 t k n e h = sym (if-true _ _ _ (eq-eqb k n h) ∙ if-true _ _ _ (eq-eqb t 0 e))
+
+indicator-1 : (t k n : ℕ) → t ≡ 0 → (k ≡ n → ⊥) → 1 ≡ indicatorOf t k n
+unfolding indicatorOf
+indicator-1 t k n e h = sym (if-false _ _ _ (ne-eqb k n h) ∙ if-true _ _ _ (eq-eqb t 0 e))
+
+indicator-2 : (t k n : ℕ) → t ≡ 1 → (k ≡ n → ⊥) → 2 ≡ indicatorOf t k n
+unfolding indicatorOf
+indicator-2 t k n e h = let one : t ≡ 0 → ⊥ = λ q. omega arith in sym (if-false _ _ _ (ne-eqb k n h) ∙ if-false _ _ _ (ne-eqb t 0 one))
+
+indicator-3 : (t k n : ℕ) → t ≡ 1 → k ≡ n → 3 ≡ indicatorOf t k n
+unfolding indicatorOf
+indicator-3 t k n e h = let one : t ≡ 0 → ⊥ = λ q. omega arith in sym (if-true _ _ _ (eq-eqb k n h) ∙ if-false _ _ _ (ne-eqb t 0 one))
+
+-- a record that ends in this block
+ends-here : (f r t o k : ℕ) (head : Bool) (x : List ℕ) → Format f → Ready f r t o head x → k ≡ length x
+    → Turned r o 0 head (indicatorOf t k (length x)) k
+ends-here f r t o k head x form (fresh z q h) e =
+    let most : length x ≤ r = legal-most f r x form h in
+    subst (λ (i : ℕ). Turned r o 0 head i k) (indicator-0 t k (length x) z e) (turned-0 r o k head q (omega arith))
+ends-here f r t o k head x form (begun z _ s m q) e =
+    subst (λ (i : ℕ). Turned r o 0 head i k) (indicator-3 t k (length x) z e) (turned-3 r o k head q s (omega arith))
+
+-- ---- one block
+
+-- what is left, with o open
+abbrev pub Open : ℕ → ℕ → ℕ → Left → Type 0
+Open f r o finished = o ≡ 0
+Open f r o (going t x xs) = Ready f r t o true x × (legalRecords f r xs ≡ true)
+
+-- a record that goes on in the next block
+goes-on : (f r t o k : ℕ) (head : Bool) (x : List ℕ) → Format f → Ready f r t o head x → f ≡ 83 → k ≤ length x → (k ≡ length x → ⊥)
+    → (p : ℕ) × Turned r o p head (indicatorOf t k (length x)) k × Ready f r 1 p true (drop k x)
+goes-on f r t o k head x form (fresh z q h) e m d =
+    let most : length x ≤ r = legal-most f r x form h in
+    let rest : k + 1 - 1 + length (drop k x) ≤ r = simp length-drop (omega arith) in (
+      k + 1,
+      subst (λ (i : ℕ). Turned r o (k + 1) head i k) (indicator-1 t k (length x) z d) (turned-1 r o k head q (omega arith)),
+      begun refl e (omega arith) rest refl,
+    )
+goes-on f r t o k head x form (begun z _ s n q) e m d =
+    let rest : o + k - 1 + length (drop k x) ≤ r = simp length-drop (omega arith) in (
+      o + k,
+      subst (λ (i : ℕ). Turned r o (o + k) head i k) (indicator-2 t k (length x) z d) (turned-2 r o k head q s (omega arith)),
+      begun refl e (omega arith) rest refl,
+    )
+
+cut-nothing : (f r : ℕ) → cut f r [] ≡ some []
+cut-nothing f r = cut-end f r [] (no-unit (unitOf f r []) refl) ∙ all
+  where
+    all : ifB {A = Option (List Segment)} (allAre pad []) (some []) none ≡ some []
+    all = unfold allAre ifB in refl
+
+    no-unit : (v : Piece) → unitOf f r [] ≡ v → unitOf f r [] ≡ None
+    no-unit (Of i w n) e = let c = unit-stands f r [] i w n e in absurd (omega arith)
+    no-unit None e = e
+
+ready-first : (f r t o : ℕ) (head : Bool) (x : List ℕ) → Ready f r t o head x → Ready f r t o true x
+ready-first f r t o head x (fresh z q h) = fresh z q h
+ready-first f r t o head x (begun z e s m q) = begun z e s m refl
+
+-- what the open block still gets is cut to its segments, is within the block length, and stands in its turns
+record Filled (f b r u o : ℕ) (head : Bool) (c : List ℕ) (l : Left) (g : List Segment) : Type 0 where
+  cuts : cut f r c ≡ some g
+  within : u + length c ≤ b
+  opens : ℕ
+  turns : turnsFrom r o head g ≡ outcome 0 opens
+  left : Open f r opens l
+
+abbrev Fills : ℕ → ℕ → ℕ → Said
+Fills f b r u t x xs c l g = (o : ℕ) (head : Bool) → Ready f r t o head x → legalRecords f r xs ≡ true → u ≤ b → Filled f b r u o head c l g
+
+-- the one segment of a unit that closes the block
+cut-one : (f b r u t o : ℕ) (head : Bool) (x : List ℕ) → Format f → Ready f r t o head x → enters f b u (length x) ≡ true
+    → cut f r (unitIn f b u t x) ≡ some (segmentIn f b u t x ∷ [])
+unfolding onto
+cut-one f b r u t o head x form ready e =
+    ap (cut f r) (sym (append-nil (unitIn f b u t x)))
+    ∙ cut-back f b r u t o head x [] form ready e
+    ∙ ap (onto (segmentIn f b u t x)) (cut-nothing f r)
+
+pub unit-within : (f b u t : ℕ) (x : List ℕ) → enters f b u (length x) ≡ true → u + length (unitIn f b u t x) ≤ b
+unit-within f b u t x e = let h = entered f b u (length x) e .within in omega (arith, length-unit f b u t x e)
+
+fill-full : (f b r u t : ℕ) (x : List ℕ) (xs : List (List ℕ)) → Fills f b r u t x xs [] (going t x xs) []
+unfolding turnsFrom
+fill-full f b r u t x xs o head ready legal h =
+    record { cuts = cut-nothing f r; within = omega arith; opens = o; turns = refl; left = (ready-first f r t o head x ready, legal) }
+
+fill-broken : (f b r u t : ℕ) (x : List ℕ) (xs : List (List ℕ)) → Format f → enters f b u (length x) ≡ true → (taken f b u (length x) ≡ length x → ⊥)
+    → Fills f b r u t x xs (unitIn f b u t x) (going 1 (drop (taken f b u (length x)) x) xs) (segmentIn f b u t x ∷ [])
+unfolding turnsFrom
+fill-broken f b r u t x xs form e d o head ready legal h =
+    let n : Entered f b u (length x) = entered f b u (length x) e in
+    let (p, q, s) = goes-on f r t o (taken f b u (length x)) head x form ready (n .segmented d) (n .most) d in
+    record {
+      cuts = cut-one f b r u t o head x form ready e;
+      within = unit-within f b u t x e;
+      opens = p;
+      turns = turn f b r u t o p head x [] e (q .may) (q .behind);
+      left = (s, legal);
+    }
+
+fill-last : (f b r u t : ℕ) (x : List ℕ) → Format f → enters f b u (length x) ≡ true → taken f b u (length x) ≡ length x
+    → Fills f b r u t x [] (unitIn f b u t x) finished (segmentIn f b u t x ∷ [])
+unfolding turnsFrom
+fill-last f b r u t x form e k o head ready legal h =
+    let q : Turned r o 0 head _ _ = ends-here f r t o (taken f b u (length x)) head x form ready k in
+    record {
+      cuts = cut-one f b r u t o head x form ready e;
+      within = unit-within f b u t x e;
+      opens = 0;
+      turns = turn f b r u t o 0 head x [] e (q .may) (q .behind);
+      left = refl;
+    }
+
+legal-next : {A : Type 0} (f r : ℕ) (y : List ℕ) (ys : List (List ℕ)) → legalRecords f r (y ∷ ys) ≡ true
+    → (legalRecord f r y ≡ true → legalRecords f r ys ≡ true → A) → A
+unfolding legalRecords
+legal-next f r y ys h k = both (legalRecord f r y) (legalRecords f r ys) k h
+
+fill-more : (f b r u t : ℕ) (x y : List ℕ) (ys : List (List ℕ)) (c : List ℕ) (l : Left) (g : List Segment) → Format f
+    → enters f b u (length x) ≡ true → taken f b u (length x) ≡ length x → Fills f b r (u + length (unitIn f b u t x)) 0 y ys c l g
+    → Fills f b r u t x (y ∷ ys) (unitIn f b u t x ++ c) l (segmentIn f b u t x ∷ g)
+unfolding onto
+fill-more f b r u t x y ys c l g form e k again o head ready legal h =
+    legal-next f r y ys legal
+    (λ here rest.
+    let q : Turned r o 0 head _ _ = ends-here f r t o (taken f b u (length x)) head x form ready k in
+    let a : Filled f b r (u + length (unitIn f b u t x)) 0 false c l g = again 0 false (fresh refl refl here) rest (unit-within f b u t x e) in
+    let long : u + length (unitIn f b u t x) + length c ≤ b = a .within in
+    record {
+      cuts = cut-back f b r u t o head x c form ready e ∙ ap (onto (segmentIn f b u t x)) (a .cuts);
+      within = simp length-append (omega arith);
+      opens = a .opens;
+      turns = turn f b r u t o 0 head x g e (q .may) (q .behind) ∙ a .turns;
+      left = a .left;
+    })
+
+fills : (f b r : ℕ) → Format f → Ways f b (Fills f b r)
+fills f b r form =
+    record {
+      full = λ u t x xs e. fill-full f b r u t x xs;
+      broken = λ u t x xs e k. fill-broken f b r u t x xs form e k;
+      last = λ u t x e k. fill-last f b r u t x form e k;
+      more = λ u t x y ys c l g e k again. fill-more f b r u t x y ys c l g form e k again;
+    }
+
+-- ---- the records again
+
+-- the records that are left
+unfoldable pub remaining : Left → List (List ℕ)
+remaining finished = []
+remaining (going t x xs) = x ∷ xs
+
+-- a segment that ends its record, and one that does not
+joined-end : (t k n : ℕ) (bs : List ℕ) (more : List Segment) → k ≡ n → joined (segmentOf (indicatorOf t k n) bs ∷ more) ≡ bs ∷ joined more
+unfolding indicatorOf joined ifB
+joined-end t k n bs more e =
+    let i : indicatorOf t k n ≡ ifB (eqb t 0) 0 3 = if-true _ _ _ (eq-eqb k n e) in
+    ap (λ (j : ℕ). joined (segmentOf j bs ∷ more)) i
+    ∙ by-test (eqb t 0) (λ z. ap (λ (j : ℕ). joined (segmentOf j bs ∷ more)) (if-true _ _ _ z)) (λ z. ap (λ (j : ℕ). joined (segmentOf j bs ∷ more)) (if-false _ _ _ z))
+
+joined-on : (t k n : ℕ) (bs : List ℕ) (more : List Segment) → (k ≡ n → ⊥) → joined (segmentOf (indicatorOf t k n) bs ∷ more) ≡ onFirst bs (joined more)
+unfolding indicatorOf joined ifB
+joined-on t k n bs more d =
+    let i : indicatorOf t k n ≡ ifB (eqb t 0) 1 2 = if-false _ _ _ (ne-eqb k n d) in
+    ap (λ (j : ℕ). joined (segmentOf j bs ∷ more)) i
+    ∙ by-test (eqb t 0) (λ z. ap (λ (j : ℕ). joined (segmentOf j bs ∷ more)) (if-true _ _ _ z)) (λ z. ap (λ (j : ℕ). joined (segmentOf j bs ∷ more)) (if-false _ _ _ z))
+
+abbrev Joins : Said
+Joins u t x xs c l g = (more : List Segment) → joined more ≡ remaining l → joined (g ++ more) ≡ x ∷ xs
+
+joins : (f b : ℕ) → Ways f b Joins
+unfolding segmentIn remaining onFirst
+joins f b =
+    record {
+      full = λ u t x xs e more h. h;
+      broken = λ u t x xs e d more h.
+          joined-on t (taken f b u (length x)) (length x) _ more d
+          ∙ ap (onFirst (take (taken f b u (length x)) x)) h
+          ∙ ap (λ (y : List ℕ). y ∷ xs) (take-append-drop (taken f b u (length x)) x);
+      last = λ u t x e k more h.
+          joined-end t (taken f b u (length x)) (length x) _ more k ∙ ap₂ _∷_ (whole f b u x k) h;
+      more = λ u t x y ys c l g e k again more h.
+          joined-end t (taken f b u (length x)) (length x) _ (g ++ more) k ∙ ap₂ _∷_ (whole f b u x k) (again more h);
+    }
+  where
+    whole : (f b u : ℕ) (x : List ℕ) → taken f b u (length x) ≡ length x → take (taken f b u (length x)) x ≡ x
+    whole f b u x k = let long : length x ≤ taken f b u (length x) = omega arith in take-all (taken f b u (length x)) x long
+
+-- a block that a unit enters has a unit
+abbrev Some : ℕ → ℕ → Said
+Some f b u t x xs c l g = enters f b u (length x) ≡ true → someUnits (some g) ≡ some g
+
+somes : (f b : ℕ) → Ways f b (Some f b)
+unfolding someUnits
+somes f b =
+    record {
+      full = λ u t x xs e h. absurd (false≢true (sym e ∙ h));
+      broken = λ u t x xs e d h. refl;
+      last = λ u t x e k h. refl;
+      more = λ u t x y ys c l g e k again h. refl;
+    }
+
+-- ---- all blocks
+
+-- the lengths that a file's HDR2 gives suit each other
+pub record Suited (f b r : ℕ) : Type 0 where
+  pub format : Format f
+  pub lengths : suits f b r 0 ≡ true
+  pub most : b ≤ 99999
+
+suited-S : (f b r : ℕ) → f ≡ 83 → suits f b r 0 ≡ true → 6 ≤ b
+unfolding suits
+suited-S f b r e h = let k : 0 + 6 ≤ b = leb-true _ _ (sym (if-true _ _ _ (eq-eqb f 83 e)) ∙ h) in omega arith
+
+suited-whole : (f b r : ℕ) → eqb f 83 ≡ false → suits f b r 0 ≡ true → r ≤ b
+unfolding suits
+suited-whole f b r e h = let k : r + 0 ≤ b = leb-true _ _ (sym (if-false _ _ _ e) ∙ h) in omega arith
+
+legal-enters : (f b r : ℕ) (x : List ℕ) → Format f → suits f b r 0 ≡ true → legalRecord f r x ≡ true → enters f b 0 (length x) ≡ true
+legal-enters f b r x (isF e) s h =
+    let other : f ≡ 83 → ⊥ = λ q. omega arith in
+    let same : length x ≡ r = legal-F f r x e h .0 in
+    let room : r ≤ b = suited-whole f b r (ne-eqb f 83 other) s in
+    whole-enters f b (length x) (ne-eqb f 83 other) (omega (arith, word-fixed f e))
+legal-enters f b r x (isD e) s h =
+    let other : f ≡ 83 → ⊥ = λ q. omega arith in
+    let most : length x + 4 ≤ r = legal-D f r x e h .0 in
+    let room : r ≤ b = suited-whole f b r (ne-eqb f 83 other) s in
+    whole-enters f b (length x) (ne-eqb f 83 other) (omega (arith, word-variable f e))
+legal-enters f b r x (isS e) s h = segment-enters f b (length x) e (suited-S f b r e s)
+
+ready-enters : (f b r t o : ℕ) (head : Bool) (x : List ℕ) → Suited f b r → Ready f r t o head x → enters f b 0 (length x) ≡ true
+ready-enters f b r t o head x s (fresh _ _ h) = legal-enters f b r x (s .format) (s .lengths) h
+ready-enters f b r t o head x s (begun _ e _ _ _) = segment-enters f b (length x) e (suited-S f b r e (s .lengths))
+
+-- legal records have room
+pub legal-room : (f b r : ℕ) (xs : List (List ℕ)) → Suited f b r → legalRecords f r xs ≡ true → Room f b xs
+legal-room f b r [] s h = tt
+legal-room f b r (x ∷ xs) s h =
+    legal-next f r x xs h (λ here rest. (legal-enters f b r x (s .format) (s .lengths) here, legal-room f b r xs s rest))
+
+-- a block as it is read: its segments, which leave p open behind o
+pub record Block (f b r o p : ℕ) (c : List ℕ) (g : List Segment) : Type 0 where
+  pub cuts : units f b r 0 c ≡ some g
+  pub turns : turnsFrom r o true g ≡ outcome 0 p
+  pub item : isItem (block c) ≡ true
+
+-- the segments of each block
+unfoldable pub heldF : ℕ → ℕ → ℕ → Left → List (List Segment)
+heldF zero f b l = []
+heldF (suc k) f b finished = []
+heldF (suc k) f b (going t x xs) = segmentsFrom f b 0 t x xs ∷ heldF k f b (after f b 0 t x xs)
+
+unfoldable pub held : ℕ → ℕ → List (List ℕ) → List (List Segment)
+held f b xs = heldF (weight (startOf xs)) f b (startOf xs)
+
+-- blocks that are read as these segments, from o open to nothing open
+abbrev pub Blocks : ℕ → ℕ → ℕ → ℕ → List (List ℕ) → List (List Segment) → Type 0
+Blocks f b r o [] [] = o ≡ 0
+Blocks f b r o [] (g ∷ gs) = ⊥
+Blocks f b r o (c ∷ cs) [] = ⊥
+Blocks f b r o (c ∷ cs) (g ∷ gs) = (p : ℕ) × Block f b r o p c g × Blocks f b r p cs gs
+
+abbrev Absent : Option (List Segment) → Type 0
+Absent none = Unit {0}
+Absent (some g) = ⊥
+
+unequal : (g : List Segment) → none ≡ some g → ⊥
+unequal g e = subst Absent e tt
+
+first-block : (f b r t o : ℕ) (x : List ℕ) (xs : List (List ℕ)) → Suited f b r → Ready f r t o true x → legalRecords f r xs ≡ true
+    → (p : ℕ) × Block f b r o p (fill f b 0 t x xs) (segmentsFrom f b 0 t x xs) × Open f r p (after f b 0 t x xs)
+unfolding units isItem
+first-block f b r t o x xs s ready legal =
+    let c : List ℕ = fill f b 0 t x xs in
+    let g : List Segment = segmentsFrom f b 0 t x xs in
+    let a : Filled f b r 0 o true c (after f b 0 t x xs) g = by-ways f b (Fills f b r) (fills f b r (s .format)) 0 t x xs o true ready legal (omega arith) in
+    let one : someUnits (some g) ≡ some g = by-ways f b (Some f b) (somes f b) 0 t x xs (ready-enters f b r t o true x s ready) in
+    let within : 0 + length c ≤ b = a .within in
+    let most : b ≤ 99999 = s .most in (
+      a .opens,
+      record {
+        cuts = if-true _ _ _ (le-leb (length c) b (omega arith)) ∙ if-true _ _ _ (le-leb 0 (length c) (omega arith)) ∙ ap someUnits (a .cuts) ∙ one;
+        turns = a .turns;
+        item = and-true _ _ (le-leb 1 (length c) (some-bytes f r c g (a .cuts) one)) (le-leb (length c) 99999 (omega arith));
+      },
+      a .left,
+    )
+  where
+    some-bytes : (f r : ℕ) (c : List ℕ) (g : List Segment) → cut f r c ≡ some g → someUnits (some g) ≡ some g → 1 ≤ length c
+    some-bytes f r [] g e q = absurd (unequal g (nothing ∙ ap someUnits (sym (cut-nothing f r) ∙ e) ∙ q))
+      where
+        nothing : none ≡ someUnits (some [])
+        nothing = unfold someUnits in refl
+    some-bytes f r (y ∷ c) g e q = omega arith
+
+open-room : (f b r o : ℕ) (l : Left) → Suited f b r → Open f r o l → RoomLeft f b l
+open-room f b r o finished s h = tt
+open-room f b r o (going t x xs) s h = (ready-enters f b r t o true x s (h .0), legal-room f b r xs s (h .1))
+
+blocks-read : (k f b r o : ℕ) (l : Left) → Suited f b r → Open f r o l → weight l ≤ k → Blocks f b r o (blocksF k f b l) (heldF k f b l)
+unfolding blocksF heldF weight weights
+blocks-read zero f b r o finished s h m = h
+blocks-read zero f b r o (going t x xs) s h m = absurd (omega arith)
+blocks-read (suc k) f b r o finished s h m = h
+blocks-read (suc k) f b r o (going t x xs) s h m =
+    let (p, q, left) = first-block f b r t o x xs s (h .0) (h .1) in
+    let less : weight (after f b 0 t x xs) < weights (x ∷ xs) = after-lighter f b t x xs (open-room f b r o (going t x xs) s h) in
+    (p, q, blocks-read k f b r p (after f b 0 t x xs) s left (omega arith))
+
+-- the segments of all blocks
+unfoldable pub flat : List (List Segment) → List Segment
+flat [] = []
+flat (g ∷ gs) = g ++ flat gs
+
+records-back : (k f b r o : ℕ) (l : Left) → Suited f b r → Open f r o l → weight l ≤ k → joined (flat (heldF k f b l)) ≡ remaining l
+unfolding heldF flat weight weights remaining joined
+records-back zero f b r o finished s h m = refl
+records-back zero f b r o (going t x xs) s h m = absurd (omega arith)
+records-back (suc k) f b r o finished s h m = refl
+records-back (suc k) f b r o (going t x xs) s h m =
+    let (p, q, left) = first-block f b r t o x xs s (h .0) (h .1) in
+    let less : weight (after f b 0 t x xs) < weights (x ∷ xs) = after-lighter f b t x xs (open-room f b r o (going t x xs) s h) in
+    by-ways f b Joins (joins f b) 0 t x xs (flat (heldF k f b (after f b 0 t x xs)))
+    (records-back k f b r p (after f b 0 t x xs) s left (omega arith))
+
+-- ---- a file
+
+open-start : (f r : ℕ) (xs : List (List ℕ)) → legalRecords f r xs ≡ true → Open f r 0 (startOf xs)
+unfolding startOf
+open-start f r [] h = refl
+open-start f r (x ∷ xs) h = legal-next f r x xs h (λ here rest. (fresh refl refl here, rest))
+
+-- the blocks of a legal file are read as its segments, with nothing open behind the last
+pub file-blocks : (f b r : ℕ) (xs : List (List ℕ)) → Suited f b r → legalRecords f r xs ≡ true → Blocks f b r 0 (blocksOf f b xs) (held f b xs)
+unfolding blocksOf blocksLeft held
+file-blocks f b r xs s h = blocks-read (weight (startOf xs)) f b r 0 (startOf xs) s (open-start f r xs h) (omega arith)
+
+-- its segments join to its records
+pub file-records : (f b r : ℕ) (xs : List (List ℕ)) → Suited f b r → legalRecords f r xs ≡ true → joined (flat (held f b xs)) ≡ xs
+unfolding held
+file-records f b r xs s h =
+    records-back (weight (startOf xs)) f b r 0 (startOf xs) s (open-start f r xs h) (omega arith) ∙ all xs
+  where
+    all : (ys : List (List ℕ)) → remaining (startOf ys) ≡ ys
+    all [] = unfold remaining startOf in refl
+    all (y ∷ ys) = unfold remaining startOf in refl

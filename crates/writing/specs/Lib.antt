@@ -1,0 +1,4 @@
+pub mod Pack
+pub mod Lay
+pub mod Write
+pub mod Rewrite
