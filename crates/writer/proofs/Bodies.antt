@@ -1,153 +1,218 @@
--- A file between its labels: its entry as the code reads it, its blocks and its end. Assumes nothing.
+-- The records of a file. Assumes nothing.
 use mathlib.Core.Path.{_≡_, refl, sym, ap, _∙_, subst}
-use mathlib.Core.Bool.{true, false}
-use mathlib.Core.List.{List, []}
-use Prim.Native.Nat.{ℕ}
+use mathlib.Core.Bool.{Bool, true, false, false≢true}
+use mathlib.Core.List.{List, _∷_}
+use Prim.Native.Nat.{ℕ, _<_}
 use native.Mathlib.Omega.{arith}
 use borrow.Author.Needs.{needs}
+use borrow.Author.Tests.{eq-eqb, ne-eqb, eqb-true, eqb-false}
+use lib.Dec.{eqb}
+use lib.ListN.{length}
 use Rattle.base.specs.If.{if-true, if-false}
 use Rattle.base.specs.Part.{part}
-use Rattle.charset.specs.Number.{numberIn}
-use Rattle.charset.specs.declared.Number.{Number}
-use Rattle.charset.specs.declared.Number.the-variants.{Value, Wrong}
-use Rattle.image.specs.Item.{Item, block, encode}
-use Rattle.volume.specs.Fault.{valueOf}
-use Rattle.sheet.specs.Legal.{formatFrom, blockLengthFrom}
+use Rattle.base.proofs.Parts.{length-part}
+use Rattle.content.specs.declared.measuring.Measured.the-variants.{Split}
+use Rattle.content.proofs.Records.{split-long}
+use Rattle.writing.specs.Pack.{Left, finished, going, startOf, enters, Room}
+use Rattle.writing.specs.Lay.{Next}
+use Rattle.writing.proofs.Packing.{by-test}
+use Rattle.writer.specs.declared.pen.Pen.{Pen}
 use Rattle.writer.specs.declared.source.Cursor.{Cursor}
-use Rattle.writer.specs.declared.reel.Reel.{Reel}
-use Rattle.writer.specs.declared.reel.Laying.{Laying}
-use Rattle.writer.specs.Pack.{blocksLeft}
-use Rattle.writer.specs.Lay.{short, headers, fileEnd, rest}
-use Rattle.writer.specs.Output.{Wrote}
-use Rattle.writer.specs.Source.{stopAt, leftAt}
-use Rattle.writer.specs.Reels.{Next, restAt, nextAt, Spent, Layable, Ended, FilePut}
-use Rattle.writer.proofs.Packing.{by-test, blocks-finished}
-use Rattle.writer.proofs.Lays.{reel, lays-put, lays-same}
-use Rattle.writer.proofs.Reeling.{over-finished}
+use Rattle.writer.specs.declared.source.Found.{Found}
+use Rattle.writer.specs.Pass.{Job, Outcome, Fits, between, penned}
+use Rattle.writer.specs.Source.{walkOf, movedTo, recordsOf, endAt, stopOf, Good, splitBytes, SplitHere, foundBytes, Finds}
+use Rattle.writer.specs.Records.{Behind, Recordable, Splittable, Recorded}
+use Rattle.writer.specs.Bodies.{Takable, Bodied, BodyPut}
+use Rattle.writer.proofs.Packs.{penned-short}
 
--- ---- a file
+-- ---- a record that was found
 
-pub block-length-said : (e f : List ℕ) (x : Number) (n : ℕ) → f ≡ part 36 5 e → x ≡ numberIn f → x ≡ Value n → n ≡ blockLengthFrom e
-unfolding blockLengthFrom valueOf
-block-length-said e f x n h k v = ap valueOf (sym v ∙ k ∙ ap numberIn h)
+found-split : (bytes : List ℕ) (c : Cursor) (r : Found) → r .kind ≡ 2 → foundBytes bytes c r ≡ splitBytes bytes c
+unfolding foundBytes
+found-split bytes c r e = if-true _ _ _ (eq-eqb (r .kind) 2 e)
 
-pub block-length-unsaid : (e f : List ℕ) (x : Number) → f ≡ part 36 5 e → x ≡ numberIn f → x ≡ Wrong → 0 ≡ blockLengthFrom e
-unfolding blockLengthFrom valueOf
-block-length-unsaid e f x h k v = ap valueOf (sym v ∙ k ∙ ap numberIn h)
+found-whole : (bytes : List ℕ) (c : Cursor) (r : Found) → (r .kind ≡ 2 → ⊥) → foundBytes bytes c r ≡ part (r .from) (r .len) bytes
+unfolding foundBytes
+found-whole bytes c r e = if-false _ _ _ (ne-eqb (r .kind) 2 e)
 
-pub ruleset entries = (block-length-said, block-length-unsaid, needs)
+split-length : (bytes : List ℕ) (c : Cursor) (n : ℕ) → SplitHere bytes c n → length (splitBytes bytes c) ≡ n
+unfolding splitBytes
+split-length bytes c n h = split-long bytes (walkOf c) n (h .behind) (Split n (h .behind)) (h .is) refl
 
--- the numbers of an entry, as the code read them
-pub layable-of : (f b : ℕ) (e lengths bytes : List ℕ) (quota : ℕ) (names : List ℕ) (c : Cursor) (r : Reel) → f ≡ formatFrom e → b ≡ blockLengthFrom e
-    → Layable (formatFrom e) (blockLengthFrom e) lengths bytes quota names c r → Layable f b lengths bytes quota names c r
-layable-of f b e lengths bytes quota names c r p q y =
-    subst (λ (g : ℕ). Layable g b lengths bytes quota names c r) (sym p)
-    (subst (λ (g : ℕ). Layable (formatFrom e) g lengths bytes quota names c r) (sym q) y)
+module _ (lay : Bool) (f b : ℕ) (j : Job) (bytes : List ℕ) (c : Cursor) (r : Found) (p : Pen) (o : List ℕ) (k : Takable lay f b j bytes c r p o) where
+  pub take-split : r .kind ≡ 2 → Splittable lay f b j bytes c (r .len) p o
+  take-split e =
+      record {
+        sound = k .sound;
+        given = k .given;
+        most = k .most;
+        split = k .split e;
+        enough = k .enough;
+        ahead = λ l. subst (λ (x : List ℕ). Behind f b j x p o) (found-split bytes c r e) (k .ahead l);
+      }
 
-pub spent-of : (f b : ℕ) (lengths bytes : List ℕ) (quota : ℕ) (set e : List ℕ) (sequence : ℕ) (names : List ℕ) (c : Cursor) (r : Reel) (o p : List ℕ) (x : Laying)
-    → f ≡ formatFrom e → b ≡ blockLengthFrom e → Spent f b lengths bytes quota set e sequence names c r o p x
-    → Spent (formatFrom e) (blockLengthFrom e) lengths bytes quota set e sequence names c r o p x
-spent-of f b lengths bytes quota set e sequence names c r o p x h k y =
-    subst (λ (g : ℕ). Spent g (blockLengthFrom e) lengths bytes quota set e sequence names c r o p x) h
-    (subst (λ (g : ℕ). Spent f g lengths bytes quota set e sequence names c r o p x) k y)
+  pub took-split : (q : List ℕ) (v : Pen) → r .kind ≡ 2 → Recorded lay f b j (splitBytes bytes c) p o q v → Recorded lay f b j (foundBytes bytes c r) p o q v
+  took-split q v e x = subst (λ (s : List ℕ). Recorded lay f b j s p o q v) (sym (found-split bytes c r e)) x
 
-pub ruleset bodies = (layable-of, spent-of, needs)
+  pub take-whole : (r .kind ≡ 2 → ⊥) → Recordable lay f b j bytes (r .from) (r .len) p o
+  take-whole e =
+      record {
+        sound = k .sound;
+        given = k .given;
+        most = k .most;
+        inside = k .inside e;
+        enough = k .enough;
+        ahead = λ l. subst (λ (x : List ℕ). Behind f b j x p o) (found-whole bytes c r e) (k .ahead l);
+      }
 
-pub ended-short : (set e : List ℕ) (sequence : ℕ) (x : Laying) (o : List ℕ) → x .reel .short ≡ true → Ended set e sequence x o o x
-unfolding restAt nextAt
-ended-short set e sequence x o z =
-    record {
-      cur = refl;
-      short = refl;
-      kept = refl;
-      sound = λ quota names s. s;
-      same = λ quota names next q s t l. lays-same _ _ o (x .reel .at) q s t (if-true _ _ _ z ∙ sym (if-true _ _ _ z)) l;
-    }
+  pub took-whole : (q : List ℕ) (v : Pen) → (r .kind ≡ 2 → ⊥) → Recorded lay f b j (part (r .from) (r .len) bytes) p o q v
+      → Recorded lay f b j (foundBytes bytes c r) p o q v
+  took-whole q v e x = subst (λ (s : List ℕ). Recorded lay f b j s p o q v) (sym (found-whole bytes c r e)) x
 
-pub ended-file : (set e : List ℕ) (sequence : ℕ) (x : Laying) (o p : List ℕ) (at : ℕ) → x .reel .short ≡ false
-    → Wrote o (x .reel .at) (encode (fileEnd set e (x .reel .section) sequence (x .reel .count))) p at
-    → Ended set e sequence x o p (record { on = false; cur = x .cur; reel = reel at (x .reel .section) (x .reel .count) (x .reel .room) (x .reel .name) false })
-unfolding restAt nextAt rest
-ended-file set e sequence x o p at z w =
-    record {
-      cur = refl;
-      short = sym z;
-      kept = w .kept;
-      sound =
-          λ quota names s.
+pub took-kept : (lay : Bool) (f b : ℕ) (j : Job) (x : List ℕ) (p : Pen) (o q : List ℕ) (v : Pen) → Recorded lay f b j x p o q v → length q ≡ length o
+took-kept lay f b j x p o q v y = y .kept
+
+pub ruleset taking = (take-split, took-split, take-whole, took-whole, took-kept, needs)
+
+-- ---- all records
+
+-- from the beginning of a file to a cursor in it
+pub record Writing (lay : Bool) (f b : ℕ) (j : Job) (lengths bytes : List ℕ) (first : Cursor) (p : Pen) (o q : List ℕ) (r : Pen) (c : Cursor) : Type 0 where
+  pub bodied : Bodied lay f b j lengths bytes c r q
+  pub kept : length q ≡ length o
+  pub untouched : lay ≡ false → q ≡ o
+  pub end : endAt lengths bytes c ≡ endAt lengths bytes first
+  pub same : (next : Next) → penned lay f b j r q (between (startOf (recordsOf lengths bytes c))) next
+      ≡ penned lay f b j p o (between (startOf (recordsOf lengths bytes first))) next
+
+pub writing-none : (lay : Bool) (f b : ℕ) (j : Job) (lengths bytes : List ℕ) (first : Cursor) (p : Pen) (o : List ℕ) → Bodied lay f b j lengths bytes first p o
+    → Writing lay f b j lengths bytes first p o o p first
+writing-none lay f b j lengths bytes first p o k = record { bodied = k; kept = refl; untouched = λ _. refl; end = refl; same = λ next. refl }
+
+module _ (lay : Bool) (f b : ℕ) (j : Job) (lengths bytes : List ℕ) (first : Cursor) (p : Pen) (o q : List ℕ) (r : Pen) (c : Cursor)
+    (w : Writing lay f b j lengths bytes first p o q r c) where
+  pub writing-kept : length q ≡ length o
+  writing-kept = w .kept
+
+  pub writing-good : Good lengths bytes c
+  writing-good = w .bodied .good
+
+  module _ (x : Found) (y : Finds lengths bytes c x) where
+    pub writing-stop : x .kind ≡ 0 → stopOf c ≡ endAt lengths bytes c
+    writing-stop e = y .over e
+
+    pub writing-all : (n : ℕ) → x .kind ≡ 0 → n ≡ endAt lengths bytes c → BodyPut lay f b j lengths bytes first p o q (record { pen = r; end = n })
+    unfolding startOf
+    writing-all n e m =
+        record {
+          sound = w .bodied .sound;
+          kept = w .kept;
+          untouched = w .untouched;
+          end = λ _. m ∙ w .end;
+          same = λ next. ap (λ (l : List (List ℕ)). penned lay f b j r q (between (startOf l)) next) (sym (y .none e)) ∙ w .same next;
+        }
+
+    module _ (e : x .kind ≡ 0 → ⊥) where
+      abbrev one : List ℕ
+      one = foundBytes bytes c x
+
+      abbrev later : Cursor
+      later = movedTo c (x .at) (x .left)
+
+      abbrev xs : List (List ℕ)
+      xs = recordsOf lengths bytes later
+
+      cons : recordsOf lengths bytes c ≡ one ∷ xs
+      cons = y .one e
+
+      starts : startOf (recordsOf lengths bytes c) ≡ going 0 one xs
+      unfolding startOf
+      starts = ap startOf cons
+
+      room : Room f b (one ∷ xs)
+      room = subst (Room f b) cons (w .bodied .room)
+
+      size : length one ≡ x .len
+      size =
+          by-test (eqb (x .kind) 2)
+          (λ t. let s : x .kind ≡ 2 = eqb-true _ _ t in ap length (found-split bytes c x s) ∙ split-length bytes c (x .len) (y .split s))
+          (λ t.
+          let s : x .kind ≡ 2 → ⊥ = eqb-false _ _ t in
+          ap length (found-whole bytes c x s) ∙ length-part (x .from) (x .len) bytes (y .inside e s))
+
+      pub writing-takable : Takable lay f b j bytes c x r q
+      writing-takable =
           record {
-            place = omega (arith, w .place);
-            least = s .least;
-            most = s .most;
-            blocks = s .blocks;
-            begun = s .begun;
-            sections = s .sections;
-            reels = s .reels;
-            few = s .few;
-          };
-      same =
-          λ quota names next q s t l.
-          lays-same _ _ o (x .reel .at) q s t (sym (if-false _ _ _ z))
-          (lays-put o (x .reel .at) _ p at _ q s t w (lays-same _ _ p at q s t (if-false _ _ _ refl) l));
-    }
+            sound = w .bodied .sound;
+            given = w .bodied .given;
+            most = w .bodied .most;
+            enough = ap (enters f b 0) (sym size) ∙ room .0;
+            inside = y .inside e;
+            split = y .split;
+            ahead =
+                λ l.
+                let a = w .bodied .ahead l in
+                record {
+                  later = xs;
+                  next = a .next;
+                  room = room .1;
+                  fits = subst (λ (d : Left). Fits (penned true f b j r q (between d) (a .next)) (length q)) starts (a .fits);
+                };
+          }
 
-pub ruleset endings = (ended-short, ended-file, needs)
+      pub fewer-left : (d : Cursor) → d ≡ later → length (recordsOf lengths bytes d) < length (recordsOf lengths bytes c)
+      fewer-left d m = let n : length (recordsOf lengths bytes d) ≡ length xs = ap (λ (z : Cursor). length (recordsOf lengths bytes z)) m in omega (arith, ap length cons)
 
--- the reel at the beginning of a file
-pub layable-begun : (f b : ℕ) (lengths bytes : List ℕ) (quota : ℕ) (names : List ℕ) (c : Cursor) (r : Reel) (o : List ℕ) (xs : List Item) (p : List ℕ) (at : ℕ)
-    → Layable f b lengths bytes quota names c r → Wrote o (r .at) (encode xs) p at
-    → Layable f b lengths bytes quota names c (reel at 1 0 (r .room) (r .name) false)
-layable-begun f b lengths bytes quota names c r o xs p at y w =
-    record {
-      good = y .good;
-      most = y .most;
-      room = y .room;
-      sound =
-          record {
-            place = omega (arith, w .place);
-            least = y .sound .least;
-            most = y .sound .most;
-            blocks = omega (arith, y .sound .blocks);
-            begun = y .sound .begun;
-            sections = y .sound .begun;
-            reels = y .sound .reels;
-            few = y .sound .few;
-          };
-      enough = refl;
-    }
+      module _ (z : List ℕ) (v : Pen) (u : Recorded lay f b j one r q z v) where
+        pub writing-put-kept : length z ≡ length o
+        writing-put-kept = u .kept ∙ w .kept
 
--- behind the last block nothing is left, or a name was lacking
-spent-rest : (f b : ℕ) (lengths bytes : List ℕ) (quota : ℕ) (set e : List ℕ) (sequence : ℕ) (names : List ℕ) (c : Cursor) (r : Reel) (o p : List ℕ) (x : Laying) (next : Next)
-    → Spent f b lengths bytes quota set e sequence names c r o p x
-    → restAt quota set e sequence names (x .reel) [] next ≡ restAt quota set e sequence names (x .reel) (blocksLeft f b (leftAt lengths bytes (x .cur))) next
-unfolding restAt
-spent-rest f b lengths bytes quota set e sequence names c r o p x next y =
-    by-test (x .reel .short) (λ z. if-true _ _ _ z ∙ sym (if-true _ _ _ z))
-    (λ z.
-    let none : [] ≡ blocksLeft f b (leftAt lengths bytes (x .cur))
-    = sym (ap (blocksLeft f b) (over-finished lengths bytes (x .cur) (y .passed .over (y .off) z)) ∙ blocks-finished f b) in
-    ap (λ (bs : List (List ℕ)). restAt quota set e sequence names (x .reel) bs next) none)
+        step : (next : Next) → penned lay f b j v z (between (startOf xs)) next ≡ penned lay f b j r q (between (startOf (recordsOf lengths bytes c))) next
+        step next = u .same xs next (room .1) ∙ ap (λ (d : Left). penned lay f b j r q (between d) next) (sym starts)
 
-pub file-put : (lengths bytes : List ℕ) (quota : ℕ) (set e : List ℕ) (sequence : ℕ) (names : List ℕ) (c : Cursor) (r : Reel) (o p : List ℕ) (at : ℕ) (q : List ℕ) (x : Laying) (s : List ℕ) (y : Laying)
-    → Wrote o (r .at) (encode (headers set e 1 sequence)) p at
-    → Spent (formatFrom e) (blockLengthFrom e) lengths bytes quota set e sequence names c (reel at 1 0 (r .room) (r .name) false) p q x
-    → Ended set e sequence x q s y → FilePut lengths bytes quota set e sequence names c r o s y
-unfolding restAt
-file-put lengths bytes quota set e sequence names c r o p at q x s y w m n =
-    record {
-      end =
-          λ z.
-          ap stopAt (n .cur)
-          ∙ m .passed .good .over (m .passed .over (m .off) (sym (n .short) ∙ z))
-          ∙ m .passed .end;
-      kept = n .kept ∙ m .passed .kept ∙ w .kept;
-      sound = n .sound quota names (m .passed .sound);
-      same =
-          λ next t u z l.
-          lays-put o (r .at) _ p at _ t u z w
-          (lays-same _ _ p at t u z (if-false _ _ _ refl)
-          (m .passed .same next t u z
-          (lays-same _ _ q (x .reel .at) t u z (spent-rest _ _ lengths bytes quota set e sequence names c _ p q x next m) (n .same quota names next t u z l))));
-    }
+        pub writing-more : (d : Cursor) → v .short ≡ false → d ≡ later → Writing lay f b j lengths bytes first p o z v d
+        writing-more d s m =
+            subst (λ (k : Cursor). Writing lay f b j lengths bytes first p o z v k) (sym m)
+            (record {
+              bodied =
+                  record {
+                    sound = u .sound;
+                    given = s;
+                    most = w .bodied .most;
+                    good = y .good e;
+                    room = room .1;
+                    ahead =
+                        λ l.
+                        let a = w .bodied .ahead l in
+                        let g : penned true f b j v z (between (startOf xs)) (a .next) ≡ penned true f b j r q (between (startOf (recordsOf lengths bytes c))) (a .next)
+                        = subst (λ (t : Bool). penned t f b j v z (between (startOf xs)) (a .next) ≡ penned t f b j r q (between (startOf (recordsOf lengths bytes c))) (a .next)) l (step (a .next)) in
+                        record {
+                          next = a .next;
+                          fits =
+                              subst (Fits (penned true f b j v z (between (startOf xs)) (a .next))) (sym (u .kept))
+                              (subst (λ (t : Outcome). Fits t (length q)) (sym g) (a .fits));
+                        };
+                  };
+              kept = writing-put-kept;
+              untouched = λ l. u .untouched l ∙ w .untouched l;
+              end = y .end e ∙ w .end;
+              same = λ next. step next ∙ w .same next;
+            })
 
-pub ruleset files = (layable-begun, file-put, needs)
+        pub writing-short : v .short ≡ true → BodyPut lay f b j lengths bytes first p o z (record { pen = v; end = 0 })
+        writing-short s =
+            record {
+              sound = u .sound;
+              kept = writing-put-kept;
+              untouched = λ l. u .untouched l ∙ w .untouched l;
+              end = λ d. absurd (false≢true (sym d ∙ s));
+              same =
+                  λ next.
+                  penned-short lay f b j v z (between finished) next s
+                  ∙ sym (penned-short lay f b j v z (between (startOf xs)) next s)
+                  ∙ step next
+                  ∙ w .same next;
+            }
+
+pub ruleset writing =
+    (writing-none, writing-kept, writing-good, writing-stop, writing-all, writing-takable, fewer-left, writing-put-kept, writing-more, writing-short, needs)

@@ -1,19 +1,14 @@
 -- The numbers of a unit, as the code finds them. Assumes nothing.
-use mathlib.Core.Path.{_≡_, refl, sym, ap, _∙_, subst}
+use mathlib.Core.Path.{_≡_, sym, ap, _∙_}
 use mathlib.Core.Bool.{Bool, true, false}
-use mathlib.Core.List.{List, [], _∷_, _++_, append-nil}
 use Prim.Native.Nat.{ℕ, _+_, _-_, _≤_, _<_, min}
 use native.Mathlib.Omega.{arith}
 use borrow.Author.Needs.{needs}
 use borrow.Author.Tests.{eq-eqb, ne-eqb, le-leb, lt-leb}
-use lib.Dec.{eqb, leb}
-use lib.ListN.{length, take}
-use Rattle.base.specs.If.{ifB, if-true, if-false}
-use Rattle.base.specs.Digits.{digits}
+use lib.Dec.{leb}
+use Rattle.base.specs.If.{if-true, if-false}
 use Rattle.block.specs.Unit.{wordOf}
-use Rattle.writer.specs.Pack.{enters, taken, indicatorOf, controlWord}
-use Rattle.writer.specs.Output.{Wrote, overLong}
-use Rattle.output.proofs.Writing.{wrote-wrote}
+use Rattle.writing.specs.Pack.{enters, taken}
 
 -- ---- room
 
@@ -51,26 +46,3 @@ unfolding taken
 taken-unit f b u n e = sym (if-false _ _ _ (ne-eqb f 83 e))
 
 pub ruleset entering = (enters-segment, enters-unit, taken-segment, taken-unit, needs)
-
--- ---- the control word
-
-pub segment-word : (o : List ℕ) (a i n : ℕ) (p : List ℕ) (r : ℕ) (q : List ℕ) (s : ℕ) → Wrote o a ((48 + i) ∷ []) p r → Wrote p r (digits 4 n) q s
-    → Wrote o a ((48 + i) ∷ digits 4 n) q s
-segment-word o a i n p r q s w v = wrote-wrote o a ((48 + i) ∷ []) p r (digits 4 n) q s w v
-
-pub control-fixed : (o : List ℕ) (a f i k : ℕ) (p : List ℕ) (r : ℕ) → f ≡ 70 → Wrote o a [] p r → Wrote o a (controlWord f i k) p r
-unfolding controlWord
-control-fixed o a f i k p r e w = subst (λ (bs : List ℕ). Wrote o a bs p r) (sym (if-true _ _ _ (eq-eqb f 70 e))) w
-
-pub control-variable : (o : List ℕ) (a f i k : ℕ) (p : List ℕ) (r : ℕ) → (f ≡ 70 → ⊥) → f ≡ 68 → Wrote o a (digits 4 (k + 4)) p r → Wrote o a (controlWord f i k) p r
-unfolding controlWord
-control-variable o a f i k p r d e w =
-    subst (λ (bs : List ℕ). Wrote o a bs p r) (sym (if-false _ _ _ (ne-eqb f 70 d) ∙ if-true _ _ _ (eq-eqb f 68 e))) w
-
-pub control-segment : (o : List ℕ) (a f i k : ℕ) (p : List ℕ) (r : ℕ) → (f ≡ 70 → ⊥) → (f ≡ 68 → ⊥) → Wrote o a ((48 + i) ∷ digits 4 (k + 5)) p r
-    → Wrote o a (controlWord f i k) p r
-unfolding controlWord
-control-segment o a f i k p r d e w =
-    subst (λ (bs : List ℕ). Wrote o a bs p r) (sym (if-false _ _ _ (ne-eqb f 70 d) ∙ if-false _ _ _ (ne-eqb f 68 e))) w
-
-pub ruleset control = (segment-word, control-fixed, control-variable, control-segment, needs)

@@ -2,189 +2,158 @@
 use mathlib.Core.Path.{_≡_, refl, sym, ap, _∙_, subst}
 use mathlib.Core.Bool.{Bool, true, false, false≢true}
 use mathlib.Core.List.{List, [], _∷_, _++_, append-assoc}
-use Prim.Native.Nat.{ℕ, suc, _+_, _*_, _-_, _≤_, _<_}
+use Prim.Native.Nat.{ℕ, suc, _+_, _-_, _*_, _≤_, _<_}
 use native.Mathlib.Omega.{arith}
 use native.Mathlib.Numerals.{add-one}
 use borrow.Author.Needs.{needs}
-use lib.ListN.{length, drop, drop-of-length-le}
+use mir.Val.{Fits as FitsIn}
+use mir.Syntax.{w64}
+use lib.ListN.{length, drop, getD, length-append, drop-of-length-le}
 use Rattle.base.specs.If.{ifB, if-true, if-false}
-use Rattle.base.specs.Part.{part}
-use Rattle.image.specs.Item.{Item, block, mark, reelEnd, encode}
+use Rattle.base.specs.Part.{part, putAt}
+use Rattle.base.proofs.Parts.{put-put}
+use Rattle.image.specs.Item.{block, mark, reelEnd, encode}
 use Rattle.image.specs.Framing.{head}
 use Rattle.image.proofs.RoundTrip.{encode-append}
 use Rattle.label.specs.Made.{madeVolume}
 use Rattle.volume.specs.Meaning.{File, content}
-use Rattle.sheet.specs.Legal.{formatFrom, blockLengthFrom, recordLengthFrom, legalFiles, Sheet, legalSheet, legalNames, legalQuota}
+use Rattle.sheet.specs.Legal.{formatFrom, blockLengthFrom, recordLengthFrom, legalFiles}
 use Rattle.sheet.specs.Flat.{inParts, filesFrom}
+use Rattle.writing.specs.Pack.{blocksOf, Room}
+use Rattle.writing.specs.Lay.{Laid, laid, short, put, headers, Next, rest, layFiles, layOn}
+use Rattle.writing.proofs.Packing.{by-test}
+use Rattle.writing.proofs.Packed.{Suited, legal-room}
+use Rattle.writing.proofs.Entry.{legal-second, suited}
+use Rattle.writing.proofs.Laying.{legal-file}
+use Rattle.writer.specs.declared.pen.Pen.{Pen}
 use Rattle.writer.specs.declared.source.Cursor.{Cursor}
-use Rattle.writer.specs.declared.reel.Reel.{Reel}
-use Rattle.writer.specs.declared.reel.Laying.{Laying}
+use Rattle.writer.specs.declared.body.Body.{Body}
 use Rattle.writer.specs.declared.set.Place.{Place}
 use Rattle.writer.specs.declared.set.Filing.{Filing}
-use Rattle.sheet.proofs.Cutting.{parts-none}
-use Rattle.writer.proofs.Units.{both}
-use lib.Dec.{leb}
-use borrow.Author.Tests.{leb-true}
-use Rattle.writer.specs.Pack.{Left, going, startOf, blocksLeft, blocksOf, Room, RoomLeft}
-use Rattle.writer.specs.Lay.{Laid, laid, short, put, headers, rest, layFiles, layOn, lay}
-use Rattle.writer.specs.Output.{Wrote}
-use Rattle.writer.specs.Source.{bytesAt, laterAt, leftAt, Good, Opened}
-use Rattle.writer.specs.Reels.{Lays, namesAt, Sound, nextAt, Layable, FilePut}
-use Rattle.writer.specs.Sets.{Origin, listed, read, originOf, totalOf, filesAt, Placed, layAt, Filed, Fileable, OneFiled, AllFiled, SetEnded, Sheeted, sheetAt, Writable}
-use Rattle.writer.proofs.Packing.{by-test}
-use Rattle.writer.proofs.Packed.{Suited, legal-room}
-use Rattle.writer.proofs.Entry.{legal-second, suited}
-use Rattle.writer.proofs.Laying.{legal-file}
-use Rattle.output.proofs.Writing.{wrote-wrote, wrote-same}
-use Rattle.writer.proofs.Lays.{lays-same, names-some}
-
--- ---- what is laid, with the head of the image before it
-
-lays-of-short : (l : Laid) (o : List ℕ) (a : ℕ) (p : List ℕ) (r : ℕ) (z : Bool) → l ≡ short → z ≡ true → Lays l o a p r z
-lays-of-short l o a p r z e h =
-    record {
-      whole = λ xs d. let no : _≡_ {A = ℕ} 0 1 = cc in absurd (omega arith);
-      given = λ xs d. let no : _≡_ {A = ℕ} 0 1 = cc in absurd (omega arith);
-      lacks = λ _. h;
-    }
-
-lays-of-laid : (l : Laid) (ys : List Item) (o : List ℕ) (a : ℕ) (p : List ℕ) (r : ℕ) (z : Bool) → l ≡ laid ys → z ≡ false → Wrote o a (encode ys) p r → Lays l o a p r z
-lays-of-laid l ys o a p r z e h w =
-    record {
-      whole = λ xs d. let same : ys ≡ xs = cc in subst (λ (v : List Item). Wrote o a (encode v) p r) same w;
-      given = λ _ _. h;
-      lacks = λ d. let no : _≡_ {A = ℕ} 0 1 = cc in absurd (omega arith);
-    }
-
-sheeted-put : (o : List ℕ) (xs : List Item) (p : List ℕ) (a : ℕ) (l : Laid) (q : List ℕ) (s : ℕ) (z : Bool) → Wrote o 0 (head ++ encode xs) p a → Lays l p a q s z
-    → Sheeted (put xs l) o q s z
-unfolding put
-sheeted-put o xs p a (laid ys) q s z w h =
-    record {
-      whole =
-          λ zs e.
-          let same : xs ++ ys ≡ zs = cc in
-          let image : (head ++ encode xs) ++ encode ys ≡ head ++ encode (xs ++ ys) = append-assoc head (encode xs) (encode ys) ∙ ap (λ (t : List ℕ). head ++ t) (sym (encode-append xs ys)) in
-          subst (λ (v : List Item). Wrote o 0 (head ++ encode v) q s) same (wrote-same o 0 _ _ q s image (wrote-wrote o 0 _ p a _ q s w (h .whole ys refl)));
-      given = λ zs e. h .given ys refl;
-      lacks = λ e. let no : _≡_ {A = ℕ} 0 1 = cc in absurd (omega arith);
-    }
-sheeted-put o xs p a short q s z w h =
-    record {
-      whole = λ zs e. let no : _≡_ {A = ℕ} 0 1 = cc in absurd (omega arith);
-      given = λ zs e. let no : _≡_ {A = ℕ} 0 1 = cc in absurd (omega arith);
-      lacks = λ e. h .lacks refl;
-    }
-
--- ---- the records of a file opened
-
-pub opened-left : (lengths bytes : List ℕ) (c d : Cursor) (xs : List (List ℕ)) → Opened lengths bytes c d → laterAt lengths bytes c ≡ xs → leftAt lengths bytes d ≡ startOf xs
-unfolding leftAt startOf
-opened-left lengths bytes c d xs o e =
-    by-test (d .live)
-    (λ z.
-    if-true _ _ _ z
-    ∙ ap (λ (t : ℕ). going t (bytesAt bytes d) (laterAt lengths bytes d)) (o .begun)
-    ∙ ap startOf (sym (o .some z) ∙ e))
-    (λ z. if-false _ _ _ z ∙ ap startOf (sym (o .none z) ∙ e))
+use Rattle.writer.specs.Pass.{Puts, reelsAt, Job, job, inkAt, inked, behind, inkedAt, Outcome, outcome, laidFrom, imaged, imageFrom, Fits, Between}
+use Rattle.writer.specs.Source.{recordsOf, Good}
+use Rattle.writer.specs.Files.{fileLaid, filedFrom, nextFrom, FileReady, FilePut}
+use Rattle.writer.specs.Sets.{Origin, listed, read, originOf, totalOf, filesAt, Task, task, PlacedIn, layAt, Filed, Fileable, OneFiled, AllFiled, Closing, Closed, firstPen, headOf, Sheeted, meaningAt, setLaid, SetReady}
+use Rattle.writer.proofs.Items.{length-first-reel, length-reel-end}
+use Rattle.writer.proofs.Passes.{ink-none, ink-length}
+use Rattle.writer.proofs.Written.{ink-not}
+use Rattle.writer.proofs.Pens.{reels-some}
+use Rattle.writer.proofs.Files.{laid-short, laid-items, laid-room, ink-puts, room-laid, puts-kept}
 
 -- ---- one file
 
 -- the first of the files from a place on, and those behind it
-module _ (from : Origin) (set lengths bytes : List ℕ) (g : Place) (entry : List ℕ) (records : List (List ℕ)) (others : List File) (y : Placed from set lengths bytes g)
-    (first : filesAt from lengths bytes g ≡ record { fields = entry; records = records } ∷ others) where
-  legal : legalFiles set (record { fields = entry; records = records } ∷ others) ≡ true
-  legal = ap (legalFiles set) (sym first) ∙ y .legal
+module _ (t : Task) (g : Place) (entry : List ℕ) (records : List (List ℕ)) (others : List File) (y : PlacedIn t g)
+    (first : filesAt (t .from) (t .lengths) (t .bytes) g ≡ record { fields = entry; records = records } ∷ others) where
+  legal : legalFiles (t .set) (record { fields = entry; records = records } ∷ others) ≡ true
+  legal = ap (legalFiles (t .set)) (sym first) ∙ y .legal
 
-  pub legal-others : legalFiles set others ≡ true
-  legal-others = legal-file set _ _ legal (λ e r o. o)
-
-  room-start : (f b : ℕ) (xs : List (List ℕ)) → Room f b xs → RoomLeft f b (startOf xs)
-  unfolding startOf
-  room-start f b [] r = tt
-  room-start f b (x ∷ xs) r = r
+  pub legal-others : legalFiles (t .set) others ≡ true
+  legal-others = legal-file (t .set) _ _ legal (λ e r o. o)
 
   suits : Suited (formatFrom entry) (blockLengthFrom entry) (recordLengthFrom entry)
-  suits = legal-file set _ _ legal (λ e r o. suited entry (legal-second set entry e))
+  suits = legal-file (t .set) _ _ legal (λ e r o. suited entry (legal-second (t .set) entry e))
 
-  room : RoomLeft (formatFrom entry) (blockLengthFrom entry) (startOf records)
-  room = legal-file set _ _ legal (λ e r o. room-start _ _ records (legal-room _ _ (recordLengthFrom entry) records suits r))
+  room : Room (formatFrom entry) (blockLengthFrom entry) records
+  room = legal-file (t .set) _ _ legal (λ e r o. legal-room _ _ (recordLengthFrom entry) records suits r)
 
-  module _ (d : Cursor) (good : Good lengths bytes d) (begun : leftAt lengths bytes d ≡ startOf records) where
-    -- its records can be laid as blocks
-    pub file-layable : (quota : ℕ) (names : List ℕ) (r : Reel) → Sound quota names r → r .short ≡ false
-        → Layable (formatFrom entry) (blockLengthFrom entry) lengths bytes quota names d r
-    file-layable quota names r sound enough =
-        record { good = good; most = suits .most; room = subst (RoomLeft _ _) (sym begun) room; sound = sound; enough = enough }
+  abbrev j : Job
+  j = job (t .set) entry (g .nth + 1) (t .rooms) (t .names)
 
-    -- what is laid from a place on is this file and what follows
-    this-file : (quota : ℕ) (names : List ℕ) (r : Reel) → r .short ≡ false
-        → put (headers set entry 1 (suc (g .nth)))
-        (rest quota set entry (suc (g .nth)) 1 0 (r .room) (namesAt names (r .name)) (blocksLeft (formatFrom entry) (blockLengthFrom entry) (leftAt lengths bytes d))
-        (λ left names. layFiles quota set (suc (suc (g .nth))) left names others))
-        ≡ layAt from quota set lengths bytes names g r
-    unfolding layAt layFiles blocksOf
-    this-file quota names r enough =
-        ap
-        (λ (l : Left). put (headers set entry 1 (suc (g .nth)))
-        (rest quota set entry (suc (g .nth)) 1 0 (r .room) (namesAt names (r .name)) (blocksLeft (formatFrom entry) (blockLengthFrom entry) l)
-        (λ left names. layFiles quota set (suc (suc (g .nth))) left names others)))
-        begun
-        ∙ ap (layFiles quota set (suc (g .nth)) (r .room) (namesAt names (r .name))) (sym first)
-        ∙ sym (if-false _ _ _ enough)
+  abbrev following : Next
+  following = λ left reels. layFiles (t .set) (suc (suc (g .nth))) left reels others
 
-    -- the next file from a place behind this one, unless a name was lacking
-    next-same : (quota : ℕ) (names : List ℕ) (x : Reel) (h : Place) → h .nth ≡ g .nth + 1 → (x .short ≡ false → filesAt from lengths bytes h ≡ others)
-        → layAt from quota set lengths bytes names h x ≡ nextAt names x (λ left names. layFiles quota set (suc (suc (g .nth))) left names others)
-    unfolding layAt nextAt
-    next-same quota names x h n e =
-        by-test (x .short) (λ z. if-true _ _ _ z ∙ sym (if-true _ _ _ z))
+  -- what is laid from a place on is this file and what follows
+  this-file : (lay : Bool) (p : Pen) (o : List ℕ) → filedFrom lay j p o records following ≡ laidFrom lay p o (layAt t g p)
+  unfolding filedFrom fileLaid layAt layFiles
+  this-file lay p o =
+      ap
+      (λ (n : ℕ). laidFrom lay p o (put (headers (t .set) entry 1 n)
+      (rest (t .set) entry n 1 0 (p .room) (reelsAt (t .rooms) (t .names) (p .next)) (blocksOf (formatFrom entry) (blockLengthFrom entry) records) following)))
+      (add-one (g .nth))
+      ∙ ap (λ (ds : List File). laidFrom lay p o (layFiles (t .set) (suc (g .nth)) (p .room) (reelsAt (t .rooms) (t .names) (p .next)) ds)) (sym first)
+
+  module _ (lay : Bool) (d : Cursor) (good : Good (t .lengths) (t .bytes) d) (begun : recordsOf (t .lengths) (t .bytes) d ≡ records) where
+    pub file-ready : (p : Pen) (o : List ℕ) → Fileable lay t g p o → FileReady lay j (t .lengths) (t .bytes) d p o
+    file-ready p o f =
+        record {
+          before = g .nth;
+          turn = refl;
+          few = omega (arith, f .more, y .few);
+          sound = f .sound;
+          given = f .enough;
+          most = suits .most;
+          good = good;
+          room = subst (Room _ _) (sym begun) room;
+          ahead =
+              λ l.
+              record {
+                next = following;
+                fits =
+                    subst (λ (xs : List (List ℕ)). Fits (filedFrom true j p o xs following) (length o)) (sym begun)
+                    (subst (λ (w : Outcome). Fits w (length o)) (sym (this-file true p o)) (f .fits l));
+              };
+        }
+
+    -- the next file from a place behind this one, unless a reel is lacking
+    next-same : (x : Pen) (q : List ℕ) (h : Place) → h .nth ≡ g .nth + 1 → (x .short ≡ false → filesAt (t .from) (t .lengths) (t .bytes) h ≡ others)
+        → laidFrom lay x q (layAt t h x) ≡ nextFrom lay (t .rooms) (t .names) x q following
+    unfolding layAt nextFrom
+    next-same x q h n e =
+        by-test (x .short) (λ z. laid-short lay x q _ z ∙ sym (laid-short lay x q _ z))
         (λ z.
-        if-false _ _ _ z
-        ∙ ap (λ (k : ℕ). layFiles quota set (suc k) (x .room) (namesAt names (x .name)) (filesAt from lengths bytes h)) (n ∙ add-one (g .nth))
-        ∙ ap (layFiles quota set (suc (suc (g .nth))) (x .room) (namesAt names (x .name))) (e z)
-        ∙ sym (if-false _ _ _ z))
+        ap (λ (k : ℕ). laidFrom lay x q (layFiles (t .set) (suc k) (x .room) (reelsAt (t .rooms) (t .names) (x .next)) (filesAt (t .from) (t .lengths) (t .bytes) h))) (n ∙ add-one (g .nth))
+        ∙ ap (λ (ds : List File). laidFrom lay x q (layFiles (t .set) (suc (suc (g .nth))) (x .room) (reelsAt (t .rooms) (t .names) (x .next)) ds)) (e z))
 
     -- the file was laid, and the laying stands at the next
-    pub one-filed : (quota : ℕ) (names : List ℕ) (r : Reel) (o p : List ℕ) (x : Laying) (v : Filing) → r .short ≡ false
-        → FilePut lengths bytes quota set entry (g .nth + 1) names d r o p x → v .reel ≡ x .reel → v .place .nth ≡ g .nth + 1
-        → (x .reel .short ≡ false → filesAt from lengths bytes (v .place) ≡ others) → (x .reel .short ≡ false → Placed from set lengths bytes (v .place))
-        → (v .on ≡ true → x .reel .short ≡ false) → (v .on ≡ true → v .place .nth < totalOf from bytes)
-        → (v .on ≡ false → x .reel .short ≡ false → totalOf from bytes ≤ v .place .nth) → OneFiled from quota set lengths bytes names g r o p v
-    one-filed quota names r o p x v enough m reel next there placed on more over =
+    pub one-filed : (p : Pen) (o q : List ℕ) (x : Body) (v : Filing) → FilePut lay j (t .lengths) (t .bytes) d p o q x → v .pen ≡ x .pen → v .place .nth ≡ g .nth + 1
+        → (x .pen .short ≡ false → filesAt (t .from) (t .lengths) (t .bytes) (v .place) ≡ others) → (x .pen .short ≡ false → PlacedIn t (v .place))
+        → (v .on ≡ true → x .pen .short ≡ false) → (v .on ≡ true → v .place .nth < totalOf (t .from) (t .bytes))
+        → (v .on ≡ false → x .pen .short ≡ false → totalOf (t .from) (t .bytes) ≤ v .place .nth) → OneFiled lay t g p o q v
+    one-filed p o q x v m pen next there placed on more over =
         record {
           filed =
               record {
                 placed = λ z. placed (same-short z);
-                sound = subst (Sound quota names) (sym reel) (m .sound);
+                sound =
+                    λ z.
+                    subst (λ (n : ℕ). Between (t .rooms) (t .names) n (v .pen)) (sym next)
+                    (subst (Between (t .rooms) (t .names) (g .nth + 1)) (sym pen) (m .sound (same-short z)));
                 kept = m .kept;
-                enough = λ z. ap (λ (w : Reel). w .short) reel ∙ on z;
+                untouched = m .untouched;
+                enough = λ z. ap (λ (w : Pen). w .short) pen ∙ on z;
                 more = more;
-                over = λ z q. over z (same-short q);
+                over = λ z e. over z (same-short e);
                 same =
-                    λ q t z l.
-                    lays-same _ _ o (r .at) q t z (this-file quota names r enough)
-                    (subst (λ (k : ℕ). FilePut lengths bytes quota set entry k names d r o p x) (add-one (g .nth)) m .same _ q t z
-                    (lays-same _ _ p (x .reel .at) q t z (next-same quota names (x .reel) (v .place) next there)
-                    (subst (λ (w : Reel). Lays (layAt from quota set lengths bytes names (v .place) w) p (w .at) q t z) reel l)));
+                    ap (λ (w : Pen). laidFrom lay w q (layAt t (v .place) w)) pen
+                    ∙ next-same (x .pen) q (v .place) next there
+                    ∙ m .same following
+                    ∙ ap (λ (xs : List (List ℕ)). filedFrom lay j p o xs following) begun
+                    ∙ this-file lay p o;
               };
           next = next;
         }
       where
-        same-short : v .reel .short ≡ false → x .reel .short ≡ false
-        same-short z = sym (ap (λ (w : Reel). w .short) reel) ∙ z
+        same-short : v .pen .short ≡ false → x .pen .short ≡ false
+        same-short z = sym (ap (λ (w : Pen). w .short) pen) ∙ z
 
 -- ---- the entry of a file, as the code holds it
 
-pub layable-entry : (e k lengths bytes : List ℕ) (quota : ℕ) (names : List ℕ) (d : Cursor) (r : Reel) → e ≡ k
-    → Layable (formatFrom k) (blockLengthFrom k) lengths bytes quota names d r → Layable (formatFrom e) (blockLengthFrom e) lengths bytes quota names d r
-layable-entry e k lengths bytes quota names d r h y = subst (λ (l : List ℕ). Layable (formatFrom l) (blockLengthFrom l) lengths bytes quota names d r) (sym h) y
+module _ (lay : Bool) (e k set : List ℕ) (n m : ℕ) (rooms names lengths bytes : List ℕ) (d : Cursor) (p : Pen) (o : List ℕ) (h : e ≡ k) (i : m ≡ n) where
+  pub ready-entry : FileReady lay (job set k n rooms names) lengths bytes d p o → FileReady lay (job set e m rooms names) lengths bytes d p o
+  ready-entry y =
+      subst (λ (l : List ℕ). FileReady lay (job set l m rooms names) lengths bytes d p o) (sym h)
+      (subst (λ (r : ℕ). FileReady lay (job set k r rooms names) lengths bytes d p o) (sym i) y)
 
-pub put-entry : (e k lengths bytes : List ℕ) (quota : ℕ) (set : List ℕ) (sequence : ℕ) (names : List ℕ) (d : Cursor) (r : Reel) (o p : List ℕ) (x : Laying) → e ≡ k
-    → FilePut lengths bytes quota set e sequence names d r o p x → FilePut lengths bytes quota set k sequence names d r o p x
-put-entry e k lengths bytes quota set sequence names d r o p x h y = subst (λ (l : List ℕ). FilePut lengths bytes quota set l sequence names d r o p x) h y
+  pub put-entry : (q : List ℕ) (x : Body) → FilePut lay (job set e m rooms names) lengths bytes d p o q x → FilePut lay (job set k n rooms names) lengths bytes d p o q x
+  put-entry q x y =
+      subst (λ (l : List ℕ). FilePut lay (job set l n rooms names) lengths bytes d p o q x) h
+      (subst (λ (r : ℕ). FilePut lay (job set e r rooms names) lengths bytes d p o q x) i y)
 
-pub ruleset entered = (layable-entry, put-entry, needs)
+pub file-kept : (lay : Bool) (j : Job) (lengths bytes : List ℕ) (d : Cursor) (p : Pen) (o q : List ℕ) (x : Body) → FilePut lay j lengths bytes d p o q x → length q ≡ length o
+file-kept lay j lengths bytes d p o q x y = y .kept
+
+pub ruleset entered = (ready-entry, put-entry, file-kept, needs)
 
 -- ---- the loop over files
 
@@ -192,71 +161,84 @@ pub ruleset entered = (layable-entry, put-entry, needs)
 unfoldable pub filesOn : Origin → List ℕ → Filing → ℕ
 filesOn from bytes x = ifB (x .on) (totalOf from bytes - x .place .nth) 0
 
-module _ (from : Origin) (quota : ℕ) (set lengths bytes names : List ℕ) where
-  pub filed-none : (g : Place) (r : Reel) (o : List ℕ) → Fileable from quota set lengths bytes names g r
-      → Filed from quota set lengths bytes names g r o o (record { on = true; place = g; reel = r })
-  filed-none g r o y =
+-- where the loop stands
+pub record Along (lay : Bool) (t : Task) (g : Place) (p : Pen) (o q : List ℕ) (x : Filing) : Type 0 where
+  pub filed : Filed lay t g p o q x
+  pub fits : lay ≡ true → Fits (laidFrom true (x .pen) q (layAt t (x .place) (x .pen))) (length q)
+
+fits-on : (lay : Bool) (t : Task) (g : Place) (p : Pen) (o q : List ℕ) (x : Filing) → Filed lay t g p o q x
+    → (lay ≡ true → Fits (laidFrom true p o (layAt t g p)) (length o)) → lay ≡ true → Fits (laidFrom true (x .pen) q (layAt t (x .place) (x .pen))) (length q)
+fits-on lay t g p o q x m f l =
+    let e : laidFrom true (x .pen) q (layAt t (x .place) (x .pen)) ≡ laidFrom true p o (layAt t g p)
+    = subst (λ (b : Bool). laidFrom b (x .pen) q (layAt t (x .place) (x .pen)) ≡ laidFrom b p o (layAt t g p)) l (m .same) in
+    subst (Fits (laidFrom true (x .pen) q (layAt t (x .place) (x .pen)))) (sym (m .kept)) (subst (λ (w : Outcome). Fits w (length o)) (sym e) (f l))
+
+module _ (lay : Bool) (t : Task) (g : Place) (p : Pen) (o : List ℕ) where
+  pub along-none : Fileable lay t g p o → Along lay t g p o o (record { on = true; place = g; pen = p })
+  along-none y =
       record {
-        placed = λ _. y .placed;
-        sound = y .sound;
-        kept = refl;
-        enough = λ _. y .enough;
-        more = λ _. y .more;
-        over = λ z. absurd (false≢true (sym z));
-        same = λ q s z l. l;
+        filed =
+            record {
+              placed = λ _. y .placed;
+              sound = λ _. y .sound;
+              kept = refl;
+              untouched = λ _. refl;
+              enough = λ _. y .enough;
+              more = λ _. y .more;
+              over = λ z. absurd (false≢true (sym z));
+              same = refl;
+            };
+        fits = y .fits;
       }
 
-  pub filed-filed : (g : Place) (r : Reel) (o p : List ℕ) (x : Filing) (q : List ℕ) (y : Filing) → Filed from quota set lengths bytes names g r o p x
-      → OneFiled from quota set lengths bytes names (x .place) (x .reel) p q y → Filed from quota set lengths bytes names g r o q y
-  filed-filed g r o p x q y m n =
-      record {
-        placed = n .filed .placed;
-        sound = n .filed .sound;
-        kept = n .filed .kept ∙ m .kept;
-        enough = n .filed .enough;
-        more = n .filed .more;
-        over = n .filed .over;
-        same = λ t s z l. m .same t s z (n .filed .same t s z l);
-      }
+  module _ (q : List ℕ) (x : Filing) (m : Along lay t g p o q x) where
+    pub along-fileable : x .on ≡ true → Fileable lay t (x .place) (x .pen) q
+    along-fileable on =
+        let s = m .filed .enough on in
+        record { placed = m .filed .placed s; more = m .filed .more on; sound = m .filed .sound s; enough = s; fits = m .fits }
 
-  module _ (g : Place) (r : Reel) (o p : List ℕ) (x : Filing) (m : Filed from quota set lengths bytes names g r o p x) where
-    pub filed-fileable : x .on ≡ true → Fileable from quota set lengths bytes names (x .place) (x .reel)
-    filed-fileable on = record { placed = m .placed (m .enough on); more = m .more on; sound = m .sound; enough = m .enough on }
+    pub along-all : x .on ≡ false → AllFiled lay t g p o q x
+    along-all off = record { filed = m .filed; off = off }
 
-    pub filed-all : x .on ≡ false → AllFiled from quota set lengths bytes names g r o p x
-    filed-all off = record { filed = m; off = off }
+    pub along-kept : length q ≡ length o
+    along-kept = m .filed .kept
 
-    pub files-fall : (q : List ℕ) (y : Filing) → x .on ≡ true → OneFiled from quota set lengths bytes names (x .place) (x .reel) p q y
-        → filesOn from bytes y < filesOn from bytes x
-    unfolding filesOn
-    files-fall q y on n =
-        let k : ifB (x .on) (totalOf from bytes - x .place .nth) 0 ≡ totalOf from bytes - x .place .nth = if-true _ _ _ on in
-        let more : x .place .nth < totalOf from bytes = m .more on in
-        let step : y .place .nth ≡ x .place .nth + 1 = n .next in
-        by-test (y .on)
-        (λ z. let j : ifB (y .on) (totalOf from bytes - y .place .nth) 0 ≡ totalOf from bytes - y .place .nth = if-true _ _ _ z in omega arith)
-        (λ z. let j : ifB (y .on) (totalOf from bytes - y .place .nth) 0 ≡ 0 = if-false _ _ _ z in omega arith)
+    module _ (s : List ℕ) (v : Filing) (n : OneFiled lay t (x .place) (x .pen) q s v) where
+      pub along-more : Along lay t g p o s v
+      along-more =
+          record {
+            filed =
+                record {
+                  placed = n .filed .placed;
+                  sound = n .filed .sound;
+                  kept = n .filed .kept ∙ m .filed .kept;
+                  untouched = λ l. n .filed .untouched l ∙ m .filed .untouched l;
+                  enough = n .filed .enough;
+                  more = n .filed .more;
+                  over = n .filed .over;
+                  same = n .filed .same ∙ m .filed .same;
+                };
+            fits = fits-on lay t (x .place) (x .pen) q s v (n .filed) (m .fits);
+          }
 
-pub ruleset files = (filed-none, filed-filed, filed-fileable, filed-all, files-fall, needs)
+      pub files-fall : x .on ≡ true → filesOn (t .from) (t .bytes) v < filesOn (t .from) (t .bytes) x
+      unfolding filesOn
+      files-fall on =
+          let k : ifB (x .on) (totalOf (t .from) (t .bytes) - x .place .nth) 0 ≡ totalOf (t .from) (t .bytes) - x .place .nth = if-true _ _ _ on in
+          let more : x .place .nth < totalOf (t .from) (t .bytes) = m .filed .more on in
+          let step : v .place .nth ≡ x .place .nth + 1 = n .next in
+          by-test (v .on)
+          (λ z. let j : ifB (v .on) (totalOf (t .from) (t .bytes) - v .place .nth) 0 ≡ totalOf (t .from) (t .bytes) - v .place .nth = if-true _ _ _ z in omega arith)
+          (λ z. let j : ifB (v .on) (totalOf (t .from) (t .bytes) - v .place .nth) 0 ≡ 0 = if-false _ _ _ z in omega arith)
 
--- ---- what a legal sheet has
-
-one-name : (s : Sheet) → legalSheet s ≡ true → 1 ≤ length (s .names)
-unfolding legalSheet legalNames
-one-name s =
-    both (legalQuota (s .quota)) _
-    (λ _ b. both (ifB (leb 1 (length (s .names))) _ false) _ (λ n _. both (leb 1 (length (s .names))) _ (λ one _. leb-true _ _ one) n) b)
-
-pub sheet-named : (s : Sheet) (names : List ℕ) → s .names ≡ inParts 6 names → legalSheet s ≡ true → 0 < length names
-sheet-named s [] e h =
-    let one : 1 ≤ length (s .names) = one-name s h in
-    let none : length (s .names) ≡ 0 = ap length (e ∙ parts-none 6) in
-    absurd (omega arith)
-sheet-named s (n ∷ ns) e h = omega arith
+pub ruleset files = (along-none, along-fileable, along-all, along-kept, along-more, files-fall, needs)
 
 -- ---- where the file comes from
 
-module _ (image : Bool) (files counts : List ℕ) (quota : ℕ) (set lengths bytes names : List ℕ) (g : Place) (r : Reel) where
+module _ (image : Bool) (files counts set lengths bytes rooms names : List ℕ) (lay : Bool) (g : Place) (p : Pen) (o : List ℕ) where
+  abbrev by : Origin → Task
+  by from = task from set lengths bytes rooms names
+
   is-read : image ≡ true → originOf image files counts ≡ read
   unfolding originOf
   is-read e = if-true _ _ _ e
@@ -265,40 +247,58 @@ module _ (image : Bool) (files counts : List ℕ) (quota : ℕ) (set lengths byt
   unfolding originOf
   is-listed e = if-false _ _ _ e
 
-  pub fileable-read : image ≡ true → Fileable (originOf image files counts) quota set lengths bytes names g r → Fileable read quota set lengths bytes names g r
-  fileable-read e y = subst (λ (f : Origin). Fileable f quota set lengths bytes names g r) (is-read e) y
+  pub fileable-read : image ≡ true → Fileable lay (by (originOf image files counts)) g p o → Fileable lay (by read) g p o
+  fileable-read e y = subst (λ (f : Origin). Fileable lay (by f) g p o) (is-read e) y
 
-  pub fileable-listed : image ≡ false → Fileable (originOf image files counts) quota set lengths bytes names g r
-      → Fileable (listed files counts) quota set lengths bytes names g r
-  fileable-listed e y = subst (λ (f : Origin). Fileable f quota set lengths bytes names g r) (is-listed e) y
+  pub fileable-listed : image ≡ false → Fileable lay (by (originOf image files counts)) g p o → Fileable lay (by (listed files counts)) g p o
+  fileable-listed e y = subst (λ (f : Origin). Fileable lay (by f) g p o) (is-listed e) y
 
-  pub filed-read : (o p : List ℕ) (x : Filing) → image ≡ true → OneFiled read quota set lengths bytes names g r o p x
-      → OneFiled (originOf image files counts) quota set lengths bytes names g r o p x
-  filed-read o p x e y = subst (λ (f : Origin). OneFiled f quota set lengths bytes names g r o p x) (sym (is-read e)) y
+  pub filed-read : (q : List ℕ) (x : Filing) → image ≡ true → OneFiled lay (by read) g p o q x → OneFiled lay (by (originOf image files counts)) g p o q x
+  filed-read q x e y = subst (λ (f : Origin). OneFiled lay (by f) g p o q x) (sym (is-read e)) y
 
-  pub filed-listed : (o p : List ℕ) (x : Filing) → image ≡ false → OneFiled (listed files counts) quota set lengths bytes names g r o p x
-      → OneFiled (originOf image files counts) quota set lengths bytes names g r o p x
-  filed-listed o p x e y = subst (λ (f : Origin). OneFiled f quota set lengths bytes names g r o p x) (sym (is-listed e)) y
+  pub filed-listed : (q : List ℕ) (x : Filing) → image ≡ false → OneFiled lay (by (listed files counts)) g p o q x
+      → OneFiled lay (by (originOf image files counts)) g p o q x
+  filed-listed q x e y = subst (λ (f : Origin). OneFiled lay (by f) g p o q x) (sym (is-listed e)) y
 
-pub ruleset origins = (fileable-read, fileable-listed, filed-read, filed-listed, needs)
+pub one-kept : (lay : Bool) (t : Task) (g : Place) (p : Pen) (o q : List ℕ) (x : Filing) → OneFiled lay t g p o q x → length q ≡ length o
+one-kept lay t g p o q x y = y .filed .kept
 
--- ---- the beginning and the end of the set
+pub ruleset origins = (fileable-read, fileable-listed, filed-read, filed-listed, one-kept, needs)
 
-pub head-put : (o p : List ℕ) (r : ℕ) (n names q : List ℕ) (s : ℕ) → Wrote o 0 head p r → n ≡ part 0 6 names → Wrote p r (encode (block (madeVolume n) ∷ [])) q s
-    → Wrote o 0 (head ++ encode (block (madeVolume (part 0 6 names)) ∷ [])) q s
-head-put o p r n names q s w e v =
-    wrote-wrote o 0 head p r _ q s w (subst (λ (k : List ℕ). Wrote p r (encode (block (madeVolume k) ∷ [])) q s) e v)
+-- ---- the end of the set
 
-pub ruleset heads = (head-put, needs)
+abbrev closedSet : Pen → Pen
+closedSet p =
+    record { at = p .at + 6; used = 0; room = p .room; next = p .next; section = p .section; count = p .count; on = false; short = false }
 
-pub set-ended-short : (r : Reel) (o : List ℕ) → r .short ≡ true → SetEnded r o o r
-set-ended-short r o z = record { short = refl; wrote = λ q. absurd (false≢true (sym q ∙ z)) }
+module _ (lay : Bool) (p : Pen) (o : List ℕ) (y : Closing lay p (length o)) where
+  pub closed-short : p .short ≡ true → Closed lay p o o p
+  closed-short s = record { kept = refl; untouched = λ _. refl; same = laid-short lay p o _ s ∙ sym (laid-short lay p o _ s) }
 
-pub set-ended : (r : Reel) (o p : List ℕ) (at : ℕ) → r .short ≡ false → Wrote o (r .at) (encode (mark ∷ reelEnd ∷ [])) p at
-    → SetEnded r o p (record { at = at; section = r .section; count = r .count; room = r .room; name = r .name; short = false })
-set-ended r o p at z w = record { short = sym z; wrote = λ _. w }
+  module _ (s : p .short ≡ false) where
+    pub closing-room : lay ≡ true → p .at + 6 ≤ length o
+    closing-room l = y .room l s
 
-pub ruleset setEnds = (set-ended-short, set-ended, needs)
+    pub closing-fits : FitsIn w64 (p .at + 6)
+    closing-fits = record { fits = omega (arith, y .place s) }
+
+    end-room : lay ≡ true → p .at + length (encode (mark ∷ reelEnd ∷ [])) ≤ length o
+    end-room l = let r = y .room l s in omega (arith, length-reel-end)
+
+    module _ (q : List ℕ) (e : q ≡ inkAt lay o (p .at) (encode (mark ∷ reelEnd ∷ []))) where
+      pub closed-kept : length q ≡ length o
+      closed-kept = ap length e ∙ ink-length lay o (p .at) (encode (mark ∷ reelEnd ∷ [])) end-room
+
+      pub closed-by : Closed lay p o q (closedSet p)
+      unfolding put
+      closed-by =
+          record {
+            kept = closed-kept;
+            untouched = λ l. e ∙ ink-none lay o (p .at) (encode (mark ∷ reelEnd ∷ [])) l;
+            same = laid-items lay p (closedSet p) o q (mark ∷ reelEnd ∷ []) (laid []) 6 s refl refl length-reel-end e closing-room;
+          }
+
+pub ruleset closings = (closed-short, closing-room, closing-fits, closed-kept, closed-by, needs)
 
 -- behind the last file there is none
 pub no-counts : (es : List (List ℕ)) (ls bs : List ℕ) → filesFrom es [] ls bs ≡ []
@@ -313,53 +313,171 @@ files-none (listed files counts) lengths bytes g h =
     ∙ no-counts (inParts 46 (drop (46 * g .nth) files)) (drop (g .first) lengths) (drop (g .byte) bytes)
 files-none read lengths bytes g h = drop-of-length-le (content bytes .files) h
 
-module _ (from : Origin) (set lengths bytes : List ℕ) (g : Place) (quota : ℕ) (names : List ℕ) (y : Writable from set lengths bytes g quota names) where
-  abbrev begun : ℕ → Reel
-  begun at = record { at = at; section = 1; count = 0; room = quota; name = 6; short = false }
+-- ---- the beginning of the set
 
-  pub start-fileable : (o : List ℕ) (bs p : List ℕ) (at : ℕ) → Wrote o 0 bs p at → Fileable from quota set lengths bytes names g (begun at)
-  start-fileable o bs p at w =
-      record {
-        placed = y .placed;
-        more = y .some;
-        sound =
-            record {
-              place = omega (arith, w .place);
-              least = y .least;
-              most = y .most;
-              blocks = omega arith;
-              begun = omega arith;
-              sections = omega arith;
-              reels = omega arith;
-              few = y .few;
-            };
-        enough = refl;
-      }
+length-head : (name : List ℕ) → length (headOf name) ≡ 88
+unfolding headOf
+length-head name = length-append head (encode (block (madeVolume name) ∷ [])) ∙ ap (λ (n : ℕ). 5 + n) (length-first-reel name)
+
+pub head-puts : (lay : Bool) (o names name q : List ℕ) → lay ≡ true → name ≡ part 0 6 names → Puts o 0 (head ++ encode (block (madeVolume name) ∷ [])) q
+    → q ≡ inkAt lay o 0 (headOf (part 0 6 names))
+unfolding headOf
+head-puts lay o names name q l e p =
+    ink-puts lay o 0 (head ++ encode (block (madeVolume (part 0 6 names)) ∷ [])) q l
+    (subst (λ (n : List ℕ). Puts o 0 (head ++ encode (block (madeVolume n) ∷ [])) q) e p)
+
+pub ruleset heads = (head-puts, ink-not, room-laid, puts-kept, needs)
+
+pub head-kept : (lay : Bool) (o name q : List ℕ) → (lay ≡ true → 88 ≤ length o) → q ≡ inkAt lay o 0 (headOf name) → length q ≡ length o
+head-kept lay o name q r e = ap length e ∙ ink-length lay o 0 (headOf name) (λ l. let m = r l in omega (arith, length-head name))
+
+pub first-room : (rooms : List ℕ) (n : ℕ) → 1 ≤ length rooms → n ≡ getD rooms 0 0 → firstPen n ≡ firstPen (getD rooms 0 0)
+first-room rooms n h e = ap firstPen e
+
+pub first-index : (rooms : List ℕ) → 1 ≤ length rooms → 0 < length rooms
+first-index rooms h = omega arith
+
+pub ruleset setBegins = (head-kept, first-room, first-index, needs)
+
+-- the head, the first reel's label, and what follows
+head-same : (lay : Bool) (o q name : List ℕ) (room : ℕ) (l : Laid) → (lay ≡ true → 88 ≤ length o) → q ≡ inkAt lay o 0 (headOf name)
+    → laidFrom lay (firstPen room) q l ≡ imageFrom lay o (put (block (madeVolume name) ∷ []) l)
+unfolding laidFrom imageFrom imaged inked outcome inkedAt behind put headOf inkAt ifB
+head-same lay o q name room short r e = refl
+head-same true o q name room (laid xs) r e =
+    let long : length (head ++ encode (block (madeVolume name) ∷ [])) ≡ 88 = length-head name in
+    let place : 88 ≡ 0 + length (head ++ encode (block (madeVolume name) ∷ [])) = omega arith in
+    let all : (head ++ encode (block (madeVolume name) ∷ [])) ++ encode xs ≡ head ++ encode (block (madeVolume name) ∷ xs)
+    = append-assoc head (encode (block (madeVolume name) ∷ [])) (encode xs) ∙ ap (λ (s : List ℕ). head ++ s) (sym (encode-append (block (madeVolume name) ∷ []) xs)) in
+    let bytes : putAt q 88 (encode xs) ≡ putAt o 0 (head ++ encode (block (madeVolume name) ∷ xs))
+    = ap (λ (s : List ℕ). putAt s 88 (encode xs)) e
+    ∙ ap (λ (n : ℕ). putAt (putAt o 0 (head ++ encode (block (madeVolume name) ∷ []))) n (encode xs)) place
+    ∙ put-put o 0 (head ++ encode (block (madeVolume name) ∷ [])) (encode xs) (let m = r refl in omega arith)
+    ∙ ap (putAt o 0) all in
+    let end : 88 + length (encode xs) ≡ 0 + length (head ++ encode (block (madeVolume name) ∷ xs))
+    = omega (arith, ap length (sym all) ∙ length-append (head ++ encode (block (madeVolume name) ∷ [])) (encode xs)) in
+    λ i. record { out = bytes i; end = end i; short = false }
+head-same false o q name room (laid xs) r e =
+    let long : length (head ++ encode (block (madeVolume name) ∷ [])) ≡ 88 = length-head name in
+    let all : (head ++ encode (block (madeVolume name) ∷ [])) ++ encode xs ≡ head ++ encode (block (madeVolume name) ∷ xs)
+    = append-assoc head (encode (block (madeVolume name) ∷ [])) (encode xs) ∙ ap (λ (s : List ℕ). head ++ s) (sym (encode-append (block (madeVolume name) ∷ []) xs)) in
+    let end : 88 + length (encode xs) ≡ 0 + length (head ++ encode (block (madeVolume name) ∷ xs))
+    = omega (arith, ap length (sym all) ∙ length-append (head ++ encode (block (madeVolume name) ∷ [])) (encode xs)) in
+    λ i. record { out = e i; end = end i; short = false }
+
+-- and it has room
+head-room : (o name : List ℕ) (l : Laid) → Fits (imageFrom true o (put (block (madeVolume name) ∷ []) l)) (length o) → 88 ≤ length o
+unfolding imageFrom imaged outcome behind put ifB
+head-room o name short f = absurd (false≢true (sym (f .given)))
+head-room o name (laid xs) f =
+    let end : 0 + length (head ++ encode (block (madeVolume name) ∷ xs)) ≤ length o = f .within in
+    let one : length (encode (block (madeVolume name) ∷ xs)) ≡ length (encode (block (madeVolume name) ∷ [])) + length (encode xs)
+    = ap length (encode-append (block (madeVolume name) ∷ []) xs) ∙ length-append (encode (block (madeVolume name) ∷ [])) (encode xs) in
+    let long : length (head ++ encode (block (madeVolume name) ∷ xs)) ≡ 5 + length (encode (block (madeVolume name) ∷ xs)) = length-append head (encode (block (madeVolume name) ∷ xs)) in
+    omega (arith, length-first-reel name)
+
+module _ (lay : Bool) (t : Task) (g : Place) (o : List ℕ) (y : SetReady lay t g o) where
+  abbrev name : List ℕ
+  name = part (6 * 0) 6 (t .names)
+
+  abbrev first : ℕ
+  first = getD (t .rooms) 0 0
+
+  pub set-one : 1 ≤ length (t .rooms)
+  set-one = y .writable .one
 
   -- the whole set is its first reel's label and all files
-  set-laid : put (block (madeVolume (part 0 6 names)) ∷ []) (layFiles quota set 1 quota (namesAt names 6) (filesAt from lengths bytes g))
-      ≡ lay (sheetAt from set lengths bytes g quota names)
-  unfolding lay sheetAt layOn namesAt
-  set-laid = ap (layOn quota (record { set = set; files = filesAt from lengths bytes g })) (sym (names-some names 0 (y .named)))
+  set-is : put (block (madeVolume name) ∷ []) (layAt t g (firstPen first)) ≡ setLaid t g
+  unfolding setLaid layOn meaningAt layAt
+  set-is =
+      ap (λ (n : ℕ). put (block (madeVolume name) ∷ []) (layFiles (t .set) (suc n) first (reelsAt (t .rooms) (t .names) (0 + 1)) (filesAt (t .from) (t .lengths) (t .bytes) g))) (y .writable .first)
+      ∙ ap (layOn (record { set = t .set; files = filesAt (t .from) (t .lengths) (t .bytes) g }))
+      (sym (reels-some (t .rooms) (t .names) 0 (y .writable .reels) (omega (arith, y .writable .one))))
 
-  pub set-put : (o p : List ℕ) (at : ℕ) (q : List ℕ) (x : Filing) (s : List ℕ) (v : Reel)
-      → Wrote o 0 (head ++ encode (block (madeVolume (part 0 6 names)) ∷ [])) p at
-      → AllFiled from quota set lengths bytes names g (begun at) p q x → SetEnded (x .reel) q s v
-      → Sheeted (lay (sheetAt from set lengths bytes g quota names)) o s (v .at) (v .short)
-  unfolding layAt layFiles
-  set-put o p at q x s v w m n =
-      let last : Lays (layAt from quota set lengths bytes names (x .place) (x .reel)) q (x .reel .at) s (v .at) (v .short)
-      = by-test (x .reel .short)
-      (λ z. lays-of-short _ q (x .reel .at) s (v .at) (v .short) (if-true _ _ _ z) (n .short ∙ z))
-      (λ z.
-      lays-of-laid _ (mark ∷ reelEnd ∷ []) q (x .reel .at) s (v .at) (v .short)
-      (if-false _ _ _ z
-      ∙ ap (layFiles quota set (suc (x .place .nth)) (x .reel .room) (namesAt names (x .reel .name))) (files-none from lengths bytes (x .place) (m .filed .over (m .off) z)))
-      (n .short ∙ z) (n .wrote z)) in
-      let all : Lays (layFiles quota set 1 quota (namesAt names 6) (filesAt from lengths bytes g)) p at s (v .at) (v .short)
-      = lays-same _ _ p at s (v .at) (v .short)
-      (if-false _ _ _ refl ∙ ap (λ (k : ℕ). layFiles quota set (suc k) quota (namesAt names 6) (filesAt from lengths bytes g)) (y .first))
-      (m .filed .same s (v .at) (v .short) last) in
-      subst (λ (l : Laid). Sheeted l o s (v .at) (v .short)) set-laid (sheeted-put o (block (madeVolume (part 0 6 names)) ∷ []) p at _ s (v .at) (v .short) w all)
+  pub set-room : lay ≡ true → 88 ≤ length o
+  set-room l = head-room o name (layAt t g (firstPen first)) (subst (λ (k : Laid). Fits (imageFrom true o k) (length o)) (sym set-is) (y .fits l))
 
-pub ruleset sets = (start-fileable, set-put, needs)
+  module _ (q : List ℕ) (p : Pen) (e : p ≡ firstPen first) (h : q ≡ inkAt lay o 0 (headOf name)) where
+    begun-same : laidFrom lay p q (layAt t g p) ≡ imageFrom lay o (setLaid t g)
+    begun-same =
+        ap (λ (r : Pen). laidFrom lay r q (layAt t g r)) e
+        ∙ head-same lay o q name first (layAt t g (firstPen first)) set-room h
+        ∙ ap (imageFrom lay o) set-is
+
+    set-kept : length q ≡ length o
+    set-kept = head-kept lay o name q set-room h
+
+    first-sound : Between (t .rooms) (t .names) 0 (firstPen first)
+    first-sound =
+        let r = y .writable .reels in
+        let some : 0 < length (t .rooms) = omega (arith, y .writable .one) in
+        record {
+          reels = r;
+          blocks = omega (arith, r .most 0 some);
+          begun = omega arith;
+          sections = omega arith;
+          within = y .writable .one;
+          turn = omega arith;
+          used = omega arith;
+          place = omega (arith, r .most 0 some);
+          on = λ z. absurd (false≢true z);
+        }
+
+    pub set-fileable : Fileable lay t g p q
+    set-fileable =
+        record {
+          placed = y .writable .placed;
+          more = y .writable .some;
+          sound =
+              subst (λ (n : ℕ). Between (t .rooms) (t .names) n p) (sym (y .writable .first)) (subst (Between (t .rooms) (t .names) 0) (sym e) first-sound);
+          enough = ap (λ (r : Pen). r .short) e;
+          fits =
+              λ l.
+              let s : laidFrom true p q (layAt t g p) ≡ imageFrom true o (setLaid t g)
+              = subst (λ (b : Bool). laidFrom b p q (layAt t g p) ≡ imageFrom b o (setLaid t g)) l begun-same in
+              subst (Fits (laidFrom true p q (layAt t g p))) (sym set-kept) (subst (λ (w : Outcome). Fits w (length o)) (sym s) (y .fits l));
+        }
+
+    module _ (u : List ℕ) (x : Filing) (m : AllFiled lay t g p q u x) where
+      last-is : x .pen .short ≡ false → layAt t (x .place) (x .pen) ≡ laid (mark ∷ reelEnd ∷ [])
+      unfolding layAt layFiles
+      last-is s =
+          ap (layFiles (t .set) (suc (x .place .nth)) (x .pen .room) (reelsAt (t .rooms) (t .names) (x .pen .next)))
+          (files-none (t .from) (t .lengths) (t .bytes) (x .place) (m .filed .over (m .off) s))
+
+      last-same : laidFrom lay (x .pen) u (laid (mark ∷ reelEnd ∷ [])) ≡ imageFrom lay o (setLaid t g)
+      last-same =
+          by-test (x .pen .short) (λ s. laid-short lay (x .pen) u _ s ∙ sym (laid-short lay (x .pen) u (layAt t (x .place) (x .pen)) s))
+          (λ s. ap (laidFrom lay (x .pen) u) (sym (last-is s)))
+          ∙ m .filed .same
+          ∙ begun-same
+
+      all-kept : length u ≡ length o
+      all-kept = m .filed .kept ∙ set-kept
+
+      pub set-closing : Closing lay (x .pen) (length u)
+      unfolding put
+      set-closing =
+          record {
+            place = λ s. let k = m .filed .sound s in omega (arith, k .place, k .within, k .reels .few, k .turn);
+            room =
+                λ l s.
+                let e : laidFrom true (x .pen) u (laid (mark ∷ reelEnd ∷ [])) ≡ imageFrom true o (setLaid t g)
+                = subst (λ (b : Bool). laidFrom b (x .pen) u (laid (mark ∷ reelEnd ∷ [])) ≡ imageFrom b o (setLaid t g)) l last-same in
+                laid-room (x .pen) u (mark ∷ reelEnd ∷ []) (laid []) 6 s length-reel-end
+                (subst (Fits (laidFrom true (x .pen) u (laid (mark ∷ reelEnd ∷ [])))) (sym all-kept) (subst (λ (w : Outcome). Fits w (length o)) (sym e) (y .fits l)));
+          }
+
+      module _ (v : List ℕ) (r : Pen) (z : Closed lay (x .pen) u v r) where
+        pub set-all-kept : length v ≡ length o
+        set-all-kept = z .kept ∙ all-kept
+
+        pub sheeted : Sheeted lay (setLaid t g) o v r
+        sheeted =
+            record {
+              untouched = λ l. z .untouched l ∙ m .filed .untouched l ∙ h ∙ ink-none lay o 0 (headOf name) l;
+              kept = set-all-kept;
+              same = z .same ∙ last-same;
+            }
+
+pub ruleset sets = (set-one, set-room, set-fileable, set-closing, set-all-kept, sheeted, needs)

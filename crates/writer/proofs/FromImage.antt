@@ -2,11 +2,10 @@
 use mathlib.Core.Path.{_≡_, refl, sym, ap, ap₂, _∙_, subst}
 use mathlib.Core.Bool.{Bool, true, false, false≢true}
 use mathlib.Core.List.{List, [], _∷_, _++_, append-nil, append-assoc}
-use Prim.Native.Nat.{ℕ, _+_, _-_, _/_, _≤_, _<_}
+use Prim.Native.Nat.{ℕ, _+_, _-_, _≤_, _<_}
 use native.Mathlib.Omega.{arith}
 use native.Mathlib.Numerals.{add-one}
 use borrow.Author.Needs.{needs}
-use borrow.Author.Tests.{ltb-false}
 use lib.ListN.{length, drop, getD, replicate, length-append, length-drop, drop-of-length-le}
 use lib.Seq.{drop-cons}
 use Rattle.base.specs.If.{if-true, if-false, if-case}
@@ -15,78 +14,34 @@ use Rattle.base.proofs.Parts.{length-part, put-put}
 use Rattle.label.specs.Field.{setOf}
 use Rattle.volume.specs.Run.{imageVerdict}
 use Rattle.volume.specs.Meaning.{File, fieldsFrom, content}
-use Rattle.sheet.specs.Legal.{formatFrom, blockLengthFrom, legalFiles, legalSheet, legalQuota, legalNames}
+use Rattle.output.specs.declared.Written.{Written as Answer}
+use Rattle.output.specs.Output.{Answers}
+use Rattle.sheet.specs.Legal.{legalFiles}
 use Rattle.sheet.specs.Flat.{inParts, reelsNumber}
-use Rattle.sheet.proofs.Legality.{accepted-sheet}
 use Rattle.content.specs.File.{firstFile, nextFile, fileBehind}
 use Rattle.content.specs.Records.{recordsAt}
 use Rattle.content.specs.Walked.{endOf, FileIs, Filed as Met}
-use Rattle.content.specs.declared.Walk.{Walk}
 use Rattle.content.specs.declared.FileAt.{FileAt}
 use Rattle.content.specs.declared.NextFile.{NextFile}
 use Rattle.content.specs.declared.NextFile.the-variants.{At, Nowhere}
 use Rattle.content.proofs.Walked.{files-all, set-first}
 use Rattle.content.proofs.Records.{walks-records}
-use Rattle.output.specs.declared.Written.{Written as Answer}
-use Rattle.output.specs.Output.{Answers}
+use Rattle.writing.specs.Write.{writeSheet}
+use Rattle.writing.specs.Rewrite.{sheetFrom}
+use Rattle.writing.proofs.RoundTrip.{LegalSheet, legal-sheet}
+use Rattle.writing.proofs.Rewriting.{reels-legal, image-legal}
+use Rattle.writer.specs.declared.pen.Pen.{Pen}
 use Rattle.writer.specs.declared.source.Cursor.{Cursor}
-use Rattle.writer.specs.declared.reel.Reel.{Reel}
-use Rattle.writer.specs.declared.reel.Laying.{Laying}
+use Rattle.writer.specs.declared.body.Body.{Body}
 use Rattle.writer.specs.declared.set.Place.{Place}
 use Rattle.writer.specs.declared.set.Filing.{Filing}
-use Rattle.writer.specs.Pack.{startOf}
-use Rattle.writer.specs.Write.{writeSheet}
-use Rattle.writer.specs.Rewrite.{sheetFrom}
-use Rattle.writer.specs.Output.{Wrote}
-use Rattle.writer.specs.Source.{laterAt, leftAt, Good, Opened}
-use Rattle.writer.specs.Reels.{Layable, FilePut}
-use Rattle.writer.specs.Sets.{Origin, read, originOf, totalOf, filesAt, Placed, Walked, Over, followed, behindRead, Fileable, OneFiled, sheetAt, Writable}
-use Rattle.writer.proofs.RoundTrip.{LegalSheet, legal-sheet}
-use Rattle.writer.proofs.Sources.{image-end, image-stops}
-use Rattle.writer.proofs.Openings.{image-good}
-use Rattle.writer.proofs.Filing.{opened-left, legal-others, file-layable, one-filed, sheet-named}
-
--- ---- the records of a file opened
-
-abbrev unopened : Walk → Cursor
-unopened w =
-    record {
-      at = 0;
-      here = 0;
-      left = 0;
-      next = w .at;
-      stop = w .left;
-      rest = 0;
-      offset = w .offset;
-      size = w .size;
-      format = w .format;
-      begun = 0;
-      live = true;
-      image = true;
-    }
-
-pub walk-good : (lengths bytes : List ℕ) (w : Walk) → endOf bytes w ≤ length bytes → Good lengths bytes (unopened w)
-walk-good lengths bytes w e =
-    image-good lengths bytes (unopened w) refl (record { inside = omega arith; whole = λ _. refl; further = λ z. absurd (omega arith) }) e
-    (λ z. absurd (false≢true (sym z)))
-
-pub walk-opened : (lengths bytes : List ℕ) (w : Walk) (d : Cursor) → Opened lengths bytes (unopened w) d → Walked lengths bytes w d
-unfolding laterAt
-walk-opened lengths bytes w d o =
-    record {
-      good = o .good;
-      end = o .end ∙ image-end lengths bytes (unopened w) refl;
-      left = opened-left lengths bytes (unopened w) d (recordsAt bytes w) o (if-true _ _ _ refl);
-    }
-
-pub ruleset walks = (walk-good, walk-opened, needs)
+use Rattle.writer.specs.Pass.{job}
+use Rattle.writer.specs.Source.{walkOf, recordsOf, endAt, Good}
+use Rattle.writer.specs.Files.{FileReady, FilePut}
+use Rattle.writer.specs.Sets.{Origin, read, originOf, totalOf, filesAt, Placed, walkAt, Over, followed, behindRead, Task, task, Fileable, OneFiled, sheetAt, Ordered}
+use Rattle.writer.proofs.Filing.{legal-others, file-ready, one-filed, file-kept}
 
 -- ---- the fields of a file
-
-pub part-set : (e s made : List ℕ) (at r : ℕ) → length e ≡ 46 → at + length s ≤ 46 → Wrote e at s made r → made ≡ putAt e at s
-part-set e s made at r l h w = w .done (omega (arith, w .place)) (omega (arith, w .place))
-
-pub ruleset settings = (part-set, needs)
 
 -- what is put over the whole of a list
 all-put : (o bs : List ℕ) → length bs ≡ length o → putAt o 0 bs ≡ bs
@@ -145,7 +100,11 @@ met-first s h d ds (f, e, is, rest) =
     let same : f ≡ h = cc in
     subst (λ (g : FileAt). FileIs s g d × Met s (nextFile s g) ds) same (is, rest)
 
-module _ (quota : ℕ) (set lengths bytes names : List ℕ) (g : Place) (r : Reel) (y : Fileable read quota set lengths bytes names g r) where
+module _ (lay : Bool) (set lengths bytes rooms names : List ℕ) (g : Place) (p : Pen) (o : List ℕ)
+    (y : Fileable lay (task read set lengths bytes rooms names) g p o) where
+  abbrev t : Task
+  t = task read set lengths bytes rooms names
+
   abbrev all : List File
   all = content bytes .files
 
@@ -178,9 +137,6 @@ module _ (quota : ℕ) (set lengths bytes names : List ℕ) (g : Place) (r : Ree
   pub second-within : g .file .second + 80 ≤ length bytes
   second-within = is .secondWithin
 
-  pub walk-within : endOf bytes (g .file .walk) ≤ length bytes
-  walk-within = is .ends
-
   pub read-small : g .nth < 64
   unfolding totalOf
   read-small = omega (arith, more, y .placed .few)
@@ -188,133 +144,115 @@ module _ (quota : ℕ) (set lengths bytes names : List ℕ) (g : Place) (r : Ree
   behind-long : length (drop (g .nth + 1) all) ≡ length all - (g .nth + 1)
   behind-long = length-drop (g .nth + 1) all
 
-  module _ (c : Cursor) (n : Walked lengths bytes (g .file .walk) c) where
-    begun : leftAt lengths bytes c ≡ startOf (d .records)
-    begun = n .left ∙ ap startOf (walks-records bytes (g .file .walk) (d .records) (is .walks))
+  module _ (c : Cursor) (n : c ≡ walkAt (g .file .walk)) where
+    image : c .image ≡ true
+    image = ap (λ (x : Cursor). x .image) n
 
-    pub read-layable : Layable (formatFrom entry) (blockLengthFrom entry) lengths bytes quota names c r
-    read-layable = file-layable read set lengths bytes g entry (d .records) _ (y .placed) files-first c (n .good) begun quota names r (y .sound) (y .enough)
+    begun : recordsOf lengths bytes c ≡ d .records
+    unfolding recordsOf
+    begun =
+        if-true _ _ _ image
+        ∙ ap (λ (x : Cursor). recordsAt bytes (walkOf x)) n
+        ∙ walks-records bytes (g .file .walk) (d .records) (is .walks)
 
-    -- its records are passed, unless a name was lacking
-    pub read-over : (o p : List ℕ) (x : Laying) → FilePut lengths bytes quota set entry (g .nth + 1) names c r o p x → Over bytes (g .file) (x .cur) (x .reel)
-    read-over o p x m =
+    ends : endAt lengths bytes c ≡ endOf bytes (g .file .walk)
+    unfolding endAt
+    ends = if-true _ _ _ image ∙ ap (λ (x : Cursor). endOf bytes (walkOf x)) n
+
+    good : Good lengths bytes c
+    good =
         record {
-          within = λ z. let at = stands z in omega (arith, is .ends);
-          next = λ z. ap (fileBehind bytes (g .file)) (stands z) ∙ is .behind;
-        }
-      where
-        stands : x .reel .short ≡ false → x .cur .next + x .cur .stop ≡ endOf bytes (g .file .walk)
-        stands z = image-stops (x .cur) _ (m .end z ∙ n .end)
-
-    -- a place behind this file
-    placed-on : (f : FileAt) → (g .nth + 1 < length all → Met bytes (At f) (drop (g .nth + 1) all))
-        → Placed read set lengths bytes (record { nth = g .nth + 1; first = 0; byte = 0; file = f })
-    unfolding totalOf filesAt
-    placed-on f m =
-        record {
-          few = y .placed .few;
-          within = omega (arith, more);
-          stands = m;
-          legal = legal-others read set lengths bytes g entry (d .records) _ (y .placed) files-first;
+          order = λ z. absurd (false≢true (sym z ∙ image));
+          within = λ z. absurd (false≢true (sym z ∙ image));
+          inside = omega (arith, ends, is .ends);
         }
 
-    next-filed : (o p : List ℕ) (x : Laying) (h : NextFile) → FilePut lengths bytes quota set entry (g .nth + 1) names c r o p x → x .reel .short ≡ false → nextFile bytes (g .file) ≡ h
-        → OneFiled read quota set lengths bytes names g r o p (behindRead (g .file) (g .nth) (x .reel) h)
-    unfolding behindRead totalOf filesAt
-    next-filed o p x (At h) m z e =
-        let there : Met bytes (At h) (drop (g .nth + 1) all) = subst (λ (f : NextFile). Met bytes f (drop (g .nth + 1) all)) e (both .1) in
-        let some : 0 < length (drop (g .nth + 1) all) = met-some bytes h (drop (g .nth + 1) all) there in
-        one-filed read set lengths bytes g entry (d .records) _ (y .placed) files-first c (n .good) begun quota names r o p x _ (y .enough) m refl refl (λ _. refl)
-        (λ _. placed-on h (λ _. there)) (λ _. z) (λ _. omega (arith, behind-long)) (λ q. absurd (false≢true (sym q)))
-    next-filed o p x Nowhere m z e =
-        let none : length (drop (g .nth + 1) all) ≡ 0
-        = met-none bytes (drop (g .nth + 1) all) (subst (λ (f : NextFile). Met bytes f (drop (g .nth + 1) all)) e (both .1)) in
-        one-filed read set lengths bytes g entry (d .records) _ (y .placed) files-first c (n .good) begun quota names r o p x _ (y .enough) m refl refl (λ _. refl)
-        (λ _. placed-on (g .file) (λ q. absurd (omega (arith, behind-long)))) (λ q. absurd (false≢true q)) (λ q. absurd (false≢true q))
-        (λ _ _. omega (arith, behind-long))
+    pub read-ready : FileReady lay (job set entry (g .nth + 1) rooms names) lengths bytes c p o
+    read-ready = file-ready t g entry (d .records) _ (y .placed) files-first lay c good begun p o y
 
-    short-filed : (o p : List ℕ) (x : Laying) → FilePut lengths bytes quota set entry (g .nth + 1) names c r o p x → x .reel .short ≡ true
-        → OneFiled read quota set lengths bytes names g r o p (behindRead (g .file) (g .nth) (x .reel) Nowhere)
-    unfolding behindRead
-    short-filed o p x m z =
-        one-filed read set lengths bytes g entry (d .records) _ (y .placed) files-first c (n .good) begun quota names r o p x _ (y .enough) m refl refl
-        (λ q. absurd (false≢true (sym q ∙ z))) (λ q. absurd (false≢true (sym q ∙ z))) (λ q. absurd (false≢true q)) (λ q. absurd (false≢true q))
-        (λ _ q. absurd (false≢true (sym q ∙ z)))
+    module _ (q : List ℕ) (x : Body) (m : FilePut lay (job set entry (g .nth + 1) rooms names) lengths bytes c p o q x) where
+      -- its records are passed, unless a reel is lacking
+      pub read-over : Over bytes (g .file) x
+      read-over =
+          record {
+            within = λ z. omega (arith, m .end z, ends, is .ends);
+            next = λ z. ap (fileBehind bytes (g .file)) (m .end z ∙ ends) ∙ is .behind;
+          }
 
-    pub read-filed : (o p : List ℕ) (x : Laying) (v : Filing) → FilePut lengths bytes quota set entry (g .nth + 1) names c r o p x
-        → v ≡ behindRead (g .file) (g .nth) (x .reel) (followed bytes (g .file) (x .reel)) → OneFiled read quota set lengths bytes names g r o p v
-    unfolding followed
-    read-filed o p x v m e =
-        subst (OneFiled read quota set lengths bytes names g r o p) (sym e)
-        (if-case (λ (h : NextFile). OneFiled read quota set lengths bytes names g r o p (behindRead (g .file) (g .nth) (x .reel) h)) (x .reel .short) Nowhere (nextFile bytes (g .file))
-        (λ z. short-filed o p x m z) (λ z. next-filed o p x (nextFile bytes (g .file)) m z refl))
+      -- a place behind this file
+      placed-on : (f : FileAt) → (g .nth + 1 < length all → Met bytes (At f) (drop (g .nth + 1) all))
+          → Placed read set lengths bytes (record { nth = g .nth + 1; first = 0; byte = 0; file = f })
+      unfolding totalOf filesAt
+      placed-on f w =
+          record {
+            few = y .placed .few;
+            within = omega (arith, more);
+            stands = w;
+            legal = legal-others t g entry (d .records) _ (y .placed) files-first;
+          }
 
-pub ruleset reading = (first-within, second-within, walk-within, read-small, read-layable, read-over, read-filed, needs)
+      next-filed : (h : NextFile) → x .pen .short ≡ false → nextFile bytes (g .file) ≡ h → OneFiled lay t g p o q (behindRead (g .file) (g .nth) (x .pen) h)
+      unfolding behindRead totalOf filesAt
+      next-filed (At h) z e =
+          let there : Met bytes (At h) (drop (g .nth + 1) all) = subst (λ (f : NextFile). Met bytes f (drop (g .nth + 1) all)) e (both .1) in
+          let some : 0 < length (drop (g .nth + 1) all) = met-some bytes h (drop (g .nth + 1) all) there in
+          one-filed t g entry (d .records) _ (y .placed) files-first lay c good begun p o q x _ m refl refl (λ _. refl) (λ _. placed-on h (λ _. there)) (λ _. z)
+          (λ _. omega (arith, behind-long)) (λ w. absurd (false≢true (sym w)))
+      next-filed Nowhere z e =
+          let none : length (drop (g .nth + 1) all) ≡ 0
+          = met-none bytes (drop (g .nth + 1) all) (subst (λ (f : NextFile). Met bytes f (drop (g .nth + 1) all)) e (both .1)) in
+          one-filed t g entry (d .records) _ (y .placed) files-first lay c good begun p o q x _ m refl refl (λ _. refl)
+          (λ _. placed-on (g .file) (λ w. absurd (omega (arith, behind-long)))) (λ w. absurd (false≢true w)) (λ w. absurd (false≢true w))
+          (λ _ _. omega (arith, behind-long))
+
+      short-filed : x .pen .short ≡ true → OneFiled lay t g p o q (behindRead (g .file) (g .nth) (x .pen) Nowhere)
+      unfolding behindRead
+      short-filed z =
+          one-filed t g entry (d .records) _ (y .placed) files-first lay c good begun p o q x _ m refl refl (λ w. absurd (false≢true (sym w ∙ z)))
+          (λ w. absurd (false≢true (sym w ∙ z))) (λ w. absurd (false≢true w)) (λ w. absurd (false≢true w)) (λ _ w. absurd (false≢true (sym w ∙ z)))
+
+      pub read-filed : (v : Filing) → v ≡ behindRead (g .file) (g .nth) (x .pen) (followed bytes (g .file) (x .pen)) → OneFiled lay t g p o q v
+      unfolding followed
+      read-filed v e =
+          subst (OneFiled lay t g p o q) (sym e)
+          (if-case (λ (h : NextFile). OneFiled lay t g p o q (behindRead (g .file) (g .nth) (x .pen) h)) (x .pen .short) Nowhere (nextFile bytes (g .file))
+          short-filed (λ z. next-filed (nextFile bytes (g .file)) z refl))
+
+pub ruleset reading = (first-within, second-within, read-small, read-ready, read-over, read-filed, file-kept, needs)
 
 -- ---- the parts of a turn
 
-abbrev filing : ℕ → Bool → FileAt → Reel → Filing
-filing i on f r = record { on = on; place = record { nth = i + 1; first = 0; byte = 0; file = f }; reel = r }
+abbrev filing : ℕ → Bool → FileAt → Pen → Filing
+filing i on f p = record { on = on; place = record { nth = i + 1; first = 0; byte = 0; file = f }; pen = p }
 
-pub over-within : (bytes : List ℕ) (f : FileAt) (c : Cursor) (r : Reel) → Over bytes f c r → r .short ≡ false → c .next + c .stop ≤ length bytes
-over-within bytes f c r y z = y .within z
-
-module _ (bytes : List ℕ) (f : FileAt) (i : ℕ) (c : Cursor) (r : Reel) where
-  pub behind-short : r .short ≡ true → filing i false f r ≡ behindRead f i r (followed bytes f r)
+module _ (bytes : List ℕ) (f : FileAt) (i : ℕ) (x : Body) where
+  pub behind-short : x .pen .short ≡ true → filing i false f (x .pen) ≡ behindRead f i (x .pen) (followed bytes f (x .pen))
   unfolding behindRead followed
-  behind-short z = ap (behindRead f i r) (sym (if-true _ _ _ z))
+  behind-short z = ap (behindRead f i (x .pen)) (sym (if-true _ _ _ z))
 
-  module _ (y : Over bytes f c r) (z : r .short ≡ false) (at : ℕ) (n : NextFile) (k : at ≡ c .next + c .stop) (e : n ≡ fileBehind bytes f at) where
-    follows : n ≡ followed bytes f r
+  module _ (y : Over bytes f x) (z : x .pen .short ≡ false) (n : NextFile) (e : n ≡ fileBehind bytes f (x .end)) where
+    follows : n ≡ followed bytes f (x .pen)
     unfolding followed
-    follows = e ∙ ap (fileBehind bytes f) k ∙ y .next z ∙ sym (if-false _ _ _ z)
+    follows = e ∙ y .next z ∙ sym (if-false _ _ _ z)
 
-    pub behind-at : (h : FileAt) → n ≡ At h → filing i true h r ≡ behindRead f i r (followed bytes f r)
+    pub behind-at : (h : FileAt) → n ≡ At h → filing i true h (x .pen) ≡ behindRead f i (x .pen) (followed bytes f (x .pen))
     unfolding behindRead
-    behind-at h q = ap (behindRead f i r) (sym q ∙ follows)
+    behind-at h q = ap (behindRead f i (x .pen)) (sym q ∙ follows)
 
-    pub behind-nowhere : n ≡ Nowhere → filing i false f r ≡ behindRead f i r (followed bytes f r)
+    pub behind-nowhere : n ≡ Nowhere → filing i false f (x .pen) ≡ behindRead f i (x .pen) (followed bytes f (x .pen))
     unfolding behindRead
-    behind-nowhere q = ap (behindRead f i r) (sym q ∙ follows)
+    behind-nowhere q = ap (behindRead f i (x .pen)) (sym q ∙ follows)
 
-pub ruleset behindReads = (over-within, behind-short, behind-at, behind-nowhere, needs)
+pub ruleset behindReads = (behind-short, behind-at, behind-nowhere, needs)
 
 -- ---- what an accepted image, a legal quota and legal names give
-
-pub record Reels (quota : ℕ) (names : List ℕ) : Type 0 where
-  pub few : length names / 6 ≤ 16
-  pub room : legalQuota quota ≡ true
-  pub named : legalNames (inParts 6 names) ≡ true
-
-pub reels-legal : (quota : ℕ) (names : List ℕ) → reelsNumber quota names ≡ 0 → Reels quota names
-unfolding reelsNumber
-reels-legal quota names =
-    if-case Legal _ _ _ (λ _ h. absurd (nine h))
-    (λ few. if-case Legal _ _ _
-    (λ _. if-case Legal (legalQuota quota) _ _
-    (λ q. if-case Legal (legalNames (inParts 6 names)) _ _ (λ n _. record { few = ltb-false _ _ few; room = q; named = n }) (λ _ h. absurd (eleven h)))
-    (λ _ h. absurd (eleven h)))
-    (λ _ h. absurd (eleven h)))
-  where
-    Legal : ℕ → Type 0
-    Legal number = number ≡ 0 → Reels quota names
-
-    nine : _≡_ {A = ℕ} 9 0 → ⊥
-    nine h = omega arith
-
-    eleven : _≡_ {A = ℕ} 11 0 → ⊥
-    eleven h = omega arith
-
-pub image-legal : (s : List ℕ) (quota : ℕ) (names : List ℕ) → imageVerdict s .number ≡ 0 → reelsNumber quota names ≡ 0 → legalSheet (sheetFrom s quota names) ≡ true
-unfolding sheetFrom
-image-legal s quota names h k = let l = reels-legal quota names k in accepted-sheet s quota (inParts 6 names) h (l .room) (l .named)
 
 module _ (s : List ℕ) (quota : ℕ) (names : List ℕ) (h : imageVerdict s .number ≡ 0) (k : reelsNumber quota names ≡ 0) where
   says : LegalSheet (sheetFrom s quota names)
   says = legal-sheet (sheetFrom s quota names) (image-legal s quota names h k)
 
   -- an accepted image has a file
-  pub some-file : (n : NextFile) → n ≡ firstFile s → n ≡ Nowhere → ⊥
+  some-file : (n : NextFile) → n ≡ firstFile s → n ≡ Nowhere → ⊥
   unfolding sheetFrom
   some-file n e q =
       let none : length (content s .files) ≡ 0 = met-none s (content s .files) (subst (λ (z : NextFile). Met s z (content s .files)) (sym e ∙ q) (files-all s h)) in
@@ -337,10 +275,10 @@ module _ (s : List ℕ) (quota : ℕ) (names : List ℕ) (h : imageVerdict s .nu
     same-set : set ≡ content s .set
     same-set = q ∙ ap setOf p ∙ sym (set-first s f h e)
 
-    pub image-writable : Writable (originOf true files counts) set lengths s start quota names
+    pub image-ordered : Ordered (originOf true files counts) set lengths s start quota names
     unfolding sheetFrom totalOf filesAt
-    image-writable =
-        subst (λ (o : Origin). Writable o set lengths s start quota names) (sym is-from)
+    image-ordered =
+        subst (λ (o : Origin). Ordered o set lengths s start quota names) (sym is-from)
         (record {
           placed =
               record {
@@ -351,10 +289,8 @@ module _ (s : List ℕ) (quota : ℕ) (names : List ℕ) (h : imageVerdict s .nu
               };
           first = refl;
           some = omega (arith, says .one);
-          least = says .some;
-          most = says .most;
-          named = sheet-named (sheetFrom s quota names) names refl (image-legal s quota names h k);
-          few = omega (arith, reels-legal quota names k .few);
+          room = reels-legal quota names k .room;
+          named = reels-legal quota names k .named;
         })
 
     pub image-answers : (out : List ℕ) (a : Answer) (r : List ℕ) → Answers (writeSheet (sheetAt (originOf true files counts) set lengths s start quota names) out) a r
@@ -364,4 +300,4 @@ module _ (s : List ℕ) (quota : ℕ) (names : List ℕ) (h : imageVerdict s .nu
         subst (λ (z : List ℕ). Answers (writeSheet (record { meaning = record { set = z; files = content s .files }; quota = quota; names = inParts 6 names }) out) a r) same-set
         (subst (λ (o : Origin). Answers (writeSheet (sheetAt o set lengths s start quota names) out) a r) is-from m)
 
-pub ruleset images = (first-is, no-file, image-writable, image-answers, needs)
+pub ruleset images = (first-is, no-file, image-ordered, image-answers, needs)

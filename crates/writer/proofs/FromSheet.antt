@@ -14,92 +14,42 @@ use lib.ListN.{length, take, drop, getD, length-drop, take-append-drop}
 use lib.Seq.{drop-drop, drop-cons}
 use Rattle.base.specs.If.{if-true, if-false, if-case}
 use Rattle.base.specs.Part.{part}
-use Rattle.sheet.specs.Legal.{formatFrom, blockLengthFrom, legalFiles, legalSheet}
-use Rattle.sheet.specs.Flat.{Flat, inParts, filesFrom, addsUp, sheetOf, sheetNumber}
-use Rattle.sheet.proofs.Cutting.{parts-some}
 use Rattle.base.specs.Sum.{sum, cutBy}
 use Rattle.base.proofs.Sums.{sum-at, sum-append}
-use Rattle.content.specs.Walked.{endOf}
-use Rattle.content.specs.declared.Walk.{Walk}
-use Rattle.content.specs.declared.FileAt.{FileAt}
-use Rattle.writer.specs.declared.source.Cursor.{Cursor}
-use Rattle.writer.specs.declared.reel.Reel.{Reel}
-use Rattle.writer.specs.declared.reel.Laying.{Laying}
-use Rattle.writer.specs.declared.set.Place.{Place}
-use Rattle.writer.specs.declared.set.Filing.{Filing}
-use Rattle.writer.specs.Pack.{startOf}
-use Rattle.writer.specs.Lay.{short}
 use Rattle.output.specs.declared.Written.{Written as Answer}
 use Rattle.output.specs.Output.{Answers}
-use Rattle.writer.specs.Write.{writeSheet}
-use Rattle.writer.specs.Source.{behindOf, lengthsAt, laterAt, endAt, stopAt, leftAt, Good, Opened}
-use Rattle.writer.specs.Reels.{Sound, Layable, FilePut}
-use Rattle.writer.specs.Sets.{flat, Origin, listed, originOf, totalOf, filesAt, Placed, Begun, behindListed, Fileable, OneFiled, sheetAt, Writable}
-use Rattle.writer.proofs.Packing.{by-test}
-use Rattle.writer.proofs.Units.{both}
-use Rattle.writer.proofs.RoundTrip.{LegalSheet, legal-sheet}
-use Rattle.writer.proofs.Sources.{ended, sheet-end, sheet-stops}
-use Rattle.writer.proofs.Filing.{opened-left, legal-others, file-layable, one-filed, no-counts, sheet-named}
+use Rattle.sheet.specs.Legal.{legalFiles, legalNames, legalQuota, legalSheet}
+use Rattle.sheet.specs.Flat.{Flat, inParts, filesFrom, addsUp, sheetOf, sheetNumber}
+use Rattle.sheet.proofs.Cutting.{parts-some}
+use Rattle.content.specs.declared.Walk.{Walk}
+use Rattle.content.specs.declared.FileAt.{FileAt}
+use Rattle.writing.specs.Write.{flat, writeSheet}
+use Rattle.writing.proofs.Packing.{by-test}
+use Rattle.writing.proofs.Units.{both}
+use Rattle.writing.proofs.RoundTrip.{LegalSheet, legal-sheet}
+use Rattle.writer.specs.declared.pen.Pen.{Pen}
+use Rattle.writer.specs.declared.source.Cursor.{Cursor}
+use Rattle.writer.specs.declared.body.Body.{Body}
+use Rattle.writer.specs.declared.set.Place.{Place}
+use Rattle.writer.specs.declared.set.Filing.{Filing}
+use Rattle.writer.specs.Pass.{Job, job}
+use Rattle.writer.specs.Source.{lengthsAt, recordsOf, endAt, Good}
+use Rattle.writer.specs.Files.{FileReady, FilePut}
+use Rattle.writer.specs.Sets.{Origin, listed, originOf, totalOf, filesAt, Placed, listedAt, behindListed, Task, task, Fileable, OneFiled, sheetAt, Ordered}
+use Rattle.writer.proofs.Filing.{legal-others, file-ready, one-filed, no-counts}
 
 abbrev place : FileAt → ℕ → ℕ → ℕ → Place
 place f nth first byte = record { nth = nth; first = first; byte = byte; file = f }
-
--- ---- the records of a file opened
-
-abbrev unopened : ℕ → ℕ → ℕ → Cursor
-unopened byte first stop =
-    record {
-      at = byte;
-      here = 0;
-      left = 0;
-      next = first;
-      stop = stop;
-      rest = 0;
-      offset = 0;
-      size = 0;
-      format = 0;
-      begun = 0;
-      live = true;
-      image = false;
-    }
-
-pub begun-good : (lengths bytes : List ℕ) (byte first stop : ℕ) → first ≤ stop → stop ≤ length lengths
-    → byte + sum (part first (stop - first) lengths) ≤ length bytes → Good lengths bytes (unopened byte first stop)
-unfolding endAt lengthsAt
-begun-good lengths bytes byte first stop h k i =
-    record {
-      holds = record { inside = omega arith; whole = λ _. refl; further = λ z. absurd (omega arith) };
-      order = λ _. h;
-      within = λ _. k;
-      inside = omega (arith, if-false false (endOf bytes (behindOf (unopened byte first stop))) (byte + 0 + sum (part first (stop - first) lengths)) refl);
-      over = λ z. absurd (false≢true (sym z));
-    }
-
-pub begun-opened : (lengths bytes : List ℕ) (byte first stop : ℕ) (d : Cursor) → Opened lengths bytes (unopened byte first stop) d
-    → Begun lengths bytes byte first stop d
-unfolding laterAt lengthsAt
-begun-opened lengths bytes byte first stop d o =
-    let here : byte + 0 ≡ byte = omega arith in
-    record {
-      good = o .good;
-      end = o .end ∙ sheet-end lengths bytes (unopened byte first stop) refl ∙ ap (λ (n : ℕ). ended false (n + sum (part first (stop - first) lengths))) here;
-      left =
-          opened-left lengths bytes _ d (cutBy (part first (stop - first) lengths) (drop byte bytes)) o
-          (if-false _ _ _ refl ∙ ap (λ (n : ℕ). cutBy (part first (stop - first) lengths) (drop n bytes)) here);
-    }
-
-pub ruleset begins = (begun-good, begun-opened, needs)
 
 -- ---- the files from a place on
 
 sum-split : (n : ℕ) (ns : List ℕ) → sum ns ≡ sum (take n ns) + sum (drop n ns)
 sum-split n ns = ap sum (sym (take-append-drop n ns)) ∙ sum-append (take n ns) (drop n ns)
 
-part-count : (first c : ℕ) (ns : List ℕ) → part first (first + c - first) ns ≡ take c (drop first ns)
-unfolding part
-part-count first c ns = let e : first + c - first ≡ c = omega arith in rw e
+module _ (files counts set lengths bytes rooms names : List ℕ) (g : Place) (y : Placed (listed files counts) set lengths bytes g) (h : g .nth < length counts) where
+  abbrev t : Task
+  t = task (listed files counts) set lengths bytes rooms names
 
-module _ (set files counts lengths bytes : List ℕ) (g : Place) (y : Placed (listed files counts) set lengths bytes g) (h : g .nth < length counts) where
   abbrev c : ℕ
   c = getD counts (g .nth) 0
 
@@ -109,17 +59,8 @@ module _ (set files counts lengths bytes : List ℕ) (g : Place) (y : Placed (li
   measured : sum (drop (g .first) lengths) ≡ sum (take c (drop (g .first) lengths)) + sum (drop (g .first + c) lengths)
   measured = sum-split c (drop (g .first) lengths) ∙ ap (λ (ns : List ℕ). sum (take c (drop (g .first) lengths)) + sum ns) (drop-drop c (g .first) lengths)
 
-  pub stop-order : (stop : ℕ) → stop ≡ g .first + c → g .first ≤ stop
-  stop-order stop e = omega arith
-
-  pub stop-within : (stop : ℕ) → stop ≡ g .first + c → stop ≤ length lengths
-  stop-within stop e = omega (arith, counted, y .stands .records)
-
-  pub stop-inside : (stop : ℕ) → stop ≡ g .first + c → g .byte + sum (part (g .first) (stop - g .first) lengths) ≤ length bytes
-  stop-inside stop s =
-      let e : sum (part (g .first) (stop - g .first) lengths) ≡ sum (take c (drop (g .first) lengths))
-      = ap (λ (k : ℕ). sum (part (g .first) (k - g .first) lengths)) s ∙ ap sum (part-count (g .first) c lengths) in
-      omega (arith, measured, y .stands .inside)
+  pub stop-within : g .first + c ≤ length lengths
+  stop-within = omega (arith, counted, y .stands .records)
 
   pub nth-small : g .nth < 64
   unfolding totalOf
@@ -162,58 +103,72 @@ module _ (set files counts lengths bytes : List ℕ) (g : Place) (y : Placed (li
               records = omega (arith, counted, y .stands .records);
               inside = omega (arith, measured, y .stands .inside);
             };
-        legal = legal-others (listed files counts) set lengths bytes g entry records _ y files-some;
+        legal = legal-others t g entry records _ y files-some;
       }
 
-  module _ (stop : ℕ) (s : stop ≡ g .first + c) (d : Cursor) (n : Begun lengths bytes (g .byte) (g .first) stop d) where
-    cut : cutBy (part (g .first) (stop - g .first) lengths) (drop (g .byte) bytes) ≡ records
-    cut =
-        ap (λ (k : ℕ). cutBy (part (g .first) (k - g .first) lengths) (drop (g .byte) bytes)) s
-        ∙ ap (λ (ns : List ℕ). cutBy ns (drop (g .byte) bytes)) (part-count (g .first) c lengths)
+  module _ (count stop : ℕ) (k : count ≡ c) (s : stop ≡ g .first + count) (d : Cursor) (n : d ≡ listedAt (g .byte) count stop) where
+    lengths-are : lengthsAt lengths d ≡ take c (drop (g .first) lengths)
+    unfolding lengthsAt part
+    lengths-are =
+        let e : stop - count ≡ g .first = omega arith in
+        ap (λ (x : Cursor). take (x .left) (drop (x .stop - x .left) lengths)) n
+        ∙ ap (λ (i : ℕ). take count (drop i lengths)) e
+        ∙ ap (λ (i : ℕ). take i (drop (g .first) lengths)) k
 
-    begun : leftAt lengths bytes d ≡ startOf records
-    begun = n .left ∙ ap startOf cut
+    sheet : d .image ≡ false
+    sheet = ap (λ (x : Cursor). x .image) n
 
-    ends : endAt lengths bytes d ≡ ended false (g .byte + sum (take c (drop (g .first) lengths)))
+    here : d .at ≡ g .byte
+    here = ap (λ (x : Cursor). x .at) n
+
+    begun : recordsOf lengths bytes d ≡ records
+    unfolding recordsOf
+    begun =
+        if-false _ _ _ sheet
+        ∙ ap (λ (ls : List ℕ). cutBy ls (drop (d .at) bytes)) lengths-are
+        ∙ ap (λ (i : ℕ). cutBy (take c (drop (g .first) lengths)) (drop i bytes)) here
+
+    ends : endAt lengths bytes d ≡ g .byte + sum (take c (drop (g .first) lengths))
+    unfolding endAt
     ends =
-        n .end
-        ∙ ap (λ (k : ℕ). ended false (g .byte + sum (part (g .first) (k - g .first) lengths))) s
-        ∙ ap (λ (ns : List ℕ). ended false (g .byte + sum ns)) (part-count (g .first) c lengths)
+        if-false _ _ _ sheet
+        ∙ ap (λ (ls : List ℕ). d .at + sum ls) lengths-are
+        ∙ ap (λ (i : ℕ). i + sum (take c (drop (g .first) lengths))) here
 
-    pub entry-layable : (quota : ℕ) (names : List ℕ) (r : Reel) → Sound quota names r → r .short ≡ false
-        → Layable (formatFrom entry) (blockLengthFrom entry) lengths bytes quota names d r
-    entry-layable = file-layable (listed files counts) set lengths bytes g entry records _ y files-some d (n .good) begun
+    good : Good lengths bytes d
+    good =
+        record {
+          order = λ _. omega (arith, ap (λ (x : Cursor). x .left) n, ap (λ (x : Cursor). x .stop) n);
+          within = λ _. omega (arith, ap (λ (x : Cursor). x .stop) n, stop-within);
+          inside = omega (arith, ends, measured, y .stands .inside);
+        }
 
-    -- the place behind this file, unless a name was lacking
-    place-is : (x : Laying) → (x .reel .short ≡ false → stopAt (x .cur) ≡ endAt lengths bytes d) → x .reel .short ≡ false
-        → onward ≡ place (g .file) (g .nth + 1) stop (x .cur .at)
+    pub entry-ready : (lay : Bool) (p : Pen) (o : List ℕ) → Fileable lay t g p o → FileReady lay (job set entry (g .nth + 1) rooms names) lengths bytes d p o
+    entry-ready lay p o f = file-ready t g entry records _ y files-some lay d good begun p o f
+
+    -- the place behind this file, unless a reel is lacking
+    place-is : (x : Body) → (x .pen .short ≡ false → x .end ≡ endAt lengths bytes d) → x .pen .short ≡ false → onward ≡ place (g .file) (g .nth + 1) stop (x .end)
     place-is x e z =
-        ap (λ (k : ℕ). place (g .file) (g .nth + 1) k (g .byte + sum (take c (drop (g .first) lengths)))) (sym s)
-        ∙ ap (place (g .file) (g .nth + 1) stop) (sym (sheet-stops (x .cur) _ (e z ∙ ends)))
+        let i : g .first + c ≡ stop = omega arith in
+        ap (λ (r : ℕ). place (g .file) (g .nth + 1) r (g .byte + sum (take c (drop (g .first) lengths)))) i
+        ∙ ap (place (g .file) (g .nth + 1) stop) (sym (e z ∙ ends))
 
-    pub listed-filed : (quota : ℕ) (names : List ℕ) (r : Reel) (o p : List ℕ) (x : Laying) (v : Filing) → r .short ≡ false
-        → FilePut lengths bytes quota set entry (g .nth + 1) names d r o p x → v ≡ behindListed (g .file) (g .nth) stop (length counts) x
-        → OneFiled (listed files counts) quota set lengths bytes names g r o p v
+    pub listed-filed : (lay : Bool) (p : Pen) (o q : List ℕ) (x : Body) (v : Filing) → FilePut lay (job set entry (g .nth + 1) rooms names) lengths bytes d p o q x
+        → v ≡ behindListed (g .file) (g .nth) stop (length counts) x → OneFiled lay t g p o q v
     unfolding behindListed totalOf
-    listed-filed quota names r o p x v enough m e =
-        subst (OneFiled (listed files counts) quota set lengths bytes names g r o p) (sym e)
-        (one-filed (listed files counts) set lengths bytes g entry records _ y files-some d (n .good) begun quota names r o p x _ enough m refl refl
+    listed-filed lay p o q x v m e =
+        subst (OneFiled lay t g p o q) (sym e)
+        (one-filed t g entry records _ y files-some lay d good begun p o q x _ m refl refl
         (λ z. ap (filesAt (listed files counts) lengths bytes) (sym (place-is x (m .end) z)))
         (λ z. subst (Placed (listed files counts) set lengths bytes) (place-is x (m .end) z) placed-on)
-        (λ z. by-test (x .reel .short) (λ q. absurd (false≢true (sym (if-true (x .reel .short) false (ltb (g .nth + 1) (length counts)) q) ∙ z))) (λ q. q))
+        (λ z. by-test (x .pen .short) (λ w. absurd (false≢true (sym (if-true (x .pen .short) false (ltb (g .nth + 1) (length counts)) w) ∙ z))) (λ w. w))
         (λ z.
-        by-test (x .reel .short) (λ q. absurd (false≢true (sym (if-true (x .reel .short) false (ltb (g .nth + 1) (length counts)) q) ∙ z)))
-        (λ q. ltb-true _ _ (sym (if-false (x .reel .short) false (ltb (g .nth + 1) (length counts)) q) ∙ z)))
-        (λ z q. ltb-false _ _ (sym (if-false (x .reel .short) false (ltb (g .nth + 1) (length counts)) q) ∙ z)))
+        by-test (x .pen .short) (λ w. absurd (false≢true (sym (if-true (x .pen .short) false (ltb (g .nth + 1) (length counts)) w) ∙ z)))
+        (λ w. ltb-true _ _ (sym (if-false (x .pen .short) false (ltb (g .nth + 1) (length counts)) w) ∙ z)))
+        (λ z w. ltb-false _ _ (sym (if-false (x .pen .short) false (ltb (g .nth + 1) (length counts)) w) ∙ z)))
 
-module _ (files counts : List ℕ) (quota : ℕ) (set lengths bytes names : List ℕ) (g : Place) (r : Reel) (y : Fileable (listed files counts) quota set lengths bytes names g r) where
-  pub fileable-filed : (stop : ℕ) (d : Cursor) (o p : List ℕ) (x : Laying) (v : Filing) → stop ≡ g .first + getD counts (g .nth) 0
-      → Begun lengths bytes (g .byte) (g .first) stop d → FilePut lengths bytes quota set (part (46 * g .nth) 46 files) (g .nth + 1) names d r o p x
-      → v ≡ behindListed (g .file) (g .nth) stop (length counts) x → OneFiled (listed files counts) quota set lengths bytes names g r o p v
-  unfolding totalOf
-  fileable-filed stop d o p x v s n m e =
-      listed-filed set files counts lengths bytes g (y .placed) (y .more) stop s d n quota names r o p x v (y .enough) m e
-
+module _ (lay : Bool) (files counts set lengths bytes rooms names : List ℕ) (g : Place) (p : Pen) (o : List ℕ)
+    (y : Fileable lay (task (listed files counts) set lengths bytes rooms names) g p o) where
   pub fileable-nth : g .nth < length counts
   unfolding totalOf
   fileable-nth = y .more
@@ -221,27 +176,49 @@ module _ (files counts : List ℕ) (quota : ℕ) (set lengths bytes names : List
   pub placed-records : g .first + sum (drop (g .nth) counts) ≡ length lengths
   placed-records = y .placed .stands .records
 
-pub ruleset filing = (placed-records, fileable-nth, stop-order, stop-within, stop-inside, nth-small, entry-layable, needs)
+  pub listed-small : g .nth < 64
+  listed-small = nth-small files counts set lengths bytes rooms names g (y .placed) fileable-nth
+
+  module _ (count : ℕ) (k : (count ≡ getD counts (g .nth) 0) × (g .first + count ≤ length lengths)) where
+    pub stop-fits : Fits w64 (length lengths) → Fits w64 (g .first + count)
+    stop-fits f = record { fits = omega (arith, k .1, f .fits) }
+
+    pub stop-fits′ : length lengths < 2 ^ 64 → Fits w64 (g .first + count)
+    stop-fits′ f = record { fits = omega (arith, k .1) }
+
+    module _ (d : Cursor) (n : d ≡ listedAt (g .byte) count (g .first + count)) where
+      pub listed-ready : FileReady lay (job set (part (46 * g .nth) 46 files) (g .nth + 1) rooms names) lengths bytes d p o
+      listed-ready = entry-ready files counts set lengths bytes rooms names g (y .placed) fileable-nth count (g .first + count) (k .0) refl d n lay p o y
+
+      pub listed-put : (q : List ℕ) (x : Body) (v : Filing) → FilePut lay (job set (part (46 * g .nth) 46 files) (g .nth + 1) rooms names) lengths bytes d p o q x
+          → v ≡ behindListed (g .file) (g .nth) (g .first + count) (length counts) x → OneFiled lay (task (listed files counts) set lengths bytes rooms names) g p o q v
+      listed-put q x v m e =
+          listed-filed files counts set lengths bytes rooms names g (y .placed) fileable-nth count (g .first + count) (k .0) refl d n lay p o q x v m e
+
+pub listed-kept : (lay : Bool) (j : Job) (lengths bytes : List ℕ) (d : Cursor) (p : Pen) (o q : List ℕ) (x : Body) → FilePut lay j lengths bytes d p o q x → length q ≡ length o
+listed-kept lay j lengths bytes d p o q x y = y .kept
+
+pub ruleset filing = (fileable-nth, placed-records, listed-small, stop-fits, stop-fits′, listed-ready, listed-put, listed-kept, needs)
 
 -- ---- the parts of a turn
 
-pub stop-fits : (counts lengths : List ℕ) (g : Place) (n : ℕ) → g .nth < length counts → g .first + sum (drop (g .nth) counts) ≡ length lengths
-    → n ≡ getD counts (g .nth) 0 → length lengths < 2 ^ 64 → Fits w64 (g .first + n)
-stop-fits counts lengths g n h e k l = record { fits = omega (arith, sum-at counts (g .nth) h) }
+pub count-within : (counts lengths : List ℕ) (g : Place) (n : ℕ) → g .nth < length counts → g .first + sum (drop (g .nth) counts) ≡ length lengths
+    → n ≡ getD counts (g .nth) 0 → (n ≡ getD counts (g .nth) 0) × (g .first + n ≤ length lengths)
+count-within counts lengths g n h e k = (k, omega (arith, sum-at counts (g .nth) h))
 
-pub ruleset stops = (stop-fits, needs)
+pub ruleset counting = (count-within, needs)
 
-pub behind-short : (f : FileAt) (i stop n : ℕ) (x : Laying) → x .reel .short ≡ true
-    → record { on = false; place = place f (i + 1) stop (x .cur .at); reel = x .reel } ≡ behindListed f i stop n x
+pub behind-short : (f : FileAt) (i stop n : ℕ) (x : Body) → x .pen .short ≡ true
+    → record { on = false; place = place f (i + 1) stop (x .end); pen = x .pen } ≡ behindListed f i stop n x
 unfolding behindListed
 behind-short f i stop n x z =
-    ap (λ (b : Bool). record { on = b; place = place f (i + 1) stop (x .cur .at); reel = x .reel }) (sym (if-true _ _ _ z))
+    ap (λ (b : Bool). record { on = b; place = place f (i + 1) stop (x .end); pen = x .pen }) (sym (if-true _ _ _ z))
 
-pub behind-more : (f : FileAt) (i stop n : ℕ) (x : Laying) → x .reel .short ≡ false
-    → record { on = ltb (i + 1) n; place = place f (i + 1) stop (x .cur .at); reel = x .reel } ≡ behindListed f i stop n x
+pub behind-more : (f : FileAt) (i stop n : ℕ) (x : Body) → x .pen .short ≡ false
+    → record { on = ltb (i + 1) n; place = place f (i + 1) stop (x .end); pen = x .pen } ≡ behindListed f i stop n x
 unfolding behindListed
 behind-more f i stop n x z =
-    ap (λ (b : Bool). record { on = b; place = place f (i + 1) stop (x .cur .at); reel = x .reel }) (sym (if-false _ _ _ z))
+    ap (λ (b : Bool). record { on = b; place = place f (i + 1) stop (x .end); pen = x .pen }) (sym (if-false _ _ _ z))
 
 pub ruleset behinds = (behind-short, behind-more, needs)
 
@@ -333,18 +310,20 @@ module _ (set files counts lengths bytes : List ℕ) (quota : ℕ) (names : List
           absurd (omega arith)
       by-length (n ∷ ns) e h = let l : suc (length ns) ≡ length counts = ap length e in omega arith
 
-  pub sheet-writable : Writable (originOf false files counts) set lengths bytes start quota names
+  legal : {A : Type 0} → (legalQuota quota ≡ true → legalNames (inParts 6 names) ≡ true → A) → A
+  unfolding legalSheet sheetOf
+  legal k = both (legalQuota quota) _ (λ q r. both (legalNames (inParts 6 names)) _ (λ n _. k q n) r) (known .legal)
+
+  pub sheet-ordered : Ordered (originOf false files counts) set lengths bytes start quota names
   unfolding sheetOf totalOf
-  sheet-writable =
-      subst (λ (o : Origin). Writable o set lengths bytes start quota names) (sym is-from)
+  sheet-ordered =
+      subst (λ (o : Origin). Ordered o set lengths bytes start quota names) (sym is-from)
       (record {
         placed = start-placed;
         first = refl;
         some = filed;
-        least = says .some;
-        most = says .most;
-        named = sheet-named (sheetOf x) names refl (known .legal);
-        few = omega (arith, known .reels);
+        room = legal (λ q n. q);
+        named = legal (λ q n. n);
       })
 
   pub sheet-answers : (out : List ℕ) (a : Answer) (p : List ℕ) → Answers (writeSheet (sheetAt (originOf false files counts) set lengths bytes start quota names) out) a p
@@ -352,4 +331,4 @@ module _ (set files counts lengths bytes : List ℕ) (quota : ℕ) (names : List
   unfolding sheetAt sheetOf filesAt
   sheet-answers out a p m = subst (λ (o : Origin). Answers (writeSheet (sheetAt o set lengths bytes start quota names) out) a p) is-from m
 
-pub ruleset sheets = (sheet-writable, sheet-answers, needs)
+pub ruleset sheets = (sheet-ordered, sheet-answers, needs)

@@ -1,9 +1,9 @@
-pub mod Pack
-pub mod Lay
-pub mod Write
-pub mod Rewrite
-pub mod Output
+pub mod Pass
+pub mod Pens
+pub mod Packs
 pub mod Source
-pub mod Fills
-pub mod Reels
+pub mod Records
+pub mod Bodies
+pub mod Files
+pub mod Segments
 pub mod Sets

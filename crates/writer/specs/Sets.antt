@@ -1,41 +1,32 @@
--- The steps by which the writer's code lays all files of a set down, over the definitions of Lay.antt. The files come from the slices of a sheet or from
--- an accepted image: `filesAt` is what is left of them at a place, and the loop over them knows nothing else.
+-- All files of a set laid down. They come from the slices of a sheet or from an accepted image: `filesAt` is what is left of them at a place, and the loop
+-- over them knows nothing else.
 use mathlib.Core.Path.{_≡_}
 use mathlib.Core.Bool.{Bool, true, false}
 use mathlib.Core.List.{List, [], _∷_, _++_}
-use Prim.Native.Nat.{ℕ, suc, _+_, _-_, _*_, _≤_, _<_}
+use Prim.Native.Nat.{ℕ, suc, _+_, _*_, _≤_, _<_}
 use lib.Dec.{ltb}
 use lib.ListN.{length, drop}
 use Rattle.base.specs.If.{ifB}
-use Rattle.base.specs.Part.{part}
-use Rattle.base.specs.Sum.{sum, cutBy}
-use Rattle.image.specs.Item.{Item, mark, reelEnd, encode}
+use Rattle.base.specs.Sum.{sum}
+use Rattle.image.specs.Item.{block, mark, reelEnd, encode}
 use Rattle.image.specs.Framing.{head}
-use Rattle.volume.specs.Meaning.{File, content}
-use Rattle.sheet.specs.Legal.{Sheet, legalFiles}
-use Rattle.sheet.specs.Flat.{Flat, inParts, filesFrom}
+use Rattle.label.specs.Made.{madeVolume}
+use Rattle.volume.specs.Meaning.{File, Meaning, content}
+use Rattle.sheet.specs.Legal.{Sheet, legalFiles, legalNames, legalQuota}
+use Rattle.sheet.specs.Flat.{inParts, filesFrom}
 use Rattle.content.specs.File.{nextFile, fileBehind}
-use Rattle.content.specs.Walked.{endOf, Filed as Met}
-use Rattle.content.specs.Records.{recordsAt}
+use Rattle.content.specs.Walked.{Filed as Met}
 use Rattle.content.specs.declared.Walk.{Walk}
 use Rattle.content.specs.declared.FileAt.{FileAt}
 use Rattle.content.specs.declared.NextFile.{NextFile}
 use Rattle.content.specs.declared.NextFile.the-variants.{At, Nowhere}
+use Rattle.writing.specs.Lay.{Laid, laid, layFiles, layOn}
+use Rattle.writer.specs.declared.pen.Pen.{Pen}
 use Rattle.writer.specs.declared.source.Cursor.{Cursor}
-use Rattle.writer.specs.declared.reel.Reel.{Reel}
-use Rattle.writer.specs.declared.reel.Laying.{Laying}
+use Rattle.writer.specs.declared.body.Body.{Body}
 use Rattle.writer.specs.declared.set.Place.{Place}
 use Rattle.writer.specs.declared.set.Filing.{Filing}
-use Rattle.writer.specs.Pack.{startOf}
-use Rattle.writer.specs.Lay.{Laid, laid, short, layFiles}
-use Rattle.writer.specs.Output.{Wrote}
-use Rattle.writer.specs.Source.{endAt, leftAt, Good}
-use Rattle.writer.specs.Reels.{Lays, namesAt, Sound}
-
--- the slices of a sheet
-abbrev pub flat : List ℕ → List ℕ → List ℕ → List ℕ → List ℕ → ℕ → List ℕ → Flat
-flat set files counts lengths bytes quota names =
-    record { set = set; files = files; counts = counts; lengths = lengths; bytes = bytes; quota = quota; names = names }
+use Rattle.writer.specs.Pass.{reelsAt, Reels, laidFrom, imageFrom, Fits, Between}
 
 -- where files come from: the entries and counts of a sheet, or an image
 pub data Origin : Type 0 where
@@ -74,84 +65,137 @@ pub record Placed (from : Origin) (set lengths bytes : List ℕ) (g : Place) : T
   pub stands : Stands from lengths bytes g
   pub legal : legalFiles set (filesAt from lengths bytes g) ≡ true
 
--- the records of a file are opened: those of the lengths from `first` to `stop`, from `byte` on
-pub record Begun (lengths bytes : List ℕ) (byte first stop : ℕ) (c : Cursor) : Type 0 where
-  pub good : Good lengths bytes c
-  pub end : endAt lengths bytes c ≡ record { image = false; place = byte + sum (part first (stop - first) lengths) }
-  pub left : leftAt lengths bytes c ≡ startOf (cutBy (part first (stop - first) lengths) (drop byte bytes))
+-- ---- one file
 
--- the records of a file of an image are opened: those from a walk on
-pub record Walked (lengths bytes : List ℕ) (w : Walk) (c : Cursor) : Type 0 where
-  pub good : Good lengths bytes c
-  pub end : endAt lengths bytes c ≡ record { image = true; place = endOf bytes w }
-  pub left : leftAt lengths bytes c ≡ startOf (recordsAt bytes w)
+-- the cursor at the first record of a sheet's file, whose lengths end at `stop`, and of an image's
+abbrev pub listedAt : ℕ → ℕ → ℕ → Cursor
+listedAt byte count stop = record { at = byte; left = count; stop = stop; offset = 0; size = 0; format = 0; image = false }
+
+abbrev pub walkAt : Walk → Cursor
+walkAt w = record { at = w .at; left = w .left; stop = 0; offset = w .offset; size = w .size; format = w .format; image = true }
 
 -- where the laying of files is behind the file of that number of a sheet, of n files
-unfoldable pub behindListed : FileAt → ℕ → ℕ → ℕ → Laying → Filing
+unfoldable pub behindListed : FileAt → ℕ → ℕ → ℕ → Body → Filing
 behindListed f i stop n x =
     record {
-      on = ifB (x .reel .short) false (ltb (i + 1) n);
-      place = record { nth = i + 1; first = stop; byte = x .cur .at; file = f };
-      reel = x .reel;
+      on = ifB (x .pen .short) false (ltb (i + 1) n);
+      place = record { nth = i + 1; first = stop; byte = x .end; file = f };
+      pen = x .pen;
     }
 
--- unless a name was lacking, the cursor has passed all records of a file of an image, and the next file is found from there
-pub record Over (bytes : List ℕ) (f : FileAt) (c : Cursor) (r : Reel) : Type 0 where
-  pub within : r .short ≡ false → c .next + c .stop ≤ length bytes
-  pub next : r .short ≡ false → fileBehind bytes f (c .next + c .stop) ≡ nextFile bytes f
+-- unless a reel is lacking, the next file of an image is found from where the records of this one end
+pub record Over (bytes : List ℕ) (f : FileAt) (x : Body) : Type 0 where
+  pub within : x .pen .short ≡ false → x .end ≤ length bytes
+  pub next : x .pen .short ≡ false → fileBehind bytes f (x .end) ≡ nextFile bytes f
 
--- the file that follows one of an image on the reels: none where a name was lacking
-unfoldable pub followed : List ℕ → FileAt → Reel → NextFile
-followed bytes f r = ifB (r .short) Nowhere (nextFile bytes f)
+-- the file that follows one of an image: none where a reel is lacking
+unfoldable pub followed : List ℕ → FileAt → Pen → NextFile
+followed bytes f p = ifB (p .short) Nowhere (nextFile bytes f)
 
 -- where the laying of files is behind the file of that number of an image, by the one that follows
-unfoldable pub behindRead : FileAt → ℕ → Reel → NextFile → Filing
-behindRead f i r (At h) = record { on = true; place = record { nth = i + 1; first = 0; byte = 0; file = h }; reel = r }
-behindRead f i r Nowhere = record { on = false; place = record { nth = i + 1; first = 0; byte = 0; file = f }; reel = r }
+unfoldable pub behindRead : FileAt → ℕ → Pen → NextFile → Filing
+behindRead f i p (At h) = record { on = true; place = record { nth = i + 1; first = 0; byte = 0; file = h }; pen = p }
+behindRead f i p Nowhere = record { on = false; place = record { nth = i + 1; first = 0; byte = 0; file = f }; pen = p }
 
--- the files from a place and a reel on
-unfoldable pub layAt : Origin → ℕ → List ℕ → List ℕ → List ℕ → List ℕ → Place → Reel → Laid
-layAt from quota set lengths bytes names g r =
-    ifB (r .short) short (layFiles quota set (suc (g .nth)) (r .room) (namesAt names (r .name)) (filesAt from lengths bytes g))
+-- ---- all files
 
--- files were laid from place g and reel r on, up to where x stands
-pub record Filed (from : Origin) (quota : ℕ) (set lengths bytes names : List ℕ) (g : Place) (r : Reel) (o p : List ℕ) (x : Filing) : Type 0 where
-  pub placed : x .reel .short ≡ false → Placed from set lengths bytes (x .place)
-  pub sound : Sound quota names (x .reel)
-  pub kept : length p ≡ length o
-  pub enough : x .on ≡ true → x .reel .short ≡ false
-  pub more : x .on ≡ true → x .place .nth < totalOf from bytes
-  pub over : x .on ≡ false → x .reel .short ≡ false → totalOf from bytes ≤ x .place .nth
-  pub same : (q : List ℕ) (s : ℕ) (z : Bool) → Lays (layAt from quota set lengths bytes names (x .place) (x .reel)) p (x .reel .at) q s z
-      → Lays (layAt from quota set lengths bytes names g r) o (r .at) q s z
+-- the set that is laid: where its files come from, the set entry, and the reels
+pub record Task : Type 0 where
+  pub from : Origin
+  pub set : List ℕ
+  pub lengths : List ℕ
+  pub bytes : List ℕ
+  pub rooms : List ℕ
+  pub names : List ℕ
+
+abbrev pub task : Origin → List ℕ → List ℕ → List ℕ → List ℕ → List ℕ → Task
+task from set lengths bytes rooms names =
+    record { from = from; set = set; lengths = lengths; bytes = bytes; rooms = rooms; names = names }
+
+abbrev pub PlacedIn : Task → Place → Type 0
+PlacedIn t g = Placed (t .from) (t .set) (t .lengths) (t .bytes) g
+
+-- the files from a place and a pen on
+unfoldable pub layAt : Task → Place → Pen → Laid
+layAt t g p = layFiles (t .set) (suc (g .nth)) (p .room) (reelsAt (t .rooms) (t .names) (p .next)) (filesAt (t .from) (t .lengths) (t .bytes) g)
+
+-- files were laid from place g and pen p on, up to where x stands; or a reel is lacking
+pub record Filed (lay : Bool) (t : Task) (g : Place) (p : Pen) (o q : List ℕ) (x : Filing) : Type 0 where
+  pub placed : x .pen .short ≡ false → PlacedIn t (x .place)
+  pub sound : x .pen .short ≡ false → Between (t .rooms) (t .names) (x .place .nth) (x .pen)
+  pub kept : length q ≡ length o
+  pub untouched : lay ≡ false → q ≡ o
+  pub enough : x .on ≡ true → x .pen .short ≡ false
+  pub more : x .on ≡ true → x .place .nth < totalOf (t .from) (t .bytes)
+  pub over : x .on ≡ false → x .pen .short ≡ false → totalOf (t .from) (t .bytes) ≤ x .place .nth
+  pub same : laidFrom lay (x .pen) q (layAt t (x .place) (x .pen)) ≡ laidFrom lay p o (layAt t g p)
 
 -- from where a file can be laid
-pub record Fileable (from : Origin) (quota : ℕ) (set lengths bytes names : List ℕ) (g : Place) (r : Reel) : Type 0 where
-  pub placed : Placed from set lengths bytes g
-  pub more : g .nth < totalOf from bytes
-  pub sound : Sound quota names r
-  pub enough : r .short ≡ false
+pub record Fileable (lay : Bool) (t : Task) (g : Place) (p : Pen) (o : List ℕ) : Type 0 where
+  pub placed : PlacedIn t g
+  pub more : g .nth < totalOf (t .from) (t .bytes)
+  pub sound : Between (t .rooms) (t .names) (g .nth) p
+  pub enough : p .short ≡ false
+  pub fits : lay ≡ true → Fits (laidFrom true p o (layAt t g p)) (length o)
 
 -- one file was laid
-pub record OneFiled (from : Origin) (quota : ℕ) (set lengths bytes names : List ℕ) (g : Place) (r : Reel) (o p : List ℕ) (x : Filing) : Type 0 where
-  pub filed : Filed from quota set lengths bytes names g r o p x
+pub record OneFiled (lay : Bool) (t : Task) (g : Place) (p : Pen) (o q : List ℕ) (x : Filing) : Type 0 where
+  pub filed : Filed lay t g p o q x
   pub next : x .place .nth ≡ g .nth + 1
 
--- all files were laid, or a name is lacking
-pub record AllFiled (from : Origin) (quota : ℕ) (set lengths bytes names : List ℕ) (g : Place) (r : Reel) (o p : List ℕ) (x : Filing) : Type 0 where
-  pub filed : Filed from quota set lengths bytes names g r o p x
+-- all files were laid, or a reel is lacking
+pub record AllFiled (lay : Bool) (t : Task) (g : Place) (p : Pen) (o q : List ℕ) (x : Filing) : Type 0 where
+  pub filed : Filed lay t g p o q x
   pub off : x .on ≡ false
 
--- behind the last file the last reel was ended, unless a name was lacking
-pub record SetEnded (r : Reel) (o p : List ℕ) (v : Reel) : Type 0 where
-  pub short : v .short ≡ r .short
-  pub wrote : r .short ≡ false → Wrote o (r .at) (encode (mark ∷ reelEnd ∷ [])) p (v .at)
+-- ---- the set
 
--- buffer o became p with the image of what is laid at its front, up to place r; or it is short, and so says z
-pub record Sheeted (l : Laid) (o p : List ℕ) (r : ℕ) (z : Bool) : Type 0 where
-  pub whole : (xs : List Item) → l ≡ laid xs → Wrote o 0 (head ++ encode xs) p r
-  pub given : (xs : List Item) → l ≡ laid xs → z ≡ false
-  pub lacks : l ≡ short → z ≡ true
+-- behind the last file the last reel is ended, unless a reel is lacking
+pub record Closing (lay : Bool) (p : Pen) (size : ℕ) : Type 0 where
+  pub place : p .short ≡ false → p .at ≤ 1000000000000000
+  pub room : lay ≡ true → p .short ≡ false → p .at + 6 ≤ size
+
+pub record Closed (lay : Bool) (p : Pen) (o q : List ℕ) (r : Pen) : Type 0 where
+  pub kept : length q ≡ length o
+  pub untouched : lay ≡ false → q ≡ o
+  pub same : laidFrom lay r q (laid []) ≡ laidFrom lay p o (laid (mark ∷ reelEnd ∷ []))
+
+-- the pen behind the head of an image and the volume label of the first reel
+abbrev pub firstPen : ℕ → Pen
+firstPen room = record { at = 88; used = 0; room = room; next = 1; section = 1; count = 0; on = false; short = false }
+
+-- what the image of a set begins with
+unfoldable pub headOf : List ℕ → List ℕ
+headOf name = head ++ encode (block (madeVolume name) ∷ [])
+
+-- the pass from the very beginning on: l is laid at the front of the buffer; or a reel is lacking
+pub record Sheeted (lay : Bool) (l : Laid) (o q : List ℕ) (r : Pen) : Type 0 where
+  pub untouched : lay ≡ false → q ≡ o
+  pub kept : length q ≡ length o
+  pub same : laidFrom lay r q (laid []) ≡ imageFrom lay o l
+
+-- the meaning of the files from a place on
+unfoldable pub meaningAt : Task → Place → Meaning
+meaningAt t g = record { set = t .set; files = filesAt (t .from) (t .lengths) (t .bytes) g }
+
+-- what the writer asks of the files from the first on, and of the reels
+pub record Writable (t : Task) (g : Place) : Type 0 where
+  pub placed : PlacedIn t g
+  pub first : g .nth ≡ 0
+  pub some : g .nth < totalOf (t .from) (t .bytes)
+  pub reels : Reels (t .rooms) (t .names)
+  pub one : 1 ≤ length (t .rooms)
+
+-- the whole set on its reels
+unfoldable pub setLaid : Task → Place → Laid
+setLaid t g = layOn (meaningAt t g) (reelsAt (t .rooms) (t .names) 0)
+
+-- the same, and where the pass lays, it ends within the buffer
+pub record SetReady (lay : Bool) (t : Task) (g : Place) (o : List ℕ) : Type 0 where
+  pub writable : Writable t g
+  pub fits : lay ≡ true → Fits (imageFrom true o (setLaid t g)) (length o)
+
+-- ---- a quota
 
 -- the sheet of the files from a place on
 unfoldable pub sheetAt : Origin → List ℕ → List ℕ → List ℕ → Place → ℕ → List ℕ → Sheet
@@ -159,11 +203,9 @@ sheetAt from set lengths bytes g quota names =
     record { meaning = record { set = set; files = filesAt from lengths bytes g }; quota = quota; names = inParts 6 names }
 
 -- what the writer asks of the files from the first on, the quota and the names
-pub record Writable (from : Origin) (set lengths bytes : List ℕ) (g : Place) (quota : ℕ) (names : List ℕ) : Type 0 where
+pub record Ordered (from : Origin) (set lengths bytes : List ℕ) (g : Place) (quota : ℕ) (names : List ℕ) : Type 0 where
   pub placed : Placed from set lengths bytes g
   pub first : g .nth ≡ 0
   pub some : g .nth < totalOf from bytes
-  pub least : 1 ≤ quota
-  pub most : quota ≤ 999999
-  pub named : 0 < length names
-  pub few : length names ≤ 101
+  pub room : legalQuota quota ≡ true
+  pub named : legalNames (inParts 6 names) ≡ true

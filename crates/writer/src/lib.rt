@@ -1,14 +1,16 @@
 // Writing an order sheet as an image, and rewriting an accepted image. It knows in which order the numbers are given back, and asks the layers below
 // for each part.
-mod fill; // fill.rt: data blocks
+mod body; // body.rt: the records of a file
+mod file; // file.rt: a file with its labels
 mod item; // item.rt: labels, marks and ends of reels
-mod listed; // listed.rt: the blocks of a sheet
-mod out; // out.rt: the lent buffer
-mod reel; // reel.rt: files on reels
+mod lay; // lay.rt: bytes into the lent buffer
+mod pack; // pack.rt: a record packed into blocks
+mod pen; // pen.rt: blocks and reels
+mod record; // record.rt: a record that stands in one piece
 mod set; // set.rt: all files
-mod source; // source.rt: the records of a file
-mod unit; // unit.rt: units and control words
-mod whole; // whole.rt: blocks of whole records
+mod source; // source.rt: where the next record stands
+mod split; // split.rt: a record that stands in several segments
+mod unit; // unit.rt: the numbers of a unit
 
 ghost use mathlib.Core.Path.{_≡_};
 ghost use Rattle.output.specs.Output.{Answers, AnswersAt};
@@ -16,19 +18,19 @@ ghost use Rattle.volume.specs.Run.{imageVerdict};
 ghost use Rattle.sheet.specs.Flat.{sheetNumber, sheetOf, reelsNumber};
 ghost use Rattle.content.specs.File.{firstFile};
 ghost use Rattle.content.specs.declared.NextFile.the-variants.{At};
-ghost use Rattle.writer.specs.Write.{writeSheet, write as writing};
-ghost use Rattle.writer.specs.Rewrite.{sheetFrom, rewrite as rewriting};
-ghost use Rattle.writer.specs.Sets.{flat, originOf, sheetAt, Writable};
+ghost use Rattle.writing.specs.Write.{flat, storedLaid, writeSheet, write as writing};
+ghost use Rattle.writing.specs.Rewrite.{sheetFrom, rewrite as rewriting};
+ghost use Rattle.writer.specs.Sets.{originOf, task, Writable, setLaid, sheetAt, Ordered};
 use base::part_of;
 use content::FileAt;
 use content::NextFile;
 use content::Walk;
 use content::first_file;
 use label::set_of;
-use out::OVER_LONG;
 use output::Written;
 use output::done;
 use output::refusal;
+use pen::NAME;
 use set::LABEL;
 use set::Place;
 use set::lay_set;
@@ -36,8 +38,11 @@ use sheet::reels_number;
 use sheet::sheet_number;
 use volume::check;
 
-// Writes a set, its files from the first on. Its reels and its length are found in a buffer in which nothing has room, before the first byte is
-// written.
+// One more than the longest image.
+const OVER_LONG: usize = 16777216;
+
+// Writes a set on reels with rooms, its files from the first on. A first pass finds its reels and its length before the first byte is written; the second
+// writes, and asks for no room.
 fn write_set(
     set: &[u8],
     files: &[u8],
@@ -46,14 +51,13 @@ fn write_set(
     bytes: &[u8],
     image: bool,
     start: Place,
-    quota: u64,
+    rooms: &[u64],
     names: &[u8],
     out: &mut [u8],
 ) -> Written
-    requires { ⌜ Writable (originOf image (now files) (now counts)) (now set) (now lengths) (now bytes) start quota (now names) ⌝ }
-    ensures { λ r. ⌜ Answers (writeSheet (sheetAt (originOf image (now (files .entry)) (now (counts .entry))) (now (set .entry)) (now (lengths .entry)) (now (bytes .entry)) start quota (now (names .entry))) (now (out .entry))) r (now (out .exit)) ⌝ }
+    requires { ⌜ Writable (task (originOf image (now files) (now counts)) (now set) (now lengths) (now bytes) (now rooms) (now names)) start ⌝ }
+    ensures { λ r. ⌜ Answers (storedLaid (setLaid (task (originOf image (now (files .entry)) (now (counts .entry))) (now (set .entry)) (now (lengths .entry)) (now (bytes .entry)) (now (rooms .entry)) (now (names .entry))) start) (now (out .entry))) r (now (out .exit)) ⌝ }
 {
-    let mut none = [0u8; 1];
     let m = lay_set(
         set,
         files,
@@ -62,9 +66,10 @@ fn write_set(
         bytes,
         image,
         start,
-        quota,
+        rooms,
         names,
-        &mut none,
+        out,
+        false,
     );
     if m.short {
         return refusal(12);
@@ -84,11 +89,44 @@ fn write_set(
         bytes,
         image,
         start,
-        quota,
+        rooms,
         names,
         out,
+        true,
     );
     done(end)
+}
+
+// Writes a set on reels that all have the same room.
+fn write_quota(
+    set: &[u8],
+    files: &[u8],
+    counts: &[u64],
+    lengths: &[u64],
+    bytes: &[u8],
+    image: bool,
+    start: Place,
+    quota: u64,
+    names: &[u8],
+    out: &mut [u8],
+) -> Written
+    requires { ⌜ Ordered (originOf image (now files) (now counts)) (now set) (now lengths) (now bytes) start quota (now names) ⌝ }
+    ensures { λ r. ⌜ Answers (writeSheet (sheetAt (originOf image (now (files .entry)) (now (counts .entry))) (now (set .entry)) (now (lengths .entry)) (now (bytes .entry)) start quota (now (names .entry))) (now (out .entry))) r (now (out .exit)) ⌝ }
+{
+    let rooms = [quota; 16];
+    let n = names.len() / NAME;
+    write_set(
+        set,
+        files,
+        counts,
+        lengths,
+        bytes,
+        image,
+        start,
+        &rooms[..n],
+        names,
+        out,
+    )
 }
 
 // Writes a legal sheet.
@@ -122,7 +160,7 @@ fn write_legal(
             walk,
         },
     };
-    write_set(
+    write_quota(
         set,
         files,
         counts,
@@ -171,7 +209,7 @@ fn rewrite_from(image: &[u8], f: FileAt, quota: u64, names: &[u8], out: &mut [u8
         file: f,
     };
     let set = set_of(part_of(image, f.first, LABEL));
-    write_set(
+    write_quota(
         set,
         set,
         &none,

@@ -1,44 +1,40 @@
-// All files of a set laid down one after the other, from the first reel to the end of the last. It knows how the slices of a sheet hold a file, and
-// how an image does.
+// All files of a set laid down one after the other, from the first reel to the end of the last. It knows how the slices of a sheet hold a file, and how an
+// image does.
 ghost use mathlib.Core.Path.{_≡_};
-ghost use mathlib.Core.Bool.{false, true};
-ghost use mathlib.Core.List.{[], _∷_, _++_};
-ghost use Prim.Native.Nat.{_+_, _-_, _*_, _≤_, _<_};
+ghost use mathlib.Core.Bool.{true, false};
+ghost use mathlib.Core.List.{[], _∷_};
+ghost use Prim.Native.Nat.{_+_, _*_, _≤_, _<_};
 ghost use lib.ListN.{length, drop, getD};
 ghost use Rattle.base.specs.Part.{part, putAt};
 ghost use Rattle.base.specs.Sum.{sum};
-ghost use Rattle.image.specs.Item.{block, encode};
-ghost use Rattle.image.specs.Framing.{head};
-ghost use Rattle.label.specs.Made.{madeVolume};
+ghost use Rattle.image.specs.Item.{mark, reelEnd, encode};
 ghost use Rattle.volume.specs.Meaning.{fieldsFrom};
-ghost use Rattle.sheet.specs.Legal.{formatFrom, blockLengthFrom};
-ghost use Rattle.content.specs.Walked.{endOf};
-ghost use Rattle.writer.specs.Lay.{lay};
-ghost use Rattle.writer.specs.Output.{Wrote};
-ghost use Rattle.writer.specs.Reels.{Layable, FilePut};
-ghost use Rattle.writer.specs.Sets.{listed, read, originOf, Begun, Walked, behindListed, Over, followed, behindRead, Fileable, OneFiled, AllFiled, SetEnded, Sheeted, sheetAt, Writable};
+ghost use Rattle.writer.specs.Pass.{inkAt, job};
+ghost use Rattle.writer.specs.Files.{FileReady, FilePut};
+ghost use Rattle.writer.specs.Sets.{listed, read, originOf, listedAt, walkAt, behindListed, Over, followed, behindRead, task, Fileable, OneFiled, AllFiled, Closing, Closed, headOf, firstPen, Sheeted, setLaid, SetReady};
+use crate::body::Body;
+use crate::file::put_file;
+use crate::item::REEL_END;
+use crate::item::put_head;
 use crate::item::put_reel_end;
-use crate::item::put_volume;
-use crate::out::put_bytes;
-use crate::reel::Laying;
-use crate::reel::Reel;
-use crate::reel::put_file;
+use crate::lay::copy_to;
+use crate::pen::NAME;
+use crate::pen::Pen;
 use crate::source::Cursor;
-use crate::source::block_end;
-use crate::source::next;
-use crate::source::wide;
+use crate::unit::wide;
 use base::part_of;
 use content::FileAt;
 use content::NextFile;
 use content::Walk;
 use content::file_behind;
 
-// The bytes of a file's entry, of a reel name, and of a label.
+// The bytes of a file's entry, and of a label.
 const ENTRY: usize = 46;
 
-const NAME: usize = 6;
-
 pub(crate) const LABEL: usize = 80;
+
+// The bytes of the head of an image and the volume label of its first reel.
+const HEAD: usize = 88;
 
 // A place among the files: how many are passed; of a sheet, the next length and the next byte; of an image, the next file.
 pub struct Place {
@@ -48,51 +44,41 @@ pub struct Place {
     pub file: FileAt,
 }
 
-// Where the laying of files is: whether files are to be laid, the place, and the reel.
+// Where the laying of files is: whether files are to be laid, the place, and the pen.
 pub struct Filing {
     pub on: bool,
     pub place: Place,
-    pub reel: Reel,
+    pub pen: Pen,
 }
 
-// Opens the first record of a file with the lengths from `first` to `stop`.
-fn begin(lengths: &[u64], bytes: &[u8], byte: usize, first: usize, stop: usize) -> Cursor
-    requires { ⌜ first ≤ stop ⌝ }
-    requires { ⌜ stop ≤ length (now lengths) ⌝ }
-    requires { ⌜ byte + sum (part first (stop - first) (now lengths)) ≤ length (now bytes) ⌝ }
-    ensures { λ r. ⌜ Begun (now (lengths .entry)) (now (bytes .entry)) byte first stop r ⌝ }
-{
-    next(
-        lengths,
-        bytes,
-        Cursor {
-            at: byte,
-            here: 0,
-            left: 0,
-            next: first,
-            stop,
-            rest: 0,
-            offset: 0,
-            size: 0,
-            format: 0,
-            begun: 0,
-            live: true,
-            image: false,
-        },
-    )
-}
+// ---- a file of a sheet
 
-// The end of the lengths of the file at a place.
-fn stop_of(counts: &[u64], lengths: &[u64], g: Place) -> usize
+// The records of the file at a place.
+fn count_of(counts: &[u64], lengths: &[u64], g: Place) -> usize
     requires { ⌜ g .nth < length (now counts) ⌝ }
     requires { ⌜ g .first + sum (drop (g .nth) (now counts)) ≡ length (now lengths) ⌝ }
-    ensures { λ r. ⌜ r ≡ g .first + getD (now (counts .entry)) (g .nth) 0 ⌝ }
+    ensures { λ r. ⌜ (r ≡ getD (now (counts .entry)) (g .nth) 0) × (g .first + r ≤ length (now (lengths .entry))) ⌝ }
 {
     let i = g.nth;
-    g.first + wide(counts[i])
+    wide(counts[i])
 }
 
-// Lays the file of a sheet with the entry of that number, from its open records on.
+// The cursor at the first of a file's records, of which there are so many.
+fn listed_at(byte: usize, count: usize, stop: usize) -> Cursor
+    ensures { λ r. ⌜ r ≡ listedAt byte count stop ⌝ }
+{
+    Cursor {
+        at: byte,
+        left: count,
+        stop,
+        offset: 0,
+        size: 0,
+        format: 0,
+        image: false,
+    }
+}
+
+// Lays the file of a sheet with the entry of that number.
 fn lay_entry(
     set: &[u8],
     files: &[u8],
@@ -100,14 +86,15 @@ fn lay_entry(
     lengths: &[u64],
     bytes: &[u8],
     c: Cursor,
-    quota: u64,
+    rooms: &[u64],
     names: &[u8],
-    r: Reel,
+    p: Pen,
     out: &mut [u8],
-) -> Laying
+    lay: bool,
+) -> Body
     requires { ⌜ i < 64 ⌝ }
-    requires { ⌜ Layable (formatFrom (part (46 * i) 46 (now files))) (blockLengthFrom (part (46 * i) 46 (now files))) (now lengths) (now bytes) quota (now names) c r ⌝ }
-    ensures { λ x. ⌜ FilePut (now (lengths .entry)) (now (bytes .entry)) quota (now (set .entry)) (part (46 * i) 46 (now (files .entry))) (i + 1) (now (names .entry)) c r (now (out .entry)) (now (out .exit)) x ⌝ }
+    requires { ⌜ FileReady lay (job (now set) (part (46 * i) 46 (now files)) (i + 1) (now rooms) (now names)) (now lengths) (now bytes) c p (now out) ⌝ }
+    ensures { λ r. ⌜ FilePut lay (job (now (set .entry)) (part (46 * i) 46 (now (files .entry))) (i + 1) (now (rooms .entry)) (now (names .entry))) (now (lengths .entry)) (now (bytes .entry)) c p (now (out .entry)) (now (out .exit)) r ⌝ }
 {
     let entry = part_of(files, ENTRY * i, ENTRY);
     let sequence = (i + 1) as u32;
@@ -118,37 +105,37 @@ fn lay_entry(
         set,
         entry,
         sequence,
-        quota,
+        rooms,
         names,
-        r,
+        p,
         out,
+        lay,
     )
 }
 
 // Where the laying of files is behind the file of that number of a sheet, of n files.
-fn behind_listed(f: FileAt, i: usize, stop: usize, n: usize, x: Laying) -> Filing
+fn behind_listed(f: FileAt, i: usize, stop: usize, n: usize, x: Body) -> Filing
     requires { ⌜ i < n ⌝ }
     ensures { λ r. ⌜ r ≡ behindListed f i stop n x ⌝ }
 {
-    let cur = x.cur;
-    let reel = x.reel;
+    let pen = x.pen;
     let place = Place {
         nth: i + 1,
         first: stop,
-        byte: cur.at,
+        byte: x.end,
         file: f,
     };
-    if reel.short {
+    if pen.short {
         return Filing {
             on: false,
             place,
-            reel,
+            pen,
         };
     }
     Filing {
         on: i + 1 < n,
         place,
-        reel,
+        pen,
     }
 }
 
@@ -159,45 +146,39 @@ fn lay_listed(
     counts: &[u64],
     lengths: &[u64],
     bytes: &[u8],
-    quota: u64,
+    rooms: &[u64],
     names: &[u8],
     g: Place,
-    r: Reel,
+    p: Pen,
     out: &mut [u8],
+    lay: bool,
 ) -> Filing
-    requires { ⌜ Fileable (listed (now files) (now counts)) quota (now set) (now lengths) (now bytes) (now names) g r ⌝ }
-    ensures { λ x. ⌜ OneFiled (listed (now (files .entry)) (now (counts .entry))) quota (now (set .entry)) (now (lengths .entry)) (now (bytes .entry)) (now (names .entry)) g r (now (out .entry)) (now (out .exit)) x ⌝ }
+    requires { ⌜ Fileable lay (task (listed (now files) (now counts)) (now set) (now lengths) (now bytes) (now rooms) (now names)) g p (now out) ⌝ }
+    ensures { λ x. ⌜ OneFiled lay (task (listed (now (files .entry)) (now (counts .entry))) (now (set .entry)) (now (lengths .entry)) (now (bytes .entry)) (now (rooms .entry)) (now (names .entry))) g p (now (out .entry)) (now (out .exit)) x ⌝ }
 {
     let i = g.nth;
-    let stop = stop_of(counts, lengths, g);
-    let c = begin(lengths, bytes, g.byte, g.first, stop);
-    let x = lay_entry(set, files, i, lengths, bytes, c, quota, names, r, out);
+    let count = count_of(counts, lengths, g);
+    let stop = g.first + count;
+    let c = listed_at(g.byte, count, stop);
+    let x = lay_entry(set, files, i, lengths, bytes, c, rooms, names, p, out, lay);
     behind_listed(g.file, i, stop, counts.len(), x)
 }
 
-// Opens the first record of an image's file, from a walk on.
-fn begin_walk(lengths: &[u64], bytes: &[u8], w: Walk) -> Cursor
-    requires { ⌜ endOf (now bytes) w ≤ length (now bytes) ⌝ }
-    ensures { λ r. ⌜ Walked (now (lengths .entry)) (now (bytes .entry)) w r ⌝ }
+// ---- a file of an image
+
+// The cursor at the first record of a walk.
+fn walk_at(w: Walk) -> Cursor
+    ensures { λ r. ⌜ r ≡ walkAt w ⌝ }
 {
-    next(
-        lengths,
-        bytes,
-        Cursor {
-            at: 0,
-            here: 0,
-            left: 0,
-            next: w.at,
-            stop: w.left,
-            rest: 0,
-            offset: w.offset,
-            size: w.size,
-            format: w.format,
-            begun: 0,
-            live: true,
-            image: true,
-        },
-    )
+    Cursor {
+        at: w.at,
+        left: w.left,
+        stop: 0,
+        offset: w.offset,
+        size: w.size,
+        format: w.format,
+        image: true,
+    }
 }
 
 // An entry with s at a place.
@@ -206,7 +187,7 @@ fn with_part(entry: [u8; 46], at: usize, s: &[u8]) -> [u8; 46]
     ensures { λ r. ⌜ r ≡ putAt entry at (now (s .entry)) ⌝ }
 {
     let mut made = entry;
-    put_bytes(&mut made, at, s);
+    copy_to(&mut made, at, s);
     made
 }
 
@@ -234,7 +215,7 @@ fn entry_at(bytes: &[u8], f: FileAt) -> [u8; 46]
     )
 }
 
-// Lays the file of an image that stands there, the one of number i, from its open records on.
+// Lays the file of an image that stands there, the one of number i.
 fn lay_labelled(
     set: &[u8],
     f: FileAt,
@@ -242,16 +223,17 @@ fn lay_labelled(
     lengths: &[u64],
     bytes: &[u8],
     c: Cursor,
-    quota: u64,
+    rooms: &[u64],
     names: &[u8],
-    r: Reel,
+    p: Pen,
     out: &mut [u8],
-) -> Laying
+    lay: bool,
+) -> Body
     requires { ⌜ i < 64 ⌝ }
     requires { ⌜ f .first + 80 ≤ length (now bytes) ⌝ }
     requires { ⌜ f .second + 80 ≤ length (now bytes) ⌝ }
-    requires { ⌜ Layable (formatFrom (fieldsFrom (part (f .first) 80 (now bytes)) (part (f .second) 80 (now bytes)))) (blockLengthFrom (fieldsFrom (part (f .first) 80 (now bytes)) (part (f .second) 80 (now bytes)))) (now lengths) (now bytes) quota (now names) c r ⌝ }
-    ensures { λ x. ⌜ FilePut (now (lengths .entry)) (now (bytes .entry)) quota (now (set .entry)) (fieldsFrom (part (f .first) 80 (now (bytes .entry))) (part (f .second) 80 (now (bytes .entry)))) (i + 1) (now (names .entry)) c r (now (out .entry)) (now (out .exit)) x ⌝ }
+    requires { ⌜ FileReady lay (job (now set) (fieldsFrom (part (f .first) 80 (now bytes)) (part (f .second) 80 (now bytes))) (i + 1) (now rooms) (now names)) (now lengths) (now bytes) c p (now out) ⌝ }
+    ensures { λ r. ⌜ FilePut lay (job (now (set .entry)) (fieldsFrom (part (f .first) 80 (now (bytes .entry))) (part (f .second) 80 (now (bytes .entry)))) (i + 1) (now (rooms .entry)) (now (names .entry))) (now (lengths .entry)) (now (bytes .entry)) c p (now (out .entry)) (now (out .exit)) r ⌝ }
 {
     let entry = entry_at(bytes, f);
     let sequence = (i + 1) as u32;
@@ -262,20 +244,22 @@ fn lay_labelled(
         set,
         &entry,
         sequence,
-        quota,
+        rooms,
         names,
-        r,
+        p,
         out,
+        lay,
     )
 }
 
-// Where the laying of files is behind the file of that number of an image. The next one is looked for from where the cursor ended.
-fn behind_read(bytes: &[u8], f: FileAt, i: usize, c: Cursor, r: Reel) -> Filing
+// Where the laying of files is behind the file of that number of an image. The next one is looked for from where the records of this one end.
+fn behind_read(bytes: &[u8], f: FileAt, i: usize, x: Body) -> Filing
     requires { ⌜ i < 64 ⌝ }
-    requires { ⌜ Over (now bytes) f c r ⌝ }
-    ensures { λ x. ⌜ x ≡ behindRead f i r (followed (now (bytes .entry)) f r) ⌝ }
+    requires { ⌜ Over (now bytes) f x ⌝ }
+    ensures { λ r. ⌜ r ≡ behindRead f i (x .pen) (followed (now (bytes .entry)) f (x .pen)) ⌝ }
 {
     let nth = i + 1;
+    let pen = x.pen;
     let over = Filing {
         on: false,
         place: Place {
@@ -284,12 +268,12 @@ fn behind_read(bytes: &[u8], f: FileAt, i: usize, c: Cursor, r: Reel) -> Filing
             byte: 0,
             file: f,
         },
-        reel: r,
+        pen,
     };
-    if r.short {
+    if pen.short {
         return over;
     }
-    match file_behind(bytes, f, block_end(bytes, c)) {
+    match file_behind(bytes, f, x.end) {
         NextFile::Nowhere => over,
         NextFile::At(file) => Filing {
             on: true,
@@ -299,7 +283,7 @@ fn behind_read(bytes: &[u8], f: FileAt, i: usize, c: Cursor, r: Reel) -> Filing
                 byte: 0,
                 file,
             },
-            reel: r,
+            pen,
         },
     }
 }
@@ -309,21 +293,24 @@ fn lay_read(
     set: &[u8],
     lengths: &[u64],
     bytes: &[u8],
-    quota: u64,
+    rooms: &[u64],
     names: &[u8],
     g: Place,
-    r: Reel,
+    p: Pen,
     out: &mut [u8],
+    lay: bool,
 ) -> Filing
-    requires { ⌜ Fileable read quota (now set) (now lengths) (now bytes) (now names) g r ⌝ }
-    ensures { λ x. ⌜ OneFiled read quota (now (set .entry)) (now (lengths .entry)) (now (bytes .entry)) (now (names .entry)) g r (now (out .entry)) (now (out .exit)) x ⌝ }
+    requires { ⌜ Fileable lay (task read (now set) (now lengths) (now bytes) (now rooms) (now names)) g p (now out) ⌝ }
+    ensures { λ x. ⌜ OneFiled lay (task read (now (set .entry)) (now (lengths .entry)) (now (bytes .entry)) (now (rooms .entry)) (now (names .entry))) g p (now (out .entry)) (now (out .exit)) x ⌝ }
 {
     let i = g.nth;
     let f = g.file;
-    let c = begin_walk(lengths, bytes, f.walk);
-    let x = lay_labelled(set, f, i, lengths, bytes, c, quota, names, r, out);
-    behind_read(bytes, f, i, x.cur, x.reel)
+    let c = walk_at(f.walk);
+    let x = lay_labelled(set, f, i, lengths, bytes, c, rooms, names, p, out, lay);
+    behind_read(bytes, f, i, x)
 }
+
+// ---- all files
 
 // Lays the file at a place, of an image or a sheet.
 fn lay_file(
@@ -333,19 +320,32 @@ fn lay_file(
     lengths: &[u64],
     bytes: &[u8],
     image: bool,
-    quota: u64,
+    rooms: &[u64],
     names: &[u8],
     g: Place,
-    r: Reel,
+    p: Pen,
     out: &mut [u8],
+    lay: bool,
 ) -> Filing
-    requires { ⌜ Fileable (originOf image (now files) (now counts)) quota (now set) (now lengths) (now bytes) (now names) g r ⌝ }
-    ensures { λ x. ⌜ OneFiled (originOf image (now (files .entry)) (now (counts .entry))) quota (now (set .entry)) (now (lengths .entry)) (now (bytes .entry)) (now (names .entry)) g r (now (out .entry)) (now (out .exit)) x ⌝ }
+    requires { ⌜ Fileable lay (task (originOf image (now files) (now counts)) (now set) (now lengths) (now bytes) (now rooms) (now names)) g p (now out) ⌝ }
+    ensures { λ x. ⌜ OneFiled lay (task (originOf image (now (files .entry)) (now (counts .entry))) (now (set .entry)) (now (lengths .entry)) (now (bytes .entry)) (now (rooms .entry)) (now (names .entry))) g p (now (out .entry)) (now (out .exit)) x ⌝ }
 {
     if image {
-        return lay_read(set, lengths, bytes, quota, names, g, r, out);
+        return lay_read(set, lengths, bytes, rooms, names, g, p, out, lay);
     }
-    lay_listed(set, files, counts, lengths, bytes, quota, names, g, r, out)
+    lay_listed(
+        set,
+        files,
+        counts,
+        lengths,
+        bytes,
+        rooms,
+        names,
+        g,
+        p,
+        out,
+        lay,
+    )
 }
 
 // Lays all files from a place on, where there are any.
@@ -356,23 +356,24 @@ fn lay_files(
     lengths: &[u64],
     bytes: &[u8],
     image: bool,
-    quota: u64,
+    rooms: &[u64],
     names: &[u8],
     g: Place,
-    r: Reel,
+    p: Pen,
     out: &mut [u8],
+    lay: bool,
 ) -> Filing
-    requires { ⌜ Fileable (originOf image (now files) (now counts)) quota (now set) (now lengths) (now bytes) (now names) g r ⌝ }
-    ensures { λ x. ⌜ AllFiled (originOf image (now (files .entry)) (now (counts .entry))) quota (now (set .entry)) (now (lengths .entry)) (now (bytes .entry)) (now (names .entry)) g r (now (out .entry)) (now (out .exit)) x ⌝ }
+    requires { ⌜ Fileable lay (task (originOf image (now files) (now counts)) (now set) (now lengths) (now bytes) (now rooms) (now names)) g p (now out) ⌝ }
+    ensures { λ x. ⌜ AllFiled lay (task (originOf image (now (files .entry)) (now (counts .entry))) (now (set .entry)) (now (lengths .entry)) (now (bytes .entry)) (now (rooms .entry)) (now (names .entry))) g p (now (out .entry)) (now (out .exit)) x ⌝ }
 {
     let mut x = Filing {
         on: true,
         place: g,
-        reel: r,
+        pen: p,
     };
     while x.on {
         let place = x.place;
-        let reel = x.reel;
+        let pen = x.pen;
         x = lay_file(
             set,
             files,
@@ -380,43 +381,81 @@ fn lay_files(
             lengths,
             bytes,
             image,
-            quota,
+            rooms,
             names,
             place,
-            reel,
+            pen,
             out,
+            lay,
         );
     }
     x
 }
 
-// Ends the last reel, unless a name was lacking.
-fn end_set(r: Reel, out: &mut [u8]) -> Reel
-    ensures { λ v. ⌜ SetEnded r (now (out .entry)) (now (out .exit)) v ⌝ }
+// ---- the set
+
+// Writes the end of the last reel, where the pass lays.
+fn lay_reel_end(out: &mut [u8], at: usize, lay: bool)
+    requires { ⌜ (lay ≡ true → at + 6 ≤ length (now out)) ⌝ }
+    ensures { λ _. ⌜ now (out .exit) ≡ inkAt lay (now (out .entry)) at (encode (mark ∷ reelEnd ∷ [])) ⌝ }
 {
-    if r.short {
-        return r;
+    if lay {
+        put_reel_end(out, at);
     }
-    let at = put_reel_end(out, r.at);
-    Reel {
-        at,
-        section: r.section,
-        count: r.count,
-        room: r.room,
-        name: r.name,
+}
+
+// Ends the last reel, unless a reel is lacking.
+fn end_set(p: Pen, out: &mut [u8], lay: bool) -> Pen
+    requires { ⌜ Closing lay p (length (now out)) ⌝ }
+    ensures { λ r. ⌜ Closed lay p (now (out .entry)) (now (out .exit)) r ⌝ }
+{
+    if p.short {
+        return p;
+    }
+    lay_reel_end(out, p.at, lay);
+    Pen {
+        at: p.at + REEL_END,
+        used: 0,
+        room: p.room,
+        next: p.next,
+        section: p.section,
+        count: p.count,
+        on: false,
         short: false,
     }
 }
 
-// Writes the head of an image and the volume label of the first reel.
-fn put_head(names: &[u8], out: &mut [u8]) -> usize
-    ensures { λ r. ⌜ Wrote (now (out .entry)) 0 (head ++ encode (block (madeVolume (part 0 6 (now (names .entry)))) ∷ [])) (now (out .exit)) r ⌝ }
+// Writes the head of an image and the volume label of the first reel, where the pass lays.
+fn lay_head(names: &[u8], out: &mut [u8], lay: bool)
+    requires { ⌜ (lay ≡ true → 88 ≤ length (now out)) ⌝ }
+    ensures { λ _. ⌜ now (out .exit) ≡ inkAt lay (now (out .entry)) 0 (headOf (part 0 6 (now (names .entry)))) ⌝ }
 {
-    let start = put_bytes(out, 0, b"TGI\0\x01");
-    put_volume(out, start, part_of(names, 0, NAME))
+    if lay {
+        put_head(out, part_of(names, 0, NAME));
+    }
 }
 
-// Lays a set down at the front of a buffer: all files from the first on.
+// Begins a set on its first reel.
+fn begin_set(rooms: &[u64], names: &[u8], out: &mut [u8], lay: bool) -> Pen
+    requires { ⌜ 1 ≤ length (now rooms) ⌝ }
+    requires { ⌜ (lay ≡ true → 88 ≤ length (now out)) ⌝ }
+    ensures { λ r. ⌜ r ≡ firstPen (getD (now (rooms .entry)) 0 0) ⌝ }
+    ensures { λ r. ⌜ now (out .exit) ≡ inkAt lay (now (out .entry)) 0 (headOf (part 0 6 (now (names .entry)))) ⌝ }
+{
+    lay_head(names, out, lay);
+    Pen {
+        at: HEAD,
+        used: 0,
+        room: rooms[0],
+        next: 1,
+        section: 1,
+        count: 0,
+        on: false,
+        short: false,
+    }
+}
+
+// Lays a set down at the front of a buffer: all files from the first on. Where the pass does not lay, it only counts.
 pub(crate) fn lay_set(
     set: &[u8],
     files: &[u8],
@@ -425,22 +464,15 @@ pub(crate) fn lay_set(
     bytes: &[u8],
     image: bool,
     start: Place,
-    quota: u64,
+    rooms: &[u64],
     names: &[u8],
     out: &mut [u8],
-) -> Reel
-    requires { ⌜ Writable (originOf image (now files) (now counts)) (now set) (now lengths) (now bytes) start quota (now names) ⌝ }
-    ensures { λ r. ⌜ Sheeted (lay (sheetAt (originOf image (now (files .entry)) (now (counts .entry))) (now (set .entry)) (now (lengths .entry)) (now (bytes .entry)) start quota (now (names .entry)))) (now (out .entry)) (now (out .exit)) (r .at) (r .short) ⌝ }
+    lay: bool,
+) -> Pen
+    requires { ⌜ SetReady lay (task (originOf image (now files) (now counts)) (now set) (now lengths) (now bytes) (now rooms) (now names)) start (now out) ⌝ }
+    ensures { λ r. ⌜ Sheeted lay (setLaid (task (originOf image (now (files .entry)) (now (counts .entry))) (now (set .entry)) (now (lengths .entry)) (now (bytes .entry)) (now (rooms .entry)) (now (names .entry))) start) (now (out .entry)) (now (out .exit)) r ⌝ }
 {
-    let at = put_head(names, out);
-    let first = Reel {
-        at,
-        section: 1,
-        count: 0,
-        room: quota,
-        name: NAME,
-        short: false,
-    };
+    let first = begin_set(rooms, names, out, lay);
     let x = lay_files(
         set,
         files,
@@ -448,12 +480,13 @@ pub(crate) fn lay_set(
         lengths,
         bytes,
         image,
-        quota,
+        rooms,
         names,
         start,
         first,
         out,
+        lay,
     );
-    let last = x.reel;
-    end_set(last, out)
+    let last = x.pen;
+    end_set(last, out, lay)
 }

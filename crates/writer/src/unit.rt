@@ -1,24 +1,11 @@
-// The units of a block: whether a record enters, how much of it, and its control word. It knows the three record formats by their numbers.
+// The numbers of a unit: whether a record enters a block, how much of it, and the indicator of a segment. It knows the three record formats by their
+// numbers, and writes nothing.
 ghost use mathlib.Core.Path.{_≡_};
-ghost use mathlib.Core.Bool.{true};
-ghost use mathlib.Core.List.{_∷_};
 ghost use Prim.Native.Nat.{_+_, _-_, _≤_, min};
 ghost use lib.Dec.{leb};
-ghost use Rattle.base.specs.Digits.{digits};
 ghost use Rattle.block.specs.Unit.{wordOf};
-ghost use Rattle.writer.specs.Pack.{enters, taken, indicatorOf, controlWord};
-ghost use Rattle.writer.specs.Output.{Wrote};
-ghost use Rattle.writer.specs.Source.{Holds};
-ghost use Rattle.writer.specs.Fills.{UnitPut};
-use crate::out::put_byte;
-use crate::out::put_bytes;
-use crate::out::put_digits;
-use crate::source::Cursor;
-use crate::source::Moved;
-use crate::source::copy;
-use base::FIXED;
+ghost use Rattle.writing.specs.Pack.{enters, taken, indicatorOf};
 use base::SEGMENTED;
-use base::VARIABLE;
 
 // The most bytes of a segment beside its control word.
 const MOST_SEGMENT: usize = 9994;
@@ -31,7 +18,7 @@ pub(crate) fn word_of(f: u8) -> usize
 }
 
 // The smaller of two numbers.
-fn smaller(a: usize, b: usize) -> usize
+pub(crate) fn smaller(a: usize, b: usize) -> usize
     ensures { λ r. ⌜ r ≡ min a b ⌝ }
 {
     if a <= b {
@@ -105,39 +92,9 @@ pub(crate) fn indicator(begun: u8, k: usize, n: usize) -> u8
     2
 }
 
-// Writes the control word of a segment.
-fn put_segment_word(out: &mut [u8], at: usize, i: u8, n: usize) -> usize
-    requires { ⌜ i ≤ 3 ⌝ }
-    ensures { λ r. ⌜ Wrote (now (out .entry)) at ((48 + i) ∷ digits 4 n) (now (out .exit)) r ⌝ }
+// A length as a number of bytes.
+pub(crate) fn wide(n: u64) -> usize
+    ensures { λ r. ⌜ r ≡ n ⌝ }
 {
-    let behind = put_byte(out, at, b'0' + i);
-    put_digits(out, behind, n)
-}
-
-// Writes the control word of a unit of k bytes with indicator i.
-fn put_control(out: &mut [u8], at: usize, f: u8, i: u8, k: usize) -> usize
-    requires { ⌜ i ≤ 3 ⌝ }
-    requires { ⌜ k ≤ 99999 ⌝ }
-    ensures { λ r. ⌜ Wrote (now (out .entry)) at (controlWord f i k) (now (out .exit)) r ⌝ }
-{
-    if f == FIXED {
-        return put_bytes(out, at, b"");
-    }
-    if f == VARIABLE {
-        return put_digits(out, at, k + 4);
-    }
-    put_segment_word(out, at, i, k + 5)
-}
-
-// Writes a unit of k bytes of the open record.
-pub(crate) fn put_unit(f: u8, bytes: &[u8], c: Cursor, k: usize, out: &mut [u8], at: usize) -> Moved
-    requires { ⌜ Holds (now bytes) c ⌝ }
-    requires { ⌜ k ≤ c .left ⌝ }
-    requires { ⌜ k ≤ 99999 ⌝ }
-    requires { ⌜ c .live ≡ true ⌝ }
-    ensures { λ r. ⌜ UnitPut f (now (bytes .entry)) c k (now (out .entry)) at (now (out .exit)) r ⌝ }
-{
-    let i = indicator(c.begun, k, c.left);
-    let behind = put_control(out, at, f, i, k);
-    copy(bytes, c, k, out, behind)
+    n as usize
 }

@@ -8,14 +8,14 @@ part-of-requires c κs = search images
 set-of-requires : tie.Need-set-of-requires
 set-of-requires c κs = search images
 
-slice-aggregate-write-set : tie.Need-slice-aggregate-write-set
-slice-aggregate-write-set c = search images
+slice-aggregate-write-quota : tie.Need-slice-aggregate-write-quota
+slice-aggregate-write-quota c = search images
 
-slice-aggregate-write-set-2 : tie.Need-slice-aggregate-write-set-2
-slice-aggregate-write-set-2 c = search images
+slice-aggregate-write-quota-2 : tie.Need-slice-aggregate-write-quota-2
+slice-aggregate-write-quota-2 c = search images
 
-write-set-requires : tie.Need-write-set-requires
-write-set-requires c κs = search images
+write-quota-requires : tie.Need-write-quota-requires
+write-quota-requires c κs = search images
 
 same-length : tie.Need-same-length
 same-length c = search images
@@ -29,8 +29,8 @@ rewrite-from-spec =
     (tie.spec
     part-of-requires
     set-of-requires
-    slice-aggregate-write-set
-    slice-aggregate-write-set-2
-    write-set-requires
+    slice-aggregate-write-quota
+    slice-aggregate-write-quota-2
+    write-quota-requires
     same-length
     returns)

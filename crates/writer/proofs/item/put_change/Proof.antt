@@ -5,14 +5,14 @@ use Rattle.writer.proofs.item.put_change.Tie as tie
 put-volume-end-requires : tie.Need-put-volume-end-requires
 put-volume-end-requires c κs = search together
 
-put-volume-requires : tie.Need-put-volume-requires
-put-volume-requires c κs = search together
+add-put-next-reel : tie.Need-add-put-next-reel
+add-put-next-reel c = search together
 
-add-put-headers : tie.Need-add-put-headers
-add-put-headers c = search together
+add-put-next-reel-2 : tie.Need-add-put-next-reel-2
+add-put-next-reel-2 c = search together
 
-put-headers-requires : tie.Need-put-headers-requires
-put-headers-requires c κs = search together
+put-next-reel-requires : tie.Need-put-next-reel-requires
+put-next-reel-requires c κs = search together
 
 same-length : tie.Need-same-length
 same-length c = search together
@@ -25,8 +25,8 @@ put-change-spec =
     tie.close
     (tie.spec
     put-volume-end-requires
-    put-volume-requires
-    add-put-headers
-    put-headers-requires
+    add-put-next-reel
+    add-put-next-reel-2
+    put-next-reel-requires
     same-length
     returns)

@@ -8,14 +8,14 @@ slice-aggregate-put-trailer c = search together
 put-trailer-requires : tie.Need-put-trailer-requires
 put-trailer-requires c κs = search together
 
+add-put-second : tie.Need-add-put-second
+add-put-second c = search together
+
 slice-aggregate-put-second : tie.Need-slice-aggregate-put-second
 slice-aggregate-put-second c = search together
 
 put-second-requires : tie.Need-put-second-requires
 put-second-requires c κs = search together
-
-put-mark-requires : tie.Need-put-mark-requires
-put-mark-requires c κs = search together
 
 same-length : tie.Need-same-length
 same-length c = search together
@@ -29,8 +29,8 @@ put-file-end-spec =
     (tie.spec
     slice-aggregate-put-trailer
     put-trailer-requires
+    add-put-second
     slice-aggregate-put-second
     put-second-requires
-    put-mark-requires
     same-length
     returns)

@@ -1,23 +1,28 @@
-use Rattle.writer.proofs.Items.{items}
+use Rattle.writer.proofs.Items.{together}
 use Rattle.writer.proofs.item.put_first.Statement.{statement}
 use Rattle.writer.proofs.item.put_first.Tie as tie
 
 first-label-requires : tie.Need-first-label-requires
-first-label-requires c κs = search items
+first-label-requires c κs = search together
 
-slice-aggregate-put-item : tie.Need-slice-aggregate-put-item
-slice-aggregate-put-item c = search items
+slice-aggregate-put-label : tie.Need-slice-aggregate-put-label
+slice-aggregate-put-label c = search together
 
-put-item-requires : tie.Need-put-item-requires
-put-item-requires c κs = search items
+put-label-requires : tie.Need-put-label-requires
+put-label-requires c κs = search together
 
 same-length : tie.Need-same-length
-same-length c = search items
+same-length c = search together
 
 returns : tie.Need-returns
-returns c = search items
+returns c = search together
 
 pub put-first-spec : {M : Type 1} → statement M
 put-first-spec =
     tie.close
-    (tie.spec first-label-requires slice-aggregate-put-item put-item-requires same-length returns)
+    (tie.spec
+    first-label-requires
+    slice-aggregate-put-label
+    put-label-requires
+    same-length
+    returns)

@@ -1,18 +1,22 @@
-use Rattle.writer.proofs.Items.{items}
+use Rattle.writer.proofs.Items.{together}
 use Rattle.writer.proofs.item.put_reel_end.Statement.{statement}
 use Rattle.writer.proofs.item.put_reel_end.Tie as tie
 
 put-mark-requires : tie.Need-put-mark-requires
-put-mark-requires c κs = search items
+put-mark-requires c κs = search together
 
-put-word-requires : tie.Need-put-word-requires
-put-word-requires c κs = search items
+add-put-length : tie.Need-add-put-length
+add-put-length c = search together
+
+put-length-requires : tie.Need-put-length-requires
+put-length-requires c κs = search together
 
 same-length : tie.Need-same-length
-same-length c = search items
+same-length c = search together
 
 returns : tie.Need-returns
-returns c = search items
+returns c = search together
 
 pub put-reel-end-spec : {M : Type 1} → statement M
-put-reel-end-spec = tie.close (tie.spec put-mark-requires put-word-requires same-length returns)
+put-reel-end-spec =
+    tie.close (tie.spec put-mark-requires add-put-length put-length-requires same-length returns)

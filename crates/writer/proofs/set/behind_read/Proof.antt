@@ -8,9 +8,6 @@ add-nth c = search behindReads
 returns : tie.Need-returns
 returns c = search behindReads
 
-block-end-requires : tie.Need-block-end-requires
-block-end-requires c κs = search behindReads
-
 file-behind-requires : tie.Need-file-behind-requires
 file-behind-requires c κs = search behindReads
 
@@ -29,12 +26,4 @@ returns-3 c = search behindReads
 pub behind-read-spec : {M : Type 1} → statement M
 behind-read-spec =
     tie.close
-    (tie.spec
-    add-nth
-    returns
-    block-end-requires
-    file-behind-requires
-    enum-told
-    enum-known-file
-    returns-2
-    returns-3)
+    (tie.spec add-nth returns file-behind-requires enum-told enum-known-file returns-2 returns-3)

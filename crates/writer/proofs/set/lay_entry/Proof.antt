@@ -1,4 +1,5 @@
-use Rattle.writer.proofs.Filing.{entered}
+use Rattle.writer.proofs.Filing.{entered, put-entry}
+use mathlib.Core.Path.{refl}
 use Rattle.writer.proofs.set.lay_entry.Statement.{statement}
 use Rattle.writer.proofs.set.lay_entry.Tie as tie
 
@@ -21,7 +22,7 @@ same-length : tie.Need-same-length
 same-length c = search entered
 
 returns : tie.Need-returns
-returns c = search entered
+returns c = put-entry _ _ _ _ _ _ _ _ _ _ _ _ _ (c .before .before .before .before .part-of .ensures) refl _ _ (c .before .before .put-file .ensures)
 
 pub lay-entry-spec : {M : Type 1} → statement M
 lay-entry-spec =

@@ -1,5 +1,5 @@
 use Rattle.base.proofs.Rules.{ifs}
-use Rattle.writer.specs.Pack.{indicatorOf}
+use Rattle.writing.specs.Pack.{indicatorOf}
 use Rattle.writer.proofs.unit.indicator.Statement.{statement}
 use Rattle.writer.proofs.unit.indicator.Tie as tie
 

@@ -1,0 +1,36 @@
+use Rattle.writer.proofs.Records.{quicks}
+use Rattle.writer.proofs.record.quick_block.Statement.{statement}
+use Rattle.writer.proofs.record.quick_block.Tie as tie
+
+goes-in-requires : tie.Need-goes-in-requires
+goes-in-requires c κs = search quicks
+
+returns : tie.Need-returns
+returns c = search quicks
+
+goes-next-requires : tie.Need-goes-next-requires
+goes-next-requires c κs = search quicks
+
+turn-over-requires : tie.Need-turn-over-requires
+turn-over-requires c κs = search quicks
+
+same-length : tie.Need-same-length
+same-length c = search quicks
+
+returns-2 : tie.Need-returns-2
+returns-2 c = search quicks
+
+returns-3 : tie.Need-returns-3
+returns-3 c = search quicks
+
+pub quick-block-spec : {M : Type 1} → statement M
+quick-block-spec =
+    tie.close
+    (tie.spec
+    goes-in-requires
+    returns
+    goes-next-requires
+    turn-over-requires
+    same-length
+    returns-2
+    returns-3)

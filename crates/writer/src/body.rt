@@ -1,0 +1,153 @@
+// The records of a file packed into blocks, one after the other, wherever they come from.
+ghost use mathlib.Core.Path.{_≡_};
+ghost use Rattle.block.specs.Unit.{wordOf};
+ghost use Rattle.writer.specs.Pass.{job};
+ghost use Rattle.writer.specs.Source.{movedTo, foundBytes};
+ghost use Rattle.writer.specs.Records.{mostOf, Recorded};
+ghost use Rattle.writer.specs.Bodies.{Takable, Bodied, BodyPut};
+use crate::pen::Pen;
+use crate::record::most_of;
+use crate::record::put_record;
+use crate::source::Cursor;
+use crate::source::Found;
+use crate::source::NONE;
+use crate::source::SPLIT;
+use crate::source::next;
+use crate::source::stop_of;
+use crate::split::put_split;
+use crate::unit::word_of;
+
+// Where the pass is behind the records of a file: the pen, and the place at which they end in their source.
+pub struct Body {
+    pub pen: Pen,
+    pub end: usize,
+}
+
+// The cursor behind a record that was found.
+fn moved_to(c: Cursor, at: usize, left: usize) -> Cursor
+    ensures { λ r. ⌜ r ≡ movedTo c at left ⌝ }
+{
+    Cursor {
+        at,
+        left,
+        stop: c.stop,
+        offset: c.offset,
+        size: c.size,
+        format: c.format,
+        image: c.image,
+    }
+}
+
+// Packs a record that was found at a cursor.
+fn put_found(
+    f: u8,
+    b: usize,
+    w: usize,
+    most: usize,
+    bytes: &[u8],
+    c: Cursor,
+    r: Found,
+    set: &[u8],
+    entry: &[u8],
+    sequence: u32,
+    rooms: &[u64],
+    names: &[u8],
+    p: Pen,
+    out: &mut [u8],
+    lay: bool,
+) -> Pen
+    requires { ⌜ w ≡ wordOf f ⌝ }
+    requires { ⌜ most ≡ mostOf f ⌝ }
+    requires { ⌜ Takable lay f b (job (now set) (now entry) sequence (now rooms) (now names)) (now bytes) c r p (now out) ⌝ }
+    ensures { λ v. ⌜ Recorded lay f b (job (now (set .entry)) (now (entry .entry)) sequence (now (rooms .entry)) (now (names .entry))) (foundBytes (now (bytes .entry)) c r) p (now (out .entry)) (now (out .exit)) v ⌝ }
+{
+    if r.kind == SPLIT {
+        return put_split(
+            f,
+            b,
+            bytes,
+            c,
+            r.len,
+            set,
+            entry,
+            sequence,
+            rooms,
+            names,
+            p,
+            out,
+            lay,
+        );
+    }
+    put_record(
+        f,
+        b,
+        w,
+        most,
+        bytes,
+        r.from,
+        r.len,
+        set,
+        entry,
+        sequence,
+        rooms,
+        names,
+        p,
+        out,
+        lay,
+    )
+}
+
+// Packs all records from a cursor on, up to the open block; it stops where a reel is lacking.
+pub(crate) fn put_records(
+    f: u8,
+    b: usize,
+    lengths: &[u64],
+    bytes: &[u8],
+    first: Cursor,
+    set: &[u8],
+    entry: &[u8],
+    sequence: u32,
+    rooms: &[u64],
+    names: &[u8],
+    p: Pen,
+    out: &mut [u8],
+    lay: bool,
+) -> Body
+    requires { ⌜ Bodied lay f b (job (now set) (now entry) sequence (now rooms) (now names)) (now lengths) (now bytes) first p (now out) ⌝ }
+    ensures { λ r. ⌜ BodyPut lay f b (job (now (set .entry)) (now (entry .entry)) sequence (now (rooms .entry)) (now (names .entry))) (now (lengths .entry)) (now (bytes .entry)) first p (now (out .entry)) (now (out .exit)) r ⌝ }
+{
+    let w = word_of(f);
+    let most = most_of(f);
+    let mut pen = p;
+    let mut c = first;
+    loop {
+        let r = next(lengths, bytes, c);
+        if r.kind == NONE {
+            return Body {
+                pen,
+                end: stop_of(lengths, bytes, c),
+            };
+        }
+        pen = put_found(
+            f,
+            b,
+            w,
+            most,
+            bytes,
+            c,
+            r,
+            set,
+            entry,
+            sequence,
+            rooms,
+            names,
+            pen,
+            out,
+            lay,
+        );
+        if pen.short {
+            return Body { pen, end: 0 };
+        }
+        c = moved_to(c, r.at, r.left);
+    }
+}

@@ -1,0 +1,127 @@
+// The lent buffer: bytes written at a place where the pass lays. What is laid was measured, so that no write asks for room.
+ghost use mathlib.Core.Path.{_≡_};
+ghost use mathlib.Core.Bool.{true};
+ghost use mathlib.Core.List.{_++_};
+ghost use Prim.Native.Nat.{_+_, _≤_, _<_};
+ghost use lib.ListN.{length};
+ghost use Rattle.base.specs.Part.{part, putAt};
+ghost use Rattle.image.specs.Item.{three};
+ghost use Rattle.block.specs.Unit.{wordOf};
+ghost use Rattle.writing.specs.Pack.{controlWord};
+ghost use Rattle.writer.specs.Pass.{overLong};
+ghost use Rattle.writer.specs.Pass.{inkAt};
+ghost use Rattle.writer.specs.Pens.{Unitable};
+use crate::unit::word_of;
+use base::FIXED;
+use base::VARIABLE;
+use output::four_digits;
+use output::put_in;
+
+// The bytes of a length word.
+pub(crate) const WORD: usize = 3;
+
+// Writes the few bytes of a word or a label at a place where they have room.
+pub(crate) fn copy_to(out: &mut [u8], at: usize, s: &[u8])
+    requires { ⌜ at + length (now s) ≤ length (now out) ⌝ }
+    ensures { λ _. ⌜ now (out .exit) ≡ putAt (now (out .entry)) at (now (s .entry)) ⌝ }
+{
+    let mut i = 0;
+    while i < s.len() {
+        out[at + i] = s[i];
+        i += 1;
+    }
+}
+
+// A length as three bytes, the high byte first.
+pub(crate) fn three_bytes(n: usize) -> [u8; 3]
+    requires { ⌜ n < overLong ⌝ }
+    ensures { λ r. ⌜ r ≡ three n ⌝ }
+{
+    [(n / 65536) as u8, (n / 256 % 256) as u8, (n % 256) as u8]
+}
+
+// Writes bytes.
+pub(crate) fn lay_bytes(out: &mut [u8], at: usize, s: &[u8], lay: bool)
+    requires { ⌜ (lay ≡ true → at + length (now s) ≤ length (now out)) ⌝ }
+    ensures { λ _. ⌜ now (out .exit) ≡ inkAt lay (now (out .entry)) at (now (s .entry)) ⌝ }
+{
+    if lay {
+        put_in(out, at, s);
+    }
+}
+
+// Writes the length word of a block.
+pub(crate) fn lay_length(out: &mut [u8], at: usize, n: usize, lay: bool)
+    requires { ⌜ n < overLong ⌝ }
+    requires { ⌜ (lay ≡ true → at + 3 ≤ length (now out)) ⌝ }
+    ensures { λ _. ⌜ now (out .exit) ≡ inkAt lay (now (out .entry)) at (three n) ⌝ }
+{
+    if lay {
+        let w = three_bytes(n);
+        copy_to(out, at, &w);
+    }
+}
+
+// Writes the control word of a unit of k bytes with indicator i.
+fn put_word(out: &mut [u8], at: usize, f: u8, i: u8, k: usize)
+    requires { ⌜ i ≤ 3 ⌝ }
+    requires { ⌜ k ≤ 99999 ⌝ }
+    requires { ⌜ at + wordOf f ≤ length (now out) ⌝ }
+    ensures { λ _. ⌜ now (out .exit) ≡ putAt (now (out .entry)) at (controlWord f i k) ⌝ }
+{
+    if f == FIXED {
+        return;
+    }
+    let d = four_digits(k + word_of(f));
+    if f == VARIABLE {
+        copy_to(out, at, &d);
+        return;
+    }
+    out[at] = b'0' + i;
+    copy_to(out, at + 1, &d);
+}
+
+// The same where the pass lays.
+pub(crate) fn lay_word(out: &mut [u8], at: usize, f: u8, i: u8, k: usize, lay: bool)
+    requires { ⌜ i ≤ 3 ⌝ }
+    requires { ⌜ k ≤ 99999 ⌝ }
+    requires { ⌜ (lay ≡ true → at + wordOf f ≤ length (now out)) ⌝ }
+    ensures { λ _. ⌜ now (out .exit) ≡ inkAt lay (now (out .entry)) at (controlWord f i k) ⌝ }
+{
+    if lay {
+        put_word(out, at, f, i, k);
+    }
+}
+
+// Writes a unit of n bytes, its control word before it.
+fn put_unit(f: u8, i: u8, bytes: &[u8], from: usize, n: usize, out: &mut [u8], at: usize)
+    requires { ⌜ i ≤ 3 ⌝ }
+    requires { ⌜ n ≤ 99999 ⌝ }
+    requires { ⌜ from + n ≤ length (now bytes) ⌝ }
+    requires { ⌜ at + wordOf f + n ≤ length (now out) ⌝ }
+    ensures { λ _. ⌜ now (out .exit) ≡ putAt (now (out .entry)) at (controlWord f i n ++ part from n (now (bytes .entry))) ⌝ }
+{
+    let end = from + n;
+    let w = word_of(f);
+    put_word(out, at, f, i, n);
+    put_in(out, at + w, &bytes[from..end]);
+}
+
+// The same where the pass lays.
+pub(crate) fn lay_unit(
+    f: u8,
+    i: u8,
+    bytes: &[u8],
+    from: usize,
+    n: usize,
+    out: &mut [u8],
+    at: usize,
+    lay: bool,
+)
+    requires { ⌜ Unitable lay f i n from at (length (now bytes)) (length (now out)) ⌝ }
+    ensures { λ _. ⌜ now (out .exit) ≡ inkAt lay (now (out .entry)) at (controlWord f i n ++ part from n (now (bytes .entry))) ⌝ }
+{
+    if lay {
+        put_unit(f, i, bytes, from, n, out, at);
+    }
+}

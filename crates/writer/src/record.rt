@@ -1,0 +1,227 @@
+// A record that stands in one piece, packed into blocks: most often it goes whole into the open block or into the next one.
+ghost use mathlib.Core.Path.{_≡_};
+ghost use mathlib.Core.Bool.{true, false};
+ghost use Prim.Native.Nat.{_≤_, _<_};
+ghost use lib.ListN.{length};
+ghost use Rattle.base.specs.Part.{part};
+ghost use Rattle.block.specs.Unit.{wordOf};
+ghost use Rattle.writer.specs.Pass.{job};
+ghost use Rattle.writer.specs.Pens.{Closable};
+ghost use Rattle.writer.specs.Records.{mostOf, GoesIn, GoesNext, Wholable, Wholed, Turned, Recordable, Recorded, Somewhere, QuickBlock};
+use crate::lay::WORD;
+use crate::lay::lay_unit;
+use crate::pack::Flow;
+use crate::pack::enters_on;
+use crate::pack::more;
+use crate::pack::put_pieces;
+use crate::pen::Pen;
+use crate::pen::close;
+use crate::pen::opened;
+use base::SEGMENTED;
+
+// A block for a record, if there is one.
+pub struct Quick {
+    pub pen: Pen,
+    pub ok: bool,
+}
+
+// The most bytes of a unit beside its control word.
+pub(crate) fn most_of(f: u8) -> usize
+    ensures { λ r. ⌜ r ≡ mostOf f ⌝ }
+{
+    if f == SEGMENTED {
+        return 9994;
+    }
+    99999
+}
+
+// Whether a record of n bytes goes whole into the block that is open.
+fn goes_in(f: u8, b: usize, w: usize, most: usize, is_on: bool, u: usize, n: usize) -> bool
+    requires { ⌜ w ≡ wordOf f ⌝ }
+    requires { ⌜ most ≡ mostOf f ⌝ }
+    requires { ⌜ u ≤ 99999 ⌝ }
+    ensures { λ r. ⌜ (r ≡ true → GoesIn f b «is_on» u n) ⌝ }
+{
+    if n <= most {
+        if is_on {
+            return u + w + n <= b;
+        }
+    }
+    false
+}
+
+// Whether it goes whole into the next block, on this reel.
+fn goes_next(
+    f: u8,
+    b: usize,
+    w: usize,
+    most: usize,
+    is_on: bool,
+    u: usize,
+    room: u64,
+    n: usize,
+) -> bool
+    requires { ⌜ w ≡ wordOf f ⌝ }
+    requires { ⌜ most ≡ mostOf f ⌝ }
+    ensures { λ r. ⌜ (r ≡ true → GoesNext f b «is_on» u room n) ⌝ }
+{
+    if n <= most {
+        if w + n <= b {
+            if 0 < room {
+                if enters_on(f, b, is_on, u, n) {
+                    return false;
+                }
+                return true;
+            }
+        }
+    }
+    false
+}
+
+// Writes a whole record into the open block.
+fn put_whole(
+    f: u8,
+    w: usize,
+    bytes: &[u8],
+    from: usize,
+    n: usize,
+    p: Pen,
+    out: &mut [u8],
+    lay: bool,
+) -> Pen
+    requires { ⌜ w ≡ wordOf f ⌝ }
+    requires { ⌜ Wholable lay f (now bytes) from n p (length (now out)) ⌝ }
+    ensures { λ r. ⌜ Wholed lay f (now (bytes .entry)) from n p (now (out .entry)) (now (out .exit)) r ⌝ }
+{
+    lay_unit(f, 0, bytes, from, n, out, p.at + WORD + p.used, lay);
+    more(p, w + n)
+}
+
+// Closes the open block and opens the next, for which the reel has room.
+fn turn_over(p: Pen, out: &mut [u8], lay: bool) -> Pen
+    requires { ⌜ Closable lay p (length (now out)) ⌝ }
+    requires { ⌜ 1 ≤ p .room ⌝ }
+    requires { ⌜ p .count < 1000000 ⌝ }
+    ensures { λ r. ⌜ Turned lay p (now (out .entry)) (now (out .exit)) r ⌝ }
+{
+    let c = close(p, out, lay);
+    opened(c)
+}
+
+// Packs a record that does not go whole into the open block, nor into the next on this reel.
+fn put_slow(
+    f: u8,
+    b: usize,
+    bytes: &[u8],
+    from: usize,
+    n: usize,
+    set: &[u8],
+    entry: &[u8],
+    sequence: u32,
+    rooms: &[u64],
+    names: &[u8],
+    p: Pen,
+    out: &mut [u8],
+    lay: bool,
+) -> Pen
+    requires { ⌜ Recordable lay f b (job (now set) (now entry) sequence (now rooms) (now names)) (now bytes) from n p (now out) ⌝ }
+    ensures { λ r. ⌜ Recorded lay f b (job (now (set .entry)) (now (entry .entry)) sequence (now (rooms .entry)) (now (names .entry))) (part from n (now (bytes .entry))) p (now (out .entry)) (now (out .exit)) r ⌝ }
+{
+    let end = from + n;
+    let first = Flow {
+        pen: p,
+        left: n,
+        seg: 0,
+        from: 0,
+        begun: 0,
+        inside: false,
+        on: true,
+    };
+    let s = put_pieces(
+        f,
+        b,
+        &bytes[from..end],
+        set,
+        entry,
+        sequence,
+        rooms,
+        names,
+        first,
+        out,
+        lay,
+    );
+    s.pen
+}
+
+// The block for a record that goes whole into the open block, or into the next of this reel; with `ok` false nothing was done.
+fn quick_block(
+    f: u8,
+    b: usize,
+    w: usize,
+    most: usize,
+    bytes: &[u8],
+    from: usize,
+    n: usize,
+    p: Pen,
+    out: &mut [u8],
+    lay: bool,
+) -> Quick
+    requires { ⌜ w ≡ wordOf f ⌝ }
+    requires { ⌜ most ≡ mostOf f ⌝ }
+    requires { ⌜ Somewhere lay f b (now bytes) from n p (now out) ⌝ }
+    ensures { λ r. ⌜ QuickBlock lay f b (now (bytes .entry)) from n p (now (out .entry)) (now (out .exit)) r ⌝ }
+{
+    if goes_in(f, b, w, most, p.on, p.used, n) {
+        return Quick { pen: p, ok: true };
+    }
+    if goes_next(f, b, w, most, p.on, p.used, p.room, n) {
+        let pen = turn_over(p, out, lay);
+        return Quick { pen, ok: true };
+    }
+    Quick { pen: p, ok: false }
+}
+
+// Packs a record.
+pub(crate) fn put_record(
+    f: u8,
+    b: usize,
+    w: usize,
+    most: usize,
+    bytes: &[u8],
+    from: usize,
+    n: usize,
+    set: &[u8],
+    entry: &[u8],
+    sequence: u32,
+    rooms: &[u64],
+    names: &[u8],
+    p: Pen,
+    out: &mut [u8],
+    lay: bool,
+) -> Pen
+    requires { ⌜ w ≡ wordOf f ⌝ }
+    requires { ⌜ most ≡ mostOf f ⌝ }
+    requires { ⌜ Recordable lay f b (job (now set) (now entry) sequence (now rooms) (now names)) (now bytes) from n p (now out) ⌝ }
+    ensures { λ r. ⌜ Recorded lay f b (job (now (set .entry)) (now (entry .entry)) sequence (now (rooms .entry)) (now (names .entry))) (part from n (now (bytes .entry))) p (now (out .entry)) (now (out .exit)) r ⌝ }
+{
+    let t = quick_block(f, b, w, most, bytes, from, n, p, out, lay);
+    if t.ok {
+        let q = t.pen;
+        return put_whole(f, w, bytes, from, n, q, out, lay);
+    }
+    put_slow(
+        f,
+        b,
+        bytes,
+        from,
+        n,
+        set,
+        entry,
+        sequence,
+        rooms,
+        names,
+        p,
+        out,
+        lay,
+    )
+}
