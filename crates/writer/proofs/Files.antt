@@ -23,14 +23,13 @@ use Rattle.writing.proofs.Packing.{by-test}
 use Rattle.writer.specs.declared.pen.Pen.{Pen}
 use Rattle.writer.specs.declared.source.Cursor.{Cursor}
 use Rattle.writer.specs.declared.body.Body.{Body}
-use Rattle.writer.specs.Pass.{Puts, reelsAt, Job, job, inkAt, lacks, inked, Outcome, behind, inkedAt, outcome, restOf, ends, laidFrom, Fits, Sound, between, fillOf, afterOf, fillDue, leftDue, penned}
+use Rattle.writer.specs.Pass.{reelsAt, Job, job, inkAt, lacks, inked, Outcome, behind, inkedAt, outcome, restOf, ends, laidFrom, Fits, Sound, between, fillOf, afterOf, fillDue, leftDue, penned}
 use Rattle.writer.specs.Pens.{Closable, Closes}
 use Rattle.writer.specs.Source.{recordsOf}
 use Rattle.writer.specs.Bodies.{Bodied, BodyPut}
 use Rattle.writer.specs.Files.{Beginnable, begun, Begins, Endable, Ends, Tailable, Tailed, fileLaid, filedFrom, nextFrom, FileReady, FilePut}
 use Rattle.writer.proofs.Items.{length-headers, length-file-end}
 use Rattle.writer.proofs.Passes.{ink-none, ink-length, outcome-items, fits-items}
-use Rattle.writer.proofs.Written.{ink-not}
 use Rattle.writer.proofs.Pens.{ends-given}
 use Rattle.writer.proofs.Packs.{penned-short}
 
@@ -75,20 +74,6 @@ pub laid-room : (p : Pen) (o : List ℕ) (ys : List Item) (l : Laid) (n : ℕ) �
 laid-room p o ys l n s long f =
     let r = fits-items true (p .at) 0 o ys l (length o) (subst (λ (w : Outcome). Fits w (length o)) (laid-given true p o (put ys l) s) f) in
     omega (arith, r .0)
-
--- ---- what a function writes where the pass lays
-
-pub ink-puts : (lay : Bool) (o : List ℕ) (at : ℕ) (bs q : List ℕ) → lay ≡ true → Puts o at bs q → q ≡ inkAt lay o at bs
-unfolding inkAt
-ink-puts lay o at bs q l p = p .is ∙ sym (if-true _ _ _ l)
-
-pub room-laid : (lay : Bool) (n size : ℕ) → (lay ≡ true → n ≤ size) → lay ≡ true → n ≤ size
-room-laid lay n size h l = h l
-
-pub puts-kept : (o : List ℕ) (at : ℕ) (bs q : List ℕ) → Puts o at bs q → length q ≡ length o
-puts-kept o at bs q p = p .kept
-
-pub ruleset inks = (ink-puts, ink-not, room-laid, puts-kept, needs)
 
 -- ---- the numbers of an entry, as the code reads them
 

@@ -36,9 +36,9 @@ use Rattle.writer.specs.Files.{fileLaid, filedFrom, nextFrom, FileReady,
 use Rattle.writer.specs.Sets.{Origin, listed, read, originOf, totalOf, filesAt, Task, task, PlacedIn, layAt, Filed, Fileable, OneFiled, AllFiled, Closing, Closed, firstPen, headOf, Sheeted, meaningAt, setLaid, SetReady}
 use Rattle.writer.proofs.Items.{length-first-reel, length-reel-end}
 use Rattle.writer.proofs.Passes.{ink-none, ink-length}
-use Rattle.writer.proofs.Written.{ink-not}
+use Rattle.writer.proofs.Written.{ink-not, ink-puts, room-laid, puts-kept}
 use Rattle.writer.proofs.Pens.{reels-some}
-use Rattle.writer.proofs.Files.{laid-short, laid-items, laid-room, ink-puts, room-laid, puts-kept}
+use Rattle.writer.proofs.Files.{laid-short, laid-items, laid-room}
 
 -- ---- one file
 

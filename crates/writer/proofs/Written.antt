@@ -21,9 +21,8 @@ use Rattle.label.proofs.Put.{put-first}
 use Rattle.block.specs.Unit.{wordOf}
 use Rattle.block.proofs.Wholes.{word-variable}
 use Rattle.writing.specs.Pack.{controlWord}
-use Rattle.writer.proofs.Items.{length-three}
 use Rattle.writing.proofs.Units.{control-F, control-D, length-control}
-use Rattle.writer.specs.Pass.{inkAt}
+use Rattle.writer.specs.Pass.{Puts, inkAt}
 use Rattle.writer.specs.Pens.{Unitable}
 
 -- a part of a slice, as the code takes it
@@ -50,17 +49,17 @@ pub ink-not : (lay : Bool) (o : List ℕ) (at : ℕ) (bs : List ℕ) → lay ≡
 unfolding inkAt
 ink-not lay o at bs l = sym (if-false _ _ _ l)
 
-pub ink-room : (lay : Bool) (n size : ℕ) → (lay ≡ true → n ≤ size) → lay ≡ true → n ≤ size
-ink-room lay n size h l = h l
-
-pub three-room : (lay : Bool) (at n size : ℕ) (w : List ℕ) → (lay ≡ true → at + 3 ≤ size) → lay ≡ true → w ≡ three n → at + length w ≤ size
-three-room lay at n size w h l e = let m : length w ≡ 3 = ap length e ∙ length-three n in let r = h l in omega arith
-
-pub ink-three : (lay : Bool) (o : List ℕ) (at n : ℕ) (w q : List ℕ) → lay ≡ true → w ≡ three n → q ≡ putAt o at w → q ≡ inkAt lay o at (three n)
+pub ink-puts : (lay : Bool) (o : List ℕ) (at : ℕ) (bs q : List ℕ) → lay ≡ true → Puts o at bs q → q ≡ inkAt lay o at bs
 unfolding inkAt
-ink-three lay o at n w q l e h = h ∙ ap (putAt o at) e ∙ sym (if-true _ _ _ l)
+ink-puts lay o at bs q l p = p .is ∙ sym (if-true _ _ _ l)
 
-pub ruleset inks = (ink-put, ink-put-in, ink-in-kept, ink-not, ink-room, three-room, ink-three, needs)
+pub room-laid : (lay : Bool) (n size : ℕ) → (lay ≡ true → n ≤ size) → lay ≡ true → n ≤ size
+room-laid lay n size h l = h l
+
+pub puts-kept : (o : List ℕ) (at : ℕ) (bs q : List ℕ) → Puts o at bs q → length q ≡ length o
+puts-kept o at bs q p = p .kept
+
+pub ruleset inks = (ink-put-in, ink-in-kept, ink-puts, ink-not, room-laid, puts-kept, needs)
 
 -- ---- a control word
 

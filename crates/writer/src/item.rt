@@ -4,14 +4,14 @@ ghost use mathlib.Core.Path.{_≡_};
 ghost use mathlib.Core.List.{[], _∷_, _++_};
 ghost use Prim.Native.Nat.{suc, _+_, _≤_, _<_};
 ghost use lib.ListN.{length};
-ghost use Rattle.image.specs.Item.{block, mark, reelEnd, three, encode};
+ghost use Rattle.image.specs.Item.{block, mark, reelEnd, encode};
 ghost use Rattle.image.specs.Framing.{head};
 ghost use Rattle.label.specs.Made.{madeVolume, madeFirst, madeSecond};
 ghost use Rattle.writing.specs.Lay.{headers, fileEnd, volumeEnd};
-ghost use Rattle.writer.specs.Pass.{overLong, Puts};
+ghost use Rattle.writer.specs.Pass.{Puts};
 use crate::lay::WORD;
 use crate::lay::copy_to;
-use crate::lay::three_bytes;
+use crate::lay::put_length;
 use label::first_label;
 use label::second_label;
 use label::volume_label;
@@ -33,16 +33,6 @@ pub(crate) const CHANGE: usize = 430;
 
 // The bytes of the second mark and of the end of a reel.
 pub(crate) const REEL_END: usize = 6;
-
-// Writes a length word.
-pub(crate) fn put_length(out: &mut [u8], at: usize, n: usize)
-    requires { ⌜ n < overLong ⌝ }
-    requires { ⌜ at + 3 ≤ length (now out) ⌝ }
-    ensures { λ _. ⌜ Puts (now (out .entry)) at (three n) (now (out .exit)) ⌝ }
-{
-    let w = three_bytes(n);
-    copy_to(out, at, &w);
-}
 
 // Writes a label.
 fn put_label(out: &mut [u8], at: usize, l: &[u8])

@@ -1,4 +1,5 @@
-// The lent buffer: bytes written at a place where the pass lays. What is laid was measured, so that no write asks for room.
+// The lent buffer: bytes written at a place where the pass lays. What is laid was measured: nothing is asked for here, and the bytes of a record go by the one
+// copy that asks for itself.
 ghost use mathlib.Core.Path.{_≡_};
 ghost use mathlib.Core.Bool.{true};
 ghost use mathlib.Core.List.{_++_};
@@ -8,8 +9,7 @@ ghost use Rattle.base.specs.Part.{part, putAt};
 ghost use Rattle.image.specs.Item.{three};
 ghost use Rattle.block.specs.Unit.{wordOf};
 ghost use Rattle.writing.specs.Pack.{controlWord};
-ghost use Rattle.writer.specs.Pass.{overLong};
-ghost use Rattle.writer.specs.Pass.{inkAt};
+ghost use Rattle.writer.specs.Pass.{overLong, Puts, inkAt};
 ghost use Rattle.writer.specs.Pens.{Unitable};
 use crate::unit::word_of;
 use base::FIXED;
@@ -33,11 +33,21 @@ pub(crate) fn copy_to(out: &mut [u8], at: usize, s: &[u8])
 }
 
 // A length as three bytes, the high byte first.
-pub(crate) fn three_bytes(n: usize) -> [u8; 3]
+fn three_bytes(n: usize) -> [u8; 3]
     requires { ⌜ n < overLong ⌝ }
     ensures { λ r. ⌜ r ≡ three n ⌝ }
 {
     [(n / 65536) as u8, (n / 256 % 256) as u8, (n % 256) as u8]
+}
+
+// Writes a length word.
+pub(crate) fn put_length(out: &mut [u8], at: usize, n: usize)
+    requires { ⌜ n < overLong ⌝ }
+    requires { ⌜ at + 3 ≤ length (now out) ⌝ }
+    ensures { λ _. ⌜ Puts (now (out .entry)) at (three n) (now (out .exit)) ⌝ }
+{
+    let w = three_bytes(n);
+    copy_to(out, at, &w);
 }
 
 // Writes bytes.
@@ -57,8 +67,7 @@ pub(crate) fn lay_length(out: &mut [u8], at: usize, n: usize, lay: bool)
     ensures { λ _. ⌜ now (out .exit) ≡ inkAt lay (now (out .entry)) at (three n) ⌝ }
 {
     if lay {
-        let w = three_bytes(n);
-        copy_to(out, at, &w);
+        put_length(out, at, n);
     }
 }
 

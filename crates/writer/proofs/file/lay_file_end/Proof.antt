@@ -1,4 +1,4 @@
-use Rattle.writer.proofs.Files.{inks}
+use Rattle.writer.proofs.Written.{inks}
 use Rattle.writer.proofs.file.lay_file_end.Statement.{statement}
 use Rattle.writer.proofs.file.lay_file_end.Tie as tie
 

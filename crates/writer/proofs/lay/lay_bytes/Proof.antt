@@ -1,9 +1,6 @@
 use Rattle.writer.proofs.Written.{inks}
 use Rattle.writer.proofs.lay.lay_bytes.Statement.{statement}
 use Rattle.writer.proofs.lay.lay_bytes.Tie as tie
-use Rattle.writer.proofs.lay.lay_bytes.Reads as reads
-use Rattle.writer.proofs.lay.lay_bytes.Lts as lts
-use Rattle.output.proofs.put_in.Reads as put-in-reads
 
 put-in-requires : tie.Need-put-in-requires
 put-in-requires c κs = search inks

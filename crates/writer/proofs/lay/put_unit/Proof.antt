@@ -1,11 +1,6 @@
 use Rattle.writer.proofs.Written.{units}
 use Rattle.writer.proofs.lay.put_unit.Statement.{statement}
 use Rattle.writer.proofs.lay.put_unit.Tie as tie
-use Rattle.writer.proofs.lay.put_unit.Reads as reads
-use Rattle.writer.proofs.lay.put_unit.Lts as lts
-use Rattle.output.proofs.put_in.Reads as put-in-reads
-use Rattle.writer.proofs.lay.put_word.Reads as put-word-reads
-use Rattle.writer.proofs.unit.word_of.Reads as word-of-reads
 
 add-end : tie.Need-add-end
 add-end c = search units

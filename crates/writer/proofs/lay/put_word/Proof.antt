@@ -1,11 +1,6 @@
 use Rattle.writer.proofs.Written.{words}
 use Rattle.writer.proofs.lay.put_word.Statement.{statement}
 use Rattle.writer.proofs.lay.put_word.Tie as tie
-use Rattle.writer.proofs.lay.put_word.Reads as reads
-use Rattle.writer.proofs.lay.put_word.Lts as lts
-use Rattle.output.proofs.four_digits.Reads as four-digits-reads
-use Rattle.writer.proofs.lay.copy_to.Reads as copy-to-reads
-use Rattle.writer.proofs.unit.word_of.Reads as word-of-reads
 
 returns : tie.Need-returns
 returns c = search words

@@ -1,4 +1,4 @@
-use Rattle.writer.proofs.Files.{inks}
+use Rattle.writer.proofs.Written.{inks}
 use Rattle.writer.proofs.set.lay_reel_end.Statement.{statement}
 use Rattle.writer.proofs.set.lay_reel_end.Tie as tie
 

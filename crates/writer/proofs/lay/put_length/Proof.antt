@@ -1,6 +1,6 @@
 use Rattle.writer.proofs.Items.{labels}
-use Rattle.writer.proofs.item.put_length.Statement.{statement}
-use Rattle.writer.proofs.item.put_length.Tie as tie
+use Rattle.writer.proofs.lay.put_length.Statement.{statement}
+use Rattle.writer.proofs.lay.put_length.Tie as tie
 
 three-bytes-requires : tie.Need-three-bytes-requires
 three-bytes-requires c κs = search labels
