@@ -1,4 +1,6 @@
 pub mod Parts
+pub mod Put
+pub mod Copies
 pub mod Bytes
 pub mod Sums
 pub mod Numbers

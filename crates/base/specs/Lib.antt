@@ -1,5 +1,6 @@
 pub mod If
 pub mod Part
+pub mod Copy
 pub mod Sum
 pub mod Digits
 pub mod Answer

@@ -5,7 +5,7 @@ use mathlib.Core.Path.{_≡_, refl, ap}
 use mathlib.Core.Bool.{Bool, true, false, _&&_}
 use mathlib.Core.List.{List, [], _∷_, _++_}
 use Prim.Native.Nat.{ℕ, _+_}
-use lib.Dec.{eqb}
+use lib.Dec.{eqb, leb}
 use lib.ListN.{length, take, drop}
 use Rattle.base.specs.If.{ifB}
 
@@ -16,6 +16,10 @@ part a n s = take n (drop a s)
 -- `old` with `bs` at place `at`
 unfoldable pub putAt : List ℕ → ℕ → List ℕ → List ℕ
 putAt old at bs = take at old ++ bs ++ drop (at + length bs) old
+
+-- the same, if all of `bs` has room there
+unfoldable pub putIn : List ℕ → ℕ → List ℕ → List ℕ
+putIn old at bs = ifB (leb (at + length bs) (length old)) (putAt old at bs) old
 
 -- two byte strings are the same
 unfoldable pub same : List ℕ → List ℕ → Bool

@@ -1,5 +1,10 @@
-// What every layer answers with, the two questions that every layer asks of byte strings, and whether numbers that a caller gave add up.
-// It knows no rule of a label, a block or an image.
+// What every layer answers with, the two questions that every layer asks of byte strings, whether numbers that a caller gave add up, and how bytes get into a
+// lent buffer. It knows no rule of a label, a block or an image.
+mod copy; // copy.rt: bytes into a lent buffer
+
+pub use copy::put_few;
+pub use copy::put_in;
+pub use copy::put_some;
 ghost use mathlib.Core.Path.{_≡_};
 ghost use lib.Dec.{eqb};
 ghost use Rattle.base.specs.Part.{part, same};

@@ -1,21 +1,19 @@
--- Laws of joining: bytes copied one by one, segments one by one. Assumes nothing.
+-- Laws of joining: segments one by one. Assumes nothing.
 use mathlib.Core.Path.{_≡_, refl, sym, ap, ap₂, _∙_}
 use mathlib.Core.Bool.{Bool, true, false, false≢true}
 use mathlib.Core.List.{List, _++_}
-use Prim.Native.Nat.{ℕ, suc, _+_, _-_, _≤_, _<_}
+use Prim.Native.Nat.{ℕ, _+_, _-_, _≤_, _<_}
 use native.Mathlib.Omega.{arith}
-use native.Mathlib.Numerals.{add-one}
 use mir.Val.{Fits}
 use mir.Syntax.{w64}
 use borrow.Author.Needs.{needs}
 use borrow.Author.Tests.{leb-true, eqb-true, eqb-false}
 use lib.Dec.{leb, eqb}
-use lib.ListN.{length, drop, getD, set, length-set, length-append, drop-of-length-le}
-use lib.Seq.{drop-cons}
+use lib.ListN.{length, length-append}
 use Rattle.base.specs.If.{if-case}
-use Rattle.base.specs.Part.{part, putAt}
-use Rattle.base.proofs.Parts.{length-part, length-put, put-none, put-put}
-use Rattle.label.proofs.Put.{put-first}
+use Rattle.base.specs.Part.{part, putAt, putIn}
+use Rattle.base.proofs.Parts.{length-part, length-put, put-put}
+use Rattle.base.proofs.Copies.{put-in}
 use Rattle.content.specs.Walk.{Inside, isInside, unitNext, unitFrom, Rest, ends, fails, before, restBy, restAt, Record, whole, split, nothing, splitBy, begunBy, recordAt}
 use Rattle.content.specs.Measure.{isEnded, restBytes, bytesBehind, GoesOn, recordBytes, isSplit, SplitAt}
 use Rattle.content.specs.declared.Walk.{Walk}
@@ -24,37 +22,6 @@ use Rattle.content.specs.declared.unit.Taken.the-variants.{One, Nothing}
 use Rattle.content.proofs.Units.{inside-true}
 use Rattle.content.proofs.Rests.{Behind, next-behind, from-behind, rest-at, ended-before, rest-roomy}
 use Rattle.content.proofs.Measures.{unit-falls}
-
--- ---- bytes copied one by one: what is left put behind what was copied makes the whole
-
-pub record Copied (old src : List ℕ) (at i : ℕ) (out : List ℕ) : Type 0 where
-  pub long : length out ≡ length old
-  pub same : putAt out (at + i) (drop i src) ≡ putAt old at src
-
-pub copied-none : (old src : List ℕ) (at : ℕ) → Copied old src at 0 old
-copied-none old src at = let e : at + 0 ≡ at = omega arith in record { long = refl; same = ap (λ (k : ℕ). putAt old k src) e }
-
-pub copied-more : (old src : List ℕ) (at i : ℕ) (out : List ℕ) → Copied old src at i out → at + length src ≤ length old → i < length src
-    → Copied old src at (i + 1) (set out (at + i) (getD src i 0))
-copied-more old src at i out c h k =
-    let l = c .long in
-    let e : at + (i + 1) ≡ at + i + 1 = omega arith in
-    let room : at + i < length out = omega arith in
-    record {
-      long = length-set out (at + i) (getD src i 0) ∙ c .long;
-      same = ap₂ (λ (j m : ℕ). putAt (set out (at + i) (getD src i 0)) j (drop m src)) e (add-one i)
-          ∙ sym (put-first out (at + i) (getD src i 0) (drop (suc i) src) room)
-          ∙ ap (putAt out (at + i)) (sym (drop-cons src i 0 k))
-          ∙ c .same;
-    }
-
-pub copied-all : (old src : List ℕ) (at i : ℕ) (out : List ℕ) → Copied old src at i out → length src ≤ i → out ≡ putAt old at src
-copied-all old src at i out c h = sym (ap (putAt out (at + i)) (drop-of-length-le src h) ∙ put-none out (at + i)) ∙ c .same
-
-pub place-there : (old src : List ℕ) (at i : ℕ) (out : List ℕ) → Copied old src at i out → at + length src ≤ length old → i < length src → at + i < length out
-place-there old src at i out c h k = let l = c .long in omega arith
-
-pub ruleset copies = (copied-none, copied-more, copied-all, place-there, needs)
 
 -- ---- segments one by one
 
@@ -168,14 +135,14 @@ segment-room s old place from out at w i start n v t l c e q h =
     omega arith
 
 pub joining-last : (s old : List ℕ) (place : ℕ) (from : Walk) (out : List ℕ) (at : ℕ) (w : Walk) (i start n : ℕ) (v : Walk) (t : Taken) (l new : List ℕ)
-    → Joining s old place from out at w → t ≡ unitNext s w → t ≡ One i start n v → l ≡ part start n s → new ≡ putAt out at l → i ≡ 3
+    → Joining s old place from out at w → t ≡ unitNext s w → t ≡ One i start n v → l ≡ part start n s → new ≡ putIn out at l → i ≡ 3
     → new ≡ putAt old place (bytesBehind s from)
 joining-last s old place from out at w i start n v t l new c e q h p z =
     let g = going s w at (length out) i start n v t (c .goes) e q in
-    p ∙ ap (putAt out at) (h ∙ sym (g .last z)) ∙ c .same
+    p ∙ put-in out at l (segment-room s old place from out at w i start n v t l c e q h) ∙ ap (putAt out at) (h ∙ sym (g .last z)) ∙ c .same
 
 pub joining-more : (s old : List ℕ) (place : ℕ) (from : Walk) (out : List ℕ) (at : ℕ) (w : Walk) (i start n : ℕ) (v : Walk) (t : Taken) (l new : List ℕ)
-    → Joining s old place from out at w → t ≡ unitNext s w → t ≡ One i start n v → l ≡ part start n s → new ≡ putAt out at l → (i ≡ 3 → ⊥)
+    → Joining s old place from out at w → t ≡ unitNext s w → t ≡ One i start n v → l ≡ part start n s → new ≡ putIn out at l → (i ≡ 3 → ⊥)
     → Joining s old place from new (at + n) v
 joining-more s old place from out at w i start n v t l new c e q h p z =
     let g = going s w at (length out) i start n v t (c .goes) e q in
@@ -183,7 +150,8 @@ joining-more s old place from out at w i start n v t l new c e q h p z =
     let fits = c .goes .fits in
     let bytes = g .more z .0 in
     let sum : length (bytesBehind s w) ≡ length (part start n s) + length (bytesBehind s v) = ap length bytes ∙ length-append (part start n s) (bytesBehind s v) in
-    let made : new ≡ putAt out at (part start n s) = p ∙ ap (putAt out at) h in
+    let made : new ≡ putAt out at (part start n s)
+    = p ∙ put-in out at l (segment-room s old place from out at w i start n v t l c e q h) ∙ ap (putAt out at) h in
     let room : at + length (part start n s) ≤ length out = omega arith in
     let kept : length new ≡ length out = ap length made ∙ length-put out at (part start n s) room in
     let place' : at + n ≡ at + length (part start n s) = omega arith in
@@ -330,14 +298,14 @@ pub still-goes : (s old out : List ℕ) (n : ℕ) (v : Walk) → GoesOn s v n (l
 still-goes s old out n v c e = let f = c .fits in record { inside = c .inside; ended = c .ended; fits = omega arith }
 
 pub joined-behind : (s old : List ℕ) (start n : ℕ) (v : Walk) (l out new : List ℕ) → start + n ≤ length s → GoesOn s v n (length old) → l ≡ part start n s
-    → out ≡ putAt old 0 l → new ≡ putAt out n (bytesBehind s v) → new ≡ putAt old 0 (part start n s ++ bytesBehind s v)
+    → out ≡ putIn old 0 l → new ≡ putAt out n (bytesBehind s v) → new ≡ putAt old 0 (part start n s ++ bytesBehind s v)
 joined-behind s old start n v l out new h c e p q =
     let a : length (part start n s) ≡ n = length-part start n s h in
     let f = c .fits in
     let z : n ≡ 0 + length (part start n s) = omega arith in
     let room : 0 + length (part start n s) ≤ length old = omega arith in
     q
-    ∙ ap₂ (λ (x : List ℕ) (j : ℕ). putAt x j (bytesBehind s v)) (p ∙ ap (putAt old 0) e) z
+    ∙ ap₂ (λ (x : List ℕ) (j : ℕ). putAt x j (bytesBehind s v)) (p ∙ put-in old 0 l (first-room s old start n v l h c e) ∙ ap (putAt old 0) e) z
     ∙ put-put old 0 (part start n s) (bytesBehind s v) room
 
 pub ruleset joins-from = (first-room, still-goes, joined-behind, needs)

@@ -13,7 +13,7 @@ use lib.ListN.{length, set, length-set}
 use Rattle.base.specs.If.{if-case}
 use Rattle.base.specs.Part.{putAt}
 use Rattle.base.proofs.Parts.{put-none}
-use Rattle.label.proofs.Put.{put-first}
+use Rattle.base.proofs.Put.{put-first}
 use Rattle.block.specs.Unit.{wordOf}
 use Rattle.content.specs.Walk.{moved, Inside, isInside, unitFrom, Rest, ends, fails, Record, whole, split, nothing, splitBy, begunBy, recordAt, stepBy, stepAt}
 use Rattle.content.specs.Whole.{atBlock, standsAt, wholeAt, begunIn}

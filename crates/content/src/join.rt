@@ -11,18 +11,7 @@ use crate::unit::Taken;
 use crate::unit::unit_from;
 use crate::unit::unit_next;
 use base::part_of;
-
-// Bytes copied into a buffer, from a place on.
-fn copy_in(src: &[u8], out: &mut [u8], at: usize)
-    requires { ⌜ at + length (now src) ≤ length (now out) ⌝ }
-    ensures { λ r. ⌜ now (out .exit) ≡ putAt (now (out .entry)) at (now (src .entry)) ⌝ }
-{
-    let mut i = 0;
-    while i < src.len() {
-        out[at + i] = src[i];
-        i += 1;
-    }
-}
+use base::put_in;
 
 // The segments behind the first, copied from a place on.
 fn copy_rest(image: &[u8], from: Walk, join: &mut [u8], place: usize)
@@ -35,7 +24,7 @@ fn copy_rest(image: &[u8], from: Walk, join: &mut [u8], place: usize)
         match unit_next(image, w) {
             Taken::Nothing => return,
             Taken::One(i, start, n, v) => {
-                copy_in(part_of(image, start, n), join, at);
+                put_in(join, at, part_of(image, start, n));
                 if i == 3 {
                     return;
                 }
@@ -52,7 +41,7 @@ pub(crate) fn join_from(image: &[u8], start: usize, n: usize, behind: Walk, join
     requires { ⌜ GoesOn (now image) behind n (length (now join)) ⌝ }
     ensures { λ r. ⌜ now (join .exit) ≡ putAt (now (join .entry)) 0 (part start n (now (image .entry)) ++ bytesBehind (now (image .entry)) behind) ⌝ }
 {
-    copy_in(part_of(image, start, n), join, 0);
+    put_in(join, 0, part_of(image, start, n));
     copy_rest(image, behind, join, n);
 }
 

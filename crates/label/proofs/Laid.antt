@@ -8,7 +8,7 @@ use lib.Seq.{take-at, length-take-le, drop-append-add}
 use Rattle.base.specs.Part.{part, putAt}
 use Rattle.label.specs.Made.{fitted, laid}
 use Rattle.label.specs.Table.{vol1, hdr1, trailer1, second, user}
-use Rattle.label.proofs.Put.{put-front, put-behind}
+use Rattle.base.proofs.Put.{put-front, put-behind}
 
 -- ---- the rows of a table
 

@@ -2,7 +2,6 @@ pub mod Rules
 mod Composed
 pub mod Walk
 pub mod Filled
-pub mod Put
 pub mod Laid
 pub mod Setting
 pub mod Making

@@ -12,7 +12,7 @@ use Rattle.base.specs.Digits.{digits}
 use Rattle.base.proofs.Parts.{put-none}
 use Rattle.base.proofs.Numbers.{length-digits}
 use Rattle.label.specs.Made.{fitted}
-use Rattle.label.proofs.Put.{put-first, put-last}
+use Rattle.base.proofs.Put.{put-first, put-last}
 use Rattle.label.proofs.Laid.{length-fitted, fitted-all}
 
 -- a byte of a fitted field: the field's own, or SPACE behind its end

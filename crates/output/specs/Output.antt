@@ -8,16 +8,12 @@ use Prim.Native.Nat.{ℕ, _+_, _≤_, _<_, min}
 use lib.Dec.{leb, ltb}
 use lib.ListN.{length, take, drop}
 use Rattle.base.specs.If.{ifB}
-use Rattle.base.specs.Part.{putAt}
+use Rattle.base.specs.Part.{putAt, putIn}
 use Rattle.base.specs.Answer.{verdict}
 use Rattle.base.specs.declared.Verdict.{Verdict}
 use Rattle.output.specs.declared.Written.{Written as Answer}
 
--- buffer o with bs at place a, if all of it has room there
-unfoldable pub putIn : List ℕ → ℕ → List ℕ → List ℕ
-putIn o a bs = ifB (leb (a + length bs) (length o)) (putAt o a bs) o
-
--- and if it ends before place `most`
+-- buffer o with bs at place a, if all of it has room there and ends before place `most`
 unfoldable pub putBelow : ℕ → List ℕ → ℕ → List ℕ → List ℕ
 putBelow most o a bs = ifB (ltb (a + length bs) most) (putIn o a bs) o
 
@@ -31,11 +27,6 @@ pub record Wrote (most : ℕ) (o : List ℕ) (a : ℕ) (bs p : List ℕ) (r : �
   pub kept : length p ≡ length o
   pub place : r ≡ min (a + length bs) most
   pub done : r < most → r ≤ length o → p ≡ putAt o a bs
-
--- n bytes are covered by the first w of them and the last w
-pub record Short (w n : ℕ) : Type 0 where
-  pub least : w ≤ n
-  pub most : n ≤ w + w
 
 -- what writing gives: the number, the length of what was written (0 with a refusal), and what the lent buffer then holds
 pub record Written : Type 0 where

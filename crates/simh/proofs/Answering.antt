@@ -9,7 +9,7 @@ use borrow.Author.Tests.{eq-eqb, ne-eqb, eqb-true, eqb-false, le-leb, lt-leb}
 use lib.Dec.{eqb, leb, ltb}
 use lib.ListN.{length, take, drop}
 use Rattle.base.specs.If.{ifB, if-true, if-false, if-case, and-true, and-left, and-right}
-use Rattle.base.specs.Part.{putAt, same}
+use Rattle.base.specs.Part.{putAt, same, putIn}
 use Rattle.base.specs.Sum.{sum}
 use Rattle.base.specs.Answer.{verdict}
 use Rattle.base.specs.declared.Verdict.{Verdict}
@@ -18,9 +18,9 @@ use Rattle.base.proofs.Sums.{length-map}
 use Rattle.image.specs.Item.{Item, encode as imageBytes}
 use Rattle.image.specs.Framing.{mostImage, mostReels, head, framedFrom, items, framing}
 use Rattle.image.proofs.Frames.{framing-zero, framing-items}
-use Rattle.output.specs.Output.{Result, AnswersAt, putIn, refused, refusedWith, placed, refusalOf, writtenOf}
+use Rattle.output.specs.Output.{Result, AnswersAt, refused, refusedWith, placed, refusalOf, writtenOf}
 use Rattle.output.specs.declared.Written.{Written as Answer}
-use Rattle.output.proofs.Writing.{put-in}
+use Rattle.base.proofs.Copies.{put-in}
 use Rattle.simh.specs.declared.import.Measure.{Measure}
 use Rattle.simh.specs.declared.export.Size.{Size}
 use Rattle.simh.specs.declared.export.Tapes.{Tapes}

@@ -16,7 +16,7 @@ use Rattle.image.specs.declared.Shape.{Shape}
 use Rattle.image.specs.declared.Shape.the-variants.{Block, Mark, ReelEnd, Broken}
 use Rattle.image.proofs.Coding.{all-first, all-rest}
 use Rattle.image.proofs.Items.{block-within, block-fits, decode-past, decode-block, decode-mark, decode-reel-end, decode-broken}
-use Rattle.label.proofs.Put.{put-first}
+use Rattle.base.proofs.Put.{put-first}
 use Rattle.simh.specs.Tape.{endWord, spanOf, four, bytesOf, encode}
 use Rattle.simh.specs.Passes.{lengthsFrom, Filed}
 use Rattle.simh.proofs.Sizes.{item-span}

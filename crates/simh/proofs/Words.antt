@@ -10,14 +10,13 @@ use lib.Dec.{leb, eqb}
 use lib.ListN.{length, take, drop, getD, set, length-append, length-drop, length-set}
 use lib.Seq.{drop-cons, drop-drop, getD-drop}
 use Rattle.base.specs.If.{if-true, if-false, if-case, and-left, and-right, if-itself}
-use Rattle.base.specs.Part.{part, putAt, allAre}
+use Rattle.base.specs.Part.{part, putAt, allAre, putIn}
 use Rattle.base.proofs.Parts.{part-drop, length-put, put-none, put-put}
 use Rattle.image.specs.Item.{block, three, bytesOf as imageItem}
 use Rattle.image.specs.declared.Shape.{Shape}
 use Rattle.image.specs.declared.Shape.the-variants.{Broken}
-use Rattle.label.proofs.Put.{put-first}
-use Rattle.output.specs.Output.{putIn}
-use Rattle.output.proofs.Writing.{put-in}
+use Rattle.base.proofs.Put.{put-first}
+use Rattle.base.proofs.Copies.{put-in}
 use Rattle.simh.specs.Tape.{word, second, spanOf, isWhole, ledBy, shape, four, pad, bytesOf}
 
 -- ---- reading

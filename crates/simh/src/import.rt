@@ -243,7 +243,7 @@ pub fn from_simh(tape: &[u8], lengths: &[u64], out: &mut [u8]) -> Written
     if out.len() < len {
         return refusal(10);
     }
-    output::put_in(out, 0, b"TGI\0\x01");
+    base::put_in(out, 0, b"TGI\0\x01");
     put_reels(tape, lengths, out);
     done(len)
 }

@@ -5,7 +5,7 @@ ghost use lib.ListN.{length};
 ghost use Rattle.base.specs.Part.{putAt};
 ghost use Rattle.image.specs.Item.{block, three, bytesOf as imageItem};
 ghost use Rattle.simh.specs.Tape.{four, pad, spanOf, bytesOf};
-use output::put_in;
+use base::put_few;
 
 // A length word of an image: three bytes, the high byte first.
 pub(crate) fn put_three(out: &mut [u8], at: usize, n: usize)
@@ -25,7 +25,7 @@ pub(crate) fn put_block(out: &mut [u8], at: usize, s: &[u8])
     ensures { λ _. ⌜ now (out .exit) ≡ putAt (now (out .entry)) at (imageItem (block (now (s .entry)))) ⌝ }
 {
     put_three(out, at, s.len());
-    put_in(out, at + 3, s);
+    put_few(out, at + 3, s);
 }
 
 // A length word of a file: four bytes, the low byte first.
@@ -58,7 +58,7 @@ pub(crate) fn put_record(out: &mut [u8], at: usize, s: &[u8])
 {
     let n = s.len();
     put_four(out, at, n);
-    put_in(out, at + 4, s);
+    put_few(out, at + 4, s);
     put_pad(out, at + 4 + n, n);
     put_four(out, at + 4 + n + n % 2, n);
 }

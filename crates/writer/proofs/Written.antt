@@ -11,13 +11,12 @@ use mir.Syntax.{w64}
 use lib.Dec.{eqb}
 use lib.ListN.{length, take, drop, set, length-set}
 use Rattle.base.specs.If.{if-true, if-false, if-case}
-use Rattle.base.specs.Part.{part, putAt}
+use Rattle.base.specs.Part.{part, putAt, putIn}
 use Rattle.base.specs.Digits.{digits}
 use Rattle.base.proofs.Numbers.{length-digits}
 use Rattle.base.proofs.Parts.{put-none, put-put, length-part, length-put as put-length}
 use Rattle.image.specs.Item.{three}
-use Rattle.output.specs.Output.{putIn}
-use Rattle.label.proofs.Put.{put-first}
+use Rattle.base.proofs.Put.{put-first}
 use Rattle.block.specs.Unit.{wordOf}
 use Rattle.block.proofs.Wholes.{word-variable}
 use Rattle.writing.specs.Pack.{controlWord}

@@ -14,8 +14,8 @@ ghost use Rattle.writer.specs.Pens.{Unitable};
 use crate::unit::word_of;
 use base::FIXED;
 use base::VARIABLE;
+use base::put_in;
 use output::four_digits;
-use output::put_in;
 
 // The bytes of a length word.
 pub(crate) const WORD: usize = 3;

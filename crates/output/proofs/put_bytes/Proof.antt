@@ -8,18 +8,14 @@ behind-requires c κs = search writing
 returns : tie.Need-returns
 returns c = search writing
 
-returns-2 : tie.Need-returns-2
-returns-2 c = search writing
-
-copy-to-requires : tie.Need-copy-to-requires
-copy-to-requires c κs = search writing
+put-in-requires : tie.Need-put-in-requires
+put-in-requires c κs = search writing
 
 same-length : tie.Need-same-length
 same-length c = search writing
 
-returns-3 : tie.Need-returns-3
-returns-3 c = search writing
+returns-2 : tie.Need-returns-2
+returns-2 c = search writing
 
 pub put-bytes-spec : {M : Type 1} → statement M
-put-bytes-spec =
-    tie.close (tie.spec behind-requires returns returns-2 copy-to-requires same-length returns-3)
+put-bytes-spec = tie.close (tie.spec behind-requires returns put-in-requires same-length returns-2)

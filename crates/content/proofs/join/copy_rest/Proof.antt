@@ -31,8 +31,8 @@ enum-known-i c = search joinings
 part-of-requires : tie.Need-part-of-requires Inv-loop μ-loop
 part-of-requires c κs = search joinings
 
-copy-in-requires : tie.Need-copy-in-requires Inv-loop μ-loop
-copy-in-requires c κs = search joinings
+put-in-requires : tie.Need-put-in-requires Inv-loop μ-loop
+put-in-requires c κs = search joinings
 
 same-length-2 : tie.Need-same-length-2 Inv-loop μ-loop
 same-length-2 c = search joinings
@@ -62,7 +62,7 @@ copy-rest-spec =
     returns
     enum-known-i
     part-of-requires
-    copy-in-requires
+    put-in-requires
     same-length-2
     returns-2
     add-at

@@ -5,11 +5,11 @@ use Rattle.simh.proofs.put.put_record.Tie as tie
 put-four-requires : tie.Need-put-four-requires
 put-four-requires c κs = search puts
 
-add-put-in : tie.Need-add-put-in
-add-put-in c = search puts
+add-put-few : tie.Need-add-put-few
+add-put-few c = search puts
 
-put-in-requires : tie.Need-put-in-requires
-put-in-requires c κs = search puts
+put-few-requires : tie.Need-put-few-requires
+put-few-requires c κs = search puts
 
 add-put-pad : tie.Need-add-put-pad
 add-put-pad c = search puts
@@ -43,8 +43,8 @@ put-record-spec =
     tie.close
     (tie.spec
     put-four-requires
-    add-put-in
-    put-in-requires
+    add-put-few
+    put-few-requires
     add-put-pad
     add-put-pad-2
     put-pad-requires

@@ -1,7 +1,7 @@
-use Rattle.output.proofs.Writing.{copying}
+use Rattle.base.proofs.Copies.{copying}
 use Prim.Native.Nat.{_-_}
 use lib.ListN.{length}
-use Rattle.output.proofs.Writing.{Copying}
+use Rattle.base.proofs.Copies.{Copying}
 use Rattle.writer.proofs.lay.copy_to.Statement.{statement}
 use Rattle.writer.proofs.lay.copy_to.Tie as tie
 
