@@ -8,7 +8,7 @@ use mir.Syntax.{w64}
 use mir.Val.{Fits}
 use native.Mathlib.Omega.{arith}
 use borrow.Author.Needs.{needs}
-use borrow.Author.Tests.{leb-true, eqb-true, eqb-false, le-leb, lt-leb}
+use borrow.Author.Tests.{leb-true, eqb-true, eqb-false, ne-eqb, le-leb, lt-leb}
 use lib.Dec.{leb, eqb}
 use lib.ListN.{length, drop, getD, length-drop, drop-of-length-le}
 use lib.Seq.{drop-drop, getD-drop}
@@ -17,7 +17,7 @@ use Rattle.base.specs.Part.{part}
 use Rattle.base.proofs.Parts.{part-drop}
 use Rattle.image.specs.declared.Shape.{Shape}
 use Rattle.image.specs.declared.Shape.the-variants.{Block, Mark, ReelEnd, Broken}
-use Rattle.image.specs.Item.{Item, block, mark, reelEnd, broken, mostBytes, reelEndWord, word, ledBy, shape, itemOf, behind, itemIn, leftOf, decode}
+use Rattle.image.specs.Item.{Item, block, mark, reelEnd, broken, mostBytes, reelEndWord, word, ledBy, shape, blockLength, itemOf, behind, itemIn, leftOf, decode}
 use Rattle.image.proofs.Coding.{Less, read-none, read-more, by-read}
 
 -- ---- the equations of `decode`
@@ -79,6 +79,51 @@ pub shape-led : (s : List ℕ) (at a b c : ℕ) (p : Shape) → p ≡ ledBy (a *
 shape-led s at a b c p e h i j k = led-at s at (a * 65536 + (b * 256 + c)) p e h (omega (arith, word-at s at))
 
 pub ruleset shapes = (shape-past, shape-short, shape-low, shape-led, needs)
+
+-- the length of the block that stands at a place
+pub length-past : (s : List ℕ) (at : ℕ) → length s ≤ at → 0 ≡ blockLength (shape (drop at s))
+unfolding blockLength
+length-past s at h = ap blockLength (shape-past s at h)
+
+pub length-short : (s : List ℕ) (at : ℕ) → length s - at < 3 → 0 ≡ blockLength (shape (drop at s))
+unfolding blockLength
+length-short s at h = ap blockLength (shape-short s at h)
+
+pub length-low : (s : List ℕ) (at b c n : ℕ) → n ≡ blockLength (ledBy (b * 256 + c) (length s - at - 3)) → 3 ≤ length s - at → getD s at 0 ≡ 0
+    → b ≡ getD s (at + 1) 0 → c ≡ getD s (at + 2) 0 → n ≡ blockLength (shape (drop at s))
+length-low s at b c n e h i j k = e ∙ ap blockLength (shape-low s at b c _ refl h i j k)
+
+pub length-led : (s : List ℕ) (at a b c n : ℕ) → n ≡ blockLength (ledBy (a * 65536 + (b * 256 + c)) (length s - at - 3)) → 3 ≤ length s - at
+    → a ≡ getD s at 0 → b ≡ getD s (at + 1) 0 → c ≡ getD s (at + 2) 0 → n ≡ blockLength (shape (drop at s))
+length-led s at a b c n e h i j k = e ∙ ap blockLength (shape-led s at a b c _ refl h i j k)
+
+-- what a length word leads
+pub length-whole : (w n : ℕ) → w ≤ 99999 → w ≤ n → w ≡ blockLength (ledBy w n)
+unfolding ledBy blockLength
+length-whole w n h k =
+    if-case (λ (p : Shape). w ≡ blockLength p) (eqb w 0) _ _ (λ e. eqb-true w 0 e)
+    (λ _. sym (ap blockLength (if-false _ _ _ (ne-eqb w 16777215 (λ e. omega arith)) ∙ if-true _ _ _ (le-leb w 99999 h) ∙ if-true _ _ _ (le-leb w n k))))
+
+pub length-cut : (w n : ℕ) → w ≤ 99999 → n < w → 0 ≡ blockLength (ledBy w n)
+unfolding ledBy blockLength
+length-cut w n h k =
+    sym (ap blockLength (if-false _ _ _ (ne-eqb w 0 (λ e. omega arith)) ∙ if-false _ _ _ (ne-eqb w 16777215 (λ e. omega arith)) ∙ if-true _ _ _ (le-leb w 99999 h) ∙ if-false _ _ _ (lt-leb w n k)))
+
+pub length-over : (w n : ℕ) → 99999 < w → 0 ≡ blockLength (ledBy w n)
+unfolding ledBy blockLength
+length-over w n h =
+    if-case (λ (p : Shape). 0 ≡ blockLength p) (eqb w 0) _ _ (λ _. refl)
+    (λ _. if-case (λ (p : Shape). 0 ≡ blockLength p) (eqb w 16777215) _ _ (λ _. refl) (λ _. sym (ap blockLength (if-false _ _ _ (lt-leb w 99999 h)))))
+
+-- where it is not 0, a block stands there
+pub block-there : (p : Shape) (n : ℕ) → n ≡ blockLength p → (n ≡ 0 → ⊥) → p ≡ Block n
+unfolding blockLength
+block-there (Block m) n e h = ap Block (sym e)
+block-there Mark n e h = absurd (h e)
+block-there ReelEnd n e h = absurd (h e)
+block-there Broken n e h = absurd (h e)
+
+pub ruleset lengths = (length-past, length-short, length-low, length-led, length-whole, length-cut, length-over, needs)
 
 -- ---- what a shape says of the bytes at whose head it stands
 

@@ -42,6 +42,13 @@ ledBy w n = ifB (eqb w 0) Mark (ifB (eqb w reelEndWord) ReelEnd (ifB (leb w most
 unfoldable pub shape : List ℕ → Shape
 shape s = ifB (leb 3 (length s)) (ledBy (word s) (length (drop 3 s))) Broken
 
+-- the length of a block of that shape; 0, which no block has, for anything else
+unfoldable pub blockLength : Shape → ℕ
+blockLength (Block n) = n
+blockLength Mark = 0
+blockLength ReelEnd = 0
+blockLength Broken = 0
+
 -- the item of that shape at the head of some bytes
 unfoldable pub itemOf : Shape → List ℕ → Item
 itemOf (Block n) s = block (part 3 n s)

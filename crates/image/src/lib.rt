@@ -6,7 +6,7 @@ ghost use Prim.Native.Nat.{_≤_, _<_};
 ghost use lib.ListN.{length, take, drop};
 ghost use Rattle.base.specs.Part.{same};
 ghost use Rattle.base.specs.Answer.{verdict};
-ghost use Rattle.image.specs.Item.{ledBy, shape, decode};
+ghost use Rattle.image.specs.Item.{ledBy, shape, blockLength, decode};
 ghost use Rattle.image.specs.Framing.{mostImage, mostReels, head, framedFrom, framingFrom, opens, framing};
 
 // The most bytes of a block, and the length word that ends a reel.
@@ -80,6 +80,38 @@ pub fn shape_at(s: &[u8], at: usize) -> Shape
         return led_by(low, n);
     }
     led_by(wide(s[at]) * 65536 + low, n)
+}
+
+// The length of the block that a length word with n bytes behind it leads; 0 where it leads none.
+fn block_led_by(word: usize, n: usize) -> usize
+    ensures { λ r. ⌜ r ≡ blockLength (ledBy word n) ⌝ }
+{
+    if MOST_BYTES < word {
+        return 0;
+    }
+    if n < word {
+        return 0;
+    }
+    word
+}
+
+// The length of the block that stands at a place; 0 where none does. A walk past millions of blocks needs no more than this number.
+pub fn block_length_at(s: &[u8], at: usize) -> usize
+    ensures { λ r. ⌜ r ≡ blockLength (shape (drop at (now (s .entry)))) ⌝ }
+{
+    if s.len() <= at {
+        return 0;
+    }
+    let left = s.len() - at;
+    if left < 3 {
+        return 0;
+    }
+    let n = left - 3;
+    let low = wide(s[at + 1]) * 256 + wide(s[at + 2]);
+    if s[at] == 0 {
+        return block_led_by(low, n);
+    }
+    block_led_by(wide(s[at]) * 65536 + low, n)
 }
 
 // Whether an image begins with its mark and version 1.

@@ -15,11 +15,11 @@ use Rattle.base.specs.If.{ifB, if-true}
 use Rattle.base.specs.Part.{part}
 use Rattle.base.specs.Answer.{fault, orElse}
 use Rattle.base.proofs.Parts.{part-within}
-use Rattle.image.specs.Item.{Item, block, decode, shape, itemOf}
+use Rattle.image.specs.Item.{Item, block, decode, shape, blockLength, itemOf}
 use Rattle.image.specs.Framing.{mostImage}
 use Rattle.image.specs.declared.Shape.{Shape}
 use Rattle.image.specs.declared.Shape.the-variants.{Block}
-use Rattle.image.proofs.Items.{block-within, decode-block}
+use Rattle.image.proofs.Items.{block-within, block-there, decode-block}
 use Rattle.order.specs.Kind.{dataBlock, isKind}
 use Rattle.order.specs.Due.{dueAfter, dues, choose}
 use Rattle.label.specs.Field.{formatOf, blockLengthOf, recordLengthOf, offsetOf}
@@ -61,17 +61,25 @@ outcome-given : (h : Lengths) (second : List ℕ) (pending : ℕ) (l : List ℕ)
 unfolding outcomeIn
 outcome-given h second pending l g = cc (g .format, g .block, g .size, g .offset)
 
--- a block stands before the end
-pub block-here : (s : List ℕ) (at n : ℕ) (p : Shape) → p ≡ shape (drop at s) → p ≡ Block n → at < length s
-block-here s at n p e b = omega (arith, block-within s at n p e b)
+-- a block of n bytes stands at a place, as the code tells it
+pub record BlockAt (s : List ℕ) (at n : ℕ) : Type 0 where
+  pub is : shape (drop at s) ≡ Block n
+  pub within : at + 3 + n ≤ length s
 
-pub skip-block : (s : List ℕ) (h : Lengths) (a : Between) (at item count pending n : ℕ) (p : Shape) (o : Outcome)
-    → Skipped s h a (between at item count pending) → at < length s → p ≡ shape (drop at s) → p ≡ Block n
+pub block-at : (s : List ℕ) (at n : ℕ) → n ≡ blockLength (shape (drop at s)) → (n ≡ 0 → ⊥) → BlockAt s at n
+block-at s at n e h = let b = block-there (shape (drop at s)) n e h in record { is = b; within = block-within s at n _ refl b }
+
+pub block-ends : (s : List ℕ) (at n : ℕ) → n ≡ blockLength (shape (drop at s)) → (n ≡ 0 → ⊥) → at + 3 + n ≤ length s
+block-ends s at n e h = block-at s at n e h .within
+
+pub skip-block : (s : List ℕ) (h : Lengths) (a : Between) (at item count pending n : ℕ) (o : Outcome)
+    → Skipped s h a (between at item count pending) → n ≡ blockLength (shape (drop at s)) → (n ≡ 0 → ⊥)
     → o ≡ blockOutcome (h .format) (h .block) (h .size) (h .offset) pending (take (at + 3 + n - (at + 3)) (drop (at + 3) s)) → o .number ≡ 0
     → Skipped s h a (between (at + 3 + n) (item + 1) (count + 1) (o .pending))
 unfolding toldBetween
-skip-block s h a at item count pending n p o k m e b q z =
-    let w : at + 3 + n ≤ length s = block-within s at n p e b in
+skip-block s h a at item count pending n o k e f q z =
+    let b = block-at s at n e f in
+    let w : at + 3 + n ≤ length s = b .within in
     let i : Inside s at item count = k .inside in
     let l : List ℕ = part (at + 3) n s in
     let made : o ≡ blockOutcome (h .format) (h .block) (h .size) (h .offset) pending l
@@ -79,7 +87,7 @@ skip-block s h a at item count pending n p o k m e b q z =
     record {
       same = λ t g.
           k .same t g
-          ∙ ap (toldFrom item (body t count pending)) (decode-block s at n p m e b)
+          ∙ ap (toldFrom item (body t count pending)) (decode-block s at n _ (omega arith) refl (b .is))
           ∙ told-go item (body t count pending) (body t (count + 1) (outcomeIn (t .second) pending l .pending)) (block l) (decode (drop (at + 3 + n) s)) _
           (step-block t count pending l (ap (λ x. x .number) (sym (made ∙ outcome-given h (t .second) pending l g)) ∙ z))
           ∙ ap (λ (x : Outcome). toldFrom (item + 1) (body t (count + 1) (x .pending)) (decode (drop (at + 3 + n) s))) (sym (made ∙ outcome-given h (t .second) pending l g));
@@ -88,20 +96,20 @@ skip-block s h a at item count pending n p o k m e b q z =
       inside = record { short = i .short; within = w; items = omega (arith, i .items); blocks = omega (arith, i .blocks) };
     }
 
-pub block-falls : (s : List ℕ) (at n : ℕ) (p : Shape) → at < length s → p ≡ shape (drop at s) → p ≡ Block n → length s - (at + 3 + n) < length s - at
-block-falls s at n p m e b = omega (arith, block-within s at n p e b)
+pub block-falls : (s : List ℕ) (at n : ℕ) → n ≡ blockLength (shape (drop at s)) → (n ≡ 0 → ⊥) → length s - (at + 3 + n) < length s - at
+block-falls s at n e f = omega (arith, block-at s at n e f .within)
 
-pub start-fits : (s : List ℕ) (at item count n : ℕ) (p : Shape) → Inside s at item count → p ≡ shape (drop at s) → p ≡ Block n → Fits w64 (at + 3)
-start-fits s at item count n p i e b = record { fits = omega (arith, block-within s at n p e b, i .short) }
+pub start-fits : (s : List ℕ) (at item count n : ℕ) → Inside s at item count → n ≡ blockLength (shape (drop at s)) → (n ≡ 0 → ⊥) → Fits w64 (at + 3)
+start-fits s at item count n i e f = record { fits = omega (arith, block-at s at n e f .within, i .short) }
 
-pub end-fits : (s : List ℕ) (at item count n : ℕ) (p : Shape) → Inside s at item count → p ≡ shape (drop at s) → p ≡ Block n → Fits w64 (at + 3 + n)
-end-fits s at item count n p i e b = record { fits = omega (arith, block-within s at n p e b, i .short) }
+pub end-fits : (s : List ℕ) (at item count n : ℕ) → Inside s at item count → n ≡ blockLength (shape (drop at s)) → (n ≡ 0 → ⊥) → Fits w64 (at + 3 + n)
+end-fits s at item count n i e f = record { fits = omega (arith, block-at s at n e f .within, i .short) }
 
 -- an item and a block more can be counted
-pub item-fits : (s : List ℕ) (at item count n : ℕ) (p : Shape) → Inside s at item count → p ≡ shape (drop at s) → p ≡ Block n → Fits w32 (item + 1)
-item-fits s at item count n p i e b = record { fits = omega (arith, block-within s at n p e b, i .short, i .items) }
+pub item-fits : (s : List ℕ) (at item count n : ℕ) → Inside s at item count → n ≡ blockLength (shape (drop at s)) → (n ≡ 0 → ⊥) → Fits w32 (item + 1)
+item-fits s at item count n i e f = record { fits = omega (arith, block-at s at n e f .within, i .short, i .items) }
 
-pub count-fits : (s : List ℕ) (at item count n : ℕ) (p : Shape) → Inside s at item count → p ≡ shape (drop at s) → p ≡ Block n → Fits w64 (count + 1)
-count-fits s at item count n p i e b = record { fits = omega (arith, block-within s at n p e b, i .short, i .blocks) }
+pub count-fits : (s : List ℕ) (at item count n : ℕ) → Inside s at item count → n ≡ blockLength (shape (drop at s)) → (n ≡ 0 → ⊥) → Fits w64 (count + 1)
+count-fits s at item count n i e f = record { fits = omega (arith, block-at s at n e f .within, i .short, i .blocks) }
 
-pub ruleset skips = (skip-none, skip-block, block-falls, start-fits, end-fits, item-fits, count-fits, block-here, block-within, needs)
+pub ruleset skips = (skip-none, skip-block, block-falls, start-fits, end-fits, item-fits, count-fits, block-ends, needs)

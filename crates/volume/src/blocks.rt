@@ -8,7 +8,7 @@ use block::Outcome;
 use block::block_outcome;
 use block::is_variable_block;
 use block::segmented_outcome;
-use image::Shape;
+use image::block_length_at;
 
 // The lengths of a section's blocks, as HDR2 gives them.
 pub struct Lengths {
@@ -56,31 +56,29 @@ pub(crate) fn past_blocks(image: &[u8], h: Lengths, from: Between) -> Between
     let mut count = from.count;
     let mut pending = from.pending;
     loop {
-        let shape = image::shape_at(image, at);
-        match shape {
-            Shape::Block(n) => {
-                let start = at + 3;
-                let end = start + n;
-                let o = outcome_of(h, pending, &image[start..end]);
-                if o.number != 0 {
-                    return Between {
-                        at,
-                        item,
-                        count,
-                        pending,
-                    };
-                }
-                at = end;
-                item += 1;
-                count += 1;
-                pending = o.pending;
-            }
-            _ => return Between {
+        let n = block_length_at(image, at);
+        if n == 0 {
+            return Between {
                 at,
                 item,
                 count,
                 pending,
-            },
+            };
         }
+        let start = at + 3;
+        let end = start + n;
+        let o = outcome_of(h, pending, &image[start..end]);
+        if o.number != 0 {
+            return Between {
+                at,
+                item,
+                count,
+                pending,
+            };
+        }
+        at = end;
+        item += 1;
+        count += 1;
+        pending = o.pending;
     }
 }

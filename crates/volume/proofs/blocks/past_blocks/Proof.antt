@@ -15,11 +15,11 @@ abbrev μ-loop : tie.MeasureT-loop
 loop-holds : tie.Need-loop-holds Inv-loop μ-loop
 loop-holds c = search skips
 
-shape-at-requires : tie.Need-shape-at-requires Inv-loop μ-loop
-shape-at-requires c κs = search skips
+block-length-at-requires : tie.Need-block-length-at-requires Inv-loop μ-loop
+block-length-at-requires c κs = search skips
 
-enum-known-shape : tie.Need-enum-known-shape Inv-loop μ-loop
-enum-known-shape c = search skips
+returns : tie.Need-returns Inv-loop μ-loop
+returns c = search skips
 
 add-start : tie.Need-add-start Inv-loop μ-loop
 add-start c = search skips
@@ -39,8 +39,8 @@ part-outcome-of-end c = search skips
 outcome-of-requires : tie.Need-outcome-of-requires Inv-loop μ-loop
 outcome-of-requires c κs = search skips
 
-returns : tie.Need-returns Inv-loop μ-loop
-returns c = search skips
+returns-2 : tie.Need-returns-2 Inv-loop μ-loop
+returns-2 c = search skips
 
 add-item : tie.Need-add-item Inv-loop μ-loop
 add-item c = search skips
@@ -54,9 +54,6 @@ loop-less c = search skips
 loop-again : tie.Need-loop-again Inv-loop μ-loop
 loop-again c = search skips
 
-returns-2 : tie.Need-returns-2 Inv-loop μ-loop
-returns-2 c = search skips
-
 pub past-blocks-spec : {M : Type 1} → statement M
 past-blocks-spec =
     tie.close
@@ -64,17 +61,16 @@ past-blocks-spec =
     Inv-loop
     μ-loop
     loop-holds
-    shape-at-requires
-    enum-known-shape
+    block-length-at-requires
+    returns
     add-start
     add-end
     sub-outcome-of
     part-outcome-of-start
     part-outcome-of-end
     outcome-of-requires
-    returns
+    returns-2
     add-item
     add-count
     loop-less
-    loop-again
-    returns-2)
+    loop-again)
