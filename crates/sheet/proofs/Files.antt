@@ -7,11 +7,12 @@ use native.Mathlib.Omega.{arith}
 use native.Mathlib.Numerals.{add-one}
 use borrow.Author.Needs.{needs}
 use borrow.Author.Tests.{not-true, not-false}
-use lib.ListN.{length, take, drop, getD, length-drop, drop-of-length-le, List·getD-eq-default}
-use lib.Seq.{drop-cons}
+use lib.ListN.{length, take, drop, getD, length-drop, take-append-drop, drop-of-length-le, List·getD-eq-default}
+use lib.Seq.{drop-cons, drop-drop}
 use Rattle.base.specs.If.{ifB, if-true, if-false}
 use Rattle.base.specs.Part.{part}
 use Rattle.base.specs.Sum.{sum, cutBy}
+use Rattle.base.proofs.Sums.{sum-append}
 use Rattle.charset.specs.Number.{numberIn}
 use Rattle.charset.specs.declared.Number.{Number}
 use Rattle.charset.specs.declared.Number.the-variants.{Value, Wrong}
@@ -49,8 +50,8 @@ abbrev pub file : List ℕ → List (List ℕ) → File
 file e rs = record { fields = e; records = rs }
 
 pub entry-right : (set e ls s : List ℕ) (from f r : ℕ) (p : Bool) (x : Passed) → p ≡ legalEntry set e → p ≡ true → f ≡ formatFrom e
-    → r ≡ recordLengthFrom e → Behind (legalRecords f r (cutBy ls (drop from s))) ls s from x
-    → Behind (legalFile set (file e (cutBy ls (drop from s)))) ls s from x
+    → r ≡ recordLengthFrom e → Behind (legalRecords f r (cutBy ls (drop from s))) ls from x
+    → Behind (legalFile set (file e (cutBy ls (drop from s)))) ls from x
 unfolding legalFile
 entry-right set e ls s from f r p x q t ef er b =
     record {
@@ -63,7 +64,7 @@ entry-right set e ls s from f r p x q t ef er b =
     }
 
 pub entry-wrong : (set e ls s : List ℕ) (from : ℕ) (p : Bool) → p ≡ legalEntry set e → p ≡ false
-    → Behind (legalFile set (file e (cutBy ls (drop from s)))) ls s from (record { legal = false; at = from })
+    → Behind (legalFile set (file e (cutBy ls (drop from s)))) ls from (record { legal = false; at = from })
 unfolding legalFile
 entry-wrong set e ls s from p q t =
     record { answer = sym (if-false _ _ _ (sym q ∙ t)); place = λ h. absurd (false≢true h) }
@@ -74,6 +75,7 @@ pub ruleset entries = (entry-right, entry-wrong, needs)
 
 pub record Left (set files counts lengths s : List ℕ) (entry first at i : ℕ) : Type 0 where
   pub within : first ≤ length lengths
+  pub fits : at + sum (drop first lengths) ≤ length s
   pub left : legalFiles set (filesFrom (inParts 46 (drop entry files)) (drop i counts) (drop first lengths) (drop at s))
       ≡ legalFiles set (filesFrom (inParts 46 files) counts lengths s)
 
@@ -89,13 +91,21 @@ files-at set files counts ls s entry i h k =
     let l = length-drop entry files in
     rw (add-one, drop-cons counts i 0 k, parts-some 46 (drop entry files) (omega arith) (omega arith))
 
-pub left-none : (set files counts lengths s : List ℕ) → Left set files counts lengths s 0 0 0 0
-left-none set files counts lengths s = record { within = omega arith; left = refl }
+pub left-none : (set files counts lengths s : List ℕ) → sum lengths ≤ length s → Left set files counts lengths s 0 0 0 0
+left-none set files counts lengths s h = record { within = omega arith; fits = omega arith; left = refl }
+
+-- the bytes of the lengths that are left are those of a file's and those behind
+sum-parts : (n : ℕ) (ls : List ℕ) → sum ls ≡ sum (take n ls) + sum (drop n ls)
+sum-parts n ls = ap sum (sym (take-append-drop n ls)) ∙ sum-append (take n ls) (drop n ls)
+
+pub left-room : (set files counts lengths s : List ℕ) (entry first at i end : ℕ) → Left set files counts lengths s entry first at i
+    → at + sum (take (end - first) (drop first lengths)) ≤ length s
+left-room set files counts lengths s entry first at i end c = omega (arith, c .fits, sum-parts (end - first) (drop first lengths))
 
 pub left-more : (set files counts lengths s : List ℕ) (entry first at i : ℕ) (e : List ℕ) (end next : ℕ) (x : Passed)
     → Left set files counts lengths s entry first at i → i < length counts → entry < length files → e ≡ part entry 46 files
     → end ≡ min (first + getD counts i 0) (length lengths)
-    → Behind (legalFile set (file e (cutBy (take (end - first) (drop first lengths)) (drop at s)))) (take (end - first) (drop first lengths)) s at x
+    → Behind (legalFile set (file e (cutBy (take (end - first) (drop first lengths)) (drop at s)))) (take (end - first) (drop first lengths)) at x
     → not (x .legal) ≡ false → next ≡ min (entry + 46) (length files) → Left set files counts lengths s next end (x .at) (i + 1)
 left-more set files counts lengths s entry first at i e end next x c h k ee el b n en =
     let ls : take (end - first) (drop first lengths) ≡ take (getD counts i 0) (drop first lengths) = take-past first (getD counts i 0) end lengths el in
@@ -103,10 +113,14 @@ left-more set files counts lengths s entry first at i e end next x c h k ee el b
     = ap (λ (l : List ℕ). legalFile set (file (part entry 46 files) (cutBy l (drop at s)))) (sym ls)
     ∙ ap (λ (l : List ℕ). legalFile set (file l (cutBy (take (end - first) (drop first lengths)) (drop at s)))) (sym ee)
     ∙ sym (b .answer) ∙ not-false (x .legal) n in
+    let spot : x .at ≡ at + sum (take (getD counts i 0) (drop first lengths))
+    = b .place (not-false (x .legal) n) ∙ ap (λ (l : List ℕ). at + sum l) ls in
     let place : drop (x .at) s ≡ drop (sum (take (getD counts i 0) (drop first lengths))) (drop at s)
-    = b .place (not-false (x .legal) n) ∙ ap (λ (l : List ℕ). drop (sum l) (drop at s)) ls in
+    = ap (λ (k : ℕ). drop k s) spot ∙ sym (drop-drop (sum (take (getD counts i 0) (drop first lengths))) at s) in
+    let behind : drop end lengths ≡ drop (getD counts i 0) (drop first lengths) = drop-past first (getD counts i 0) end lengths el in
     record {
       within = omega arith;
+      fits = omega (arith, c .fits, spot, sum-parts (getD counts i 0) (drop first lengths), ap sum behind);
       left =
           ap (λ (l : List ℕ). legalFiles set (filesFrom (inParts 46 l) (drop (i + 1) counts) (drop end lengths) (drop (x .at) s))) (drop-past entry 46 next files en)
           ∙ ap (λ (l : List ℕ). legalFiles set (filesFrom (inParts 46 (drop 46 (drop entry files))) (drop (i + 1) counts) l (drop (x .at) s)))
@@ -119,7 +133,7 @@ left-more set files counts lengths s entry first at i e end next x c h k ee el b
 pub left-wrong : (set files counts lengths s : List ℕ) (entry first at i : ℕ) (e : List ℕ) (end : ℕ) (x : Passed)
     → Left set files counts lengths s entry first at i → i < length counts → entry < length files → e ≡ part entry 46 files
     → end ≡ min (first + getD counts i 0) (length lengths)
-    → Behind (legalFile set (file e (cutBy (take (end - first) (drop first lengths)) (drop at s)))) (take (end - first) (drop first lengths)) s at x
+    → Behind (legalFile set (file e (cutBy (take (end - first) (drop first lengths)) (drop at s)))) (take (end - first) (drop first lengths)) at x
     → not (x .legal) ≡ true → false ≡ legalFiles set (filesFrom (inParts 46 files) counts lengths s)
 left-wrong set files counts lengths s entry first at i e end x c h k ee el b n =
     let ls : take (end - first) (drop first lengths) ≡ take (getD counts i 0) (drop first lengths) = take-past first (getD counts i 0) end lengths el in
@@ -153,4 +167,4 @@ left-counts set files counts lengths s entry first at i c h =
     ∙ no-count set (inParts 46 (drop entry files)) (drop first lengths) (drop at s))
     ∙ c .left
 
-pub ruleset lefts = (left-none, left-more, left-wrong, left-entries, left-counts, needs)
+pub ruleset lefts = (left-none, left-room, left-more, left-wrong, left-entries, left-counts, needs)

@@ -14,7 +14,7 @@ use Rattle.base.specs.Sum.{sum}
 use Rattle.volume.specs.Meaning.{Meaning}
 use Rattle.sheet.specs.Legal.{legalFiles, legalMeaning, freshNames, legalNames, legalQuota, legalSheet}
 use Rattle.sheet.specs.Flat.{Flat, inParts, filesFrom, addsUp, sheetOf, sheetNumber, reelsNumber}
-use Rattle.sheet.specs.Passing.{saysFiles}
+use Rattle.sheet.specs.Passing.{fillBytes, saysFiles}
 use Rattle.sheet.proofs.Cutting.{length-parts}
 
 -- ---- the quota and the names
@@ -88,10 +88,7 @@ module _ (set files counts lengths bytes : List ℕ) where
   -- whole entries, as many as there are counts
   says-whole : length files % 46 ≡ 0 → length files / 46 ≡ length counts
       → saysFiles set files counts lengths bytes
-      ≡ ifB (eqb (length counts) 0) false
-      (ifB (eqb (sum counts) (length lengths))
-      (ifB (eqb (sum lengths) (length bytes)) (legalFiles set (filesFrom (inParts 46 files) counts lengths bytes)) false)
-      false)
+      ≡ ifB (eqb (length counts) 0) false (ifB (eqb (sum counts) (length lengths)) (fillBytes set files counts lengths bytes) false)
   unfolding saysFiles
   says-whole h k = if-true _ _ _ (eq-eqb (length files % 46) 0 h) ∙ if-true _ _ _ (eq-eqb (length files / 46) (length counts) k)
 
@@ -102,19 +99,26 @@ module _ (set files counts lengths bytes : List ℕ) where
       → p ≡ eqb (sum counts) (length lengths) → p ≡ false → false ≡ saysFiles set files counts lengths bytes
   says-counts p h k z e t = sym (says-whole h k ∙ if-false _ _ _ (ne-eqb (length counts) 0 z) ∙ if-false _ _ _ (sym e ∙ t))
 
-  pub says-lengths : (p r : Bool) → length files % 46 ≡ 0 → length files / 46 ≡ length counts → (length counts ≡ 0 → ⊥)
-      → p ≡ eqb (sum counts) (length lengths) → p ≡ true → r ≡ eqb (sum lengths) (length bytes) → r ≡ false
-      → false ≡ saysFiles set files counts lengths bytes
-  says-lengths p r h k z e t f u =
-      sym (says-whole h k ∙ if-false _ _ _ (ne-eqb (length counts) 0 z) ∙ if-true _ _ _ (sym e ∙ t) ∙ if-false _ _ _ (sym f ∙ u))
+  pub says-filled : (p a : Bool) → length files % 46 ≡ 0 → length files / 46 ≡ length counts → (length counts ≡ 0 → ⊥)
+      → p ≡ eqb (sum counts) (length lengths) → p ≡ true → a ≡ fillBytes set files counts lengths bytes → a ≡ saysFiles set files counts lengths bytes
+  says-filled p a h k z e t l = l ∙ sym (says-whole h k ∙ if-false _ _ _ (ne-eqb (length counts) 0 z) ∙ if-true _ _ _ (sym e ∙ t))
 
-  pub says-legal : (p r a : Bool) → length files % 46 ≡ 0 → length files / 46 ≡ length counts → (length counts ≡ 0 → ⊥)
-      → p ≡ eqb (sum counts) (length lengths) → p ≡ true → r ≡ eqb (sum lengths) (length bytes) → r ≡ true
-      → a ≡ legalFiles set (filesFrom (inParts 46 files) counts lengths bytes) → a ≡ saysFiles set files counts lengths bytes
-  says-legal p r a h k z e t f u l =
-      l ∙ sym (says-whole h k ∙ if-false _ _ _ (ne-eqb (length counts) 0 z) ∙ if-true _ _ _ (sym e ∙ t) ∙ if-true _ _ _ (sym f ∙ u))
+  -- the lengths and the bytes
+  pub fills-within : (r : Bool) → r ≡ eqb (sum lengths) (length bytes) → r ≡ true → sum lengths ≤ length bytes
+  fills-within r e t = omega (arith, eqb-true (sum lengths) (length bytes) (sym e ∙ t))
 
-pub ruleset says = (says-uneven, says-other, says-none, says-counts, says-lengths, says-legal, needs)
+  pub fills-not : (r : Bool) → r ≡ eqb (sum lengths) (length bytes) → r ≡ false → false ≡ fillBytes set files counts lengths bytes
+  unfolding fillBytes
+  fills-not r e t = sym (if-false _ _ _ (sym e ∙ t))
+
+  pub fills-legal : (r a : Bool) → r ≡ eqb (sum lengths) (length bytes) → r ≡ true
+      → a ≡ legalFiles set (filesFrom (inParts 46 files) counts lengths bytes) → a ≡ fillBytes set files counts lengths bytes
+  unfolding fillBytes
+  fills-legal r a e t l = l ∙ sym (if-true _ _ _ (sym e ∙ t))
+
+pub ruleset fills = (fills-within, fills-not, fills-legal, needs)
+
+pub ruleset says = (says-uneven, says-other, says-none, says-counts, says-filled, needs)
 
 length-files : (es : List (List ℕ)) (cs ls bs : List ℕ) → length es ≡ length cs → length (filesFrom es cs ls bs) ≡ length cs
 unfolding filesFrom
@@ -145,6 +149,7 @@ module _ (set files counts lengths bytes : List ℕ) (few : length files / 46 �
       ∙ if-same (eqb (sum counts) (length lengths)) false
 
   says-even : length files ≡ 46 * length counts → saysFiles set files counts lengths bytes ≡ sums (legalMeaning meant)
+  unfolding fillBytes
   says-even h =
       let l : length (meant .files) ≡ length counts
       = length-files (inParts 46 files) counts lengths bytes (length-parts 46 (length counts) files (omega arith) (omega arith)) in

@@ -1,14 +1,15 @@
 // The files on a sheet: their entries of 46 bytes and their records. It knows nothing of reels.
 ghost use mathlib.Core.Path.{_≡_};
-ghost use lib.ListN.{drop};
-ghost use Rattle.base.specs.Sum.{cutBy};
+ghost use Prim.Native.Nat.{_+_, _≤_};
+ghost use lib.ListN.{length, drop};
+ghost use Rattle.base.specs.Sum.{sum, cutBy};
 ghost use Rattle.order.specs.Kind.{hdr};
 ghost use Rattle.label.specs.Name.{HDR1, HDR2};
 ghost use Rattle.label.specs.Judged.{labelFault};
 ghost use Rattle.label.specs.Made.{madeFirst, madeSecond};
 ghost use Rattle.sheet.specs.Legal.{isSound, formatFrom, recordLengthFrom, legalEntry, legalRecord, legalRecords, legalFile, legalFiles};
 ghost use Rattle.sheet.specs.Flat.{inParts, filesFrom};
-ghost use Rattle.sheet.specs.Passing.{Behind};
+ghost use Rattle.sheet.specs.Passing.{Behind, tooLong};
 use crate::sum::past;
 use base::FIXED;
 use base::VARIABLE;
@@ -25,8 +26,8 @@ use order::Kind;
 // The bytes of a file's entry.
 pub(crate) const ENTRY: usize = 46;
 
-// The longest record that four digits of a control word can say.
-const LONGEST_VARIABLE: usize = 9_995;
+// The least length of a record that four digits of a control word cannot say.
+const UNSAYABLE: usize = 9_996;
 
 // The records of a file, passed: whether all are legal and, if so, the place behind their bytes.
 pub struct Passed {
@@ -105,51 +106,90 @@ fn record_length_in(entry: &[u8]) -> u32
 
 // ---- records
 
-// Whether a record is legal in a file of that format and record length.
-fn is_legal_record(format: u8, size: u32, x: &[u8]) -> bool
-    ensures { λ r. ⌜ r ≡ legalRecord format size (now (x .entry)) ⌝ }
+// Whether a record is legal in an F file of that record length.
+fn is_fixed(size: u32, x: &[u8]) -> bool
+    ensures { λ r. ⌜ r ≡ legalRecord 70 size (now (x .entry)) ⌝ }
 {
-    let n = x.len();
-    let most = size as usize;
-    if format == FIXED {
-        if n == most {
-            return !all_padding(x);
-        }
-        return false;
+    if x.len() == size as usize {
+        return !all_padding(x);
     }
-    if format == VARIABLE {
-        if LONGEST_VARIABLE < n {
-            return false;
-        }
-        return n + 4 <= most;
-    }
-    n <= most
+    false
 }
 
-// The records of these lengths from a place on.
-fn records_passed(format: u8, size: u32, lengths: &[u64], bytes: &[u8], from: usize) -> Passed
-    ensures { λ r. ⌜ Behind (legalRecords format size (cutBy (now (lengths .entry)) (drop from (now (bytes .entry))))) (now (lengths .entry)) (now (bytes .entry)) from r ⌝ }
+// The records of an F file, of these lengths from a place on.
+fn fixed_passed(size: u32, lengths: &[u64], bytes: &[u8], from: usize) -> Passed
+    requires { ⌜ from + sum (now lengths) ≤ length (now bytes) ⌝ }
+    ensures { λ r. ⌜ Behind (legalRecords 70 size (cutBy (now (lengths .entry)) (drop from (now (bytes .entry))))) (now (lengths .entry)) from r ⌝ }
 {
     let mut at = from;
     let mut i = 0;
     while i < lengths.len() {
-        let x = part_of(bytes, at, lengths[i] as usize);
-        if !is_legal_record(format, size, x) {
+        let end = at + lengths[i] as usize;
+        if !is_fixed(size, &bytes[at..end]) {
             return Passed { legal: false, at };
         }
-        at += x.len();
+        at = end;
         i += 1;
     }
     Passed { legal: true, at }
+}
+
+// The least length that is too long for a record of a D or S file.
+fn too_long(format: u8, size: u32) -> usize
+    ensures { λ r. ⌜ r ≡ tooLong format size ⌝ }
+{
+    let most = size as usize;
+    if format == VARIABLE {
+        if most < 3 {
+            return 0;
+        }
+        if most - 3 < UNSAYABLE {
+            return most - 3;
+        }
+        return UNSAYABLE;
+    }
+    most + 1
+}
+
+// The records of a D or S file, of these lengths from a place on: no byte of theirs is looked at.
+fn lengths_passed(format: u8, size: u32, lengths: &[u64], bytes: &[u8], from: usize) -> Passed
+    requires { ⌜ (format ≡ 70 → ⊥) ⌝ }
+    requires { ⌜ from + sum (now lengths) ≤ length (now bytes) ⌝ }
+    ensures { λ r. ⌜ Behind (legalRecords format size (cutBy (now (lengths .entry)) (drop from (now (bytes .entry))))) (now (lengths .entry)) from r ⌝ }
+{
+    let over = too_long(format, size);
+    let mut at = from;
+    let mut i = 0;
+    while i < lengths.len() {
+        let n = lengths[i] as usize;
+        if over <= n {
+            return Passed { legal: false, at };
+        }
+        at += n;
+        i += 1;
+    }
+    Passed { legal: true, at }
+}
+
+// The records of these lengths from a place on.
+fn records_passed(format: u8, size: u32, lengths: &[u64], bytes: &[u8], from: usize) -> Passed
+    requires { ⌜ from + sum (now lengths) ≤ length (now bytes) ⌝ }
+    ensures { λ r. ⌜ Behind (legalRecords format size (cutBy (now (lengths .entry)) (drop from (now (bytes .entry))))) (now (lengths .entry)) from r ⌝ }
+{
+    if format == FIXED {
+        return fixed_passed(size, lengths, bytes, from);
+    }
+    lengths_passed(format, size, lengths, bytes, from)
 }
 
 // ---- files
 
 // A file with that entry, and records of these lengths from a place on.
 fn file_passed(set: &[u8], entry: &[u8], lengths: &[u64], bytes: &[u8], from: usize) -> Passed
+    requires { ⌜ from + sum (now lengths) ≤ length (now bytes) ⌝ }
     ensures { λ r. ⌜ Behind
         (legalFile (now (set .entry)) (record { fields = now (entry .entry); records = cutBy (now (lengths .entry)) (drop from (now (bytes .entry))) }))
-        (now (lengths .entry)) (now (bytes .entry)) from r ⌝ }
+        (now (lengths .entry)) from r ⌝ }
 {
     if is_legal_entry(set, entry) {
         return records_passed(
@@ -174,6 +214,7 @@ pub(crate) fn are_legal(
     lengths: &[u64],
     bytes: &[u8],
 ) -> bool
+    requires { ⌜ sum (now lengths) ≤ length (now bytes) ⌝ }
     ensures { λ r. ⌜ r ≡ legalFiles (now (set .entry)) (filesFrom (inParts 46 (now (files .entry))) (now (counts .entry)) (now (lengths .entry)) (now (bytes .entry))) ⌝ }
 {
     let mut entry = 0;

@@ -7,7 +7,7 @@ mod sum; // sum.rt: a number that a caller gave, added to a place
 pub use file::format_in;
 ghost use mathlib.Core.Path.{_≡_};
 ghost use Rattle.sheet.specs.Flat.{reelsNumber, sheetNumber};
-ghost use Rattle.sheet.specs.Passing.{saysFiles};
+ghost use Rattle.sheet.specs.Passing.{fillBytes, saysFiles};
 use base::add_up_to;
 use file::ENTRY;
 use file::are_legal;
@@ -42,6 +42,16 @@ pub fn reels_number(quota: u64, names: &[u8]) -> u32
     0
 }
 
+// Whether the lengths add up to the bytes, and all files are legal.
+fn fill_bytes(set: &[u8], files: &[u8], counts: &[u64], lengths: &[u64], bytes: &[u8]) -> bool
+    ensures { λ r. ⌜ r ≡ fillBytes (now (set .entry)) (now (files .entry)) (now (counts .entry)) (now (lengths .entry)) (now (bytes .entry)) ⌝ }
+{
+    if add_up_to(lengths, bytes.len()) {
+        return are_legal(set, files, counts, lengths, bytes);
+    }
+    false
+}
+
 // Whether counts and lengths add up, and there are files, all of them legal.
 fn says_files(set: &[u8], files: &[u8], counts: &[u64], lengths: &[u64], bytes: &[u8]) -> bool
     ensures { λ r. ⌜ r ≡ saysFiles (now (set .entry)) (now (files .entry)) (now (counts .entry)) (now (lengths .entry)) (now (bytes .entry)) ⌝ }
@@ -56,10 +66,7 @@ fn says_files(set: &[u8], files: &[u8], counts: &[u64], lengths: &[u64], bytes: 
         return false;
     }
     if add_up_to(counts, lengths.len()) {
-        if add_up_to(lengths, bytes.len()) {
-            return are_legal(set, files, counts, lengths, bytes);
-        }
-        return false;
+        return fill_bytes(set, files, counts, lengths, bytes);
     }
     false
 }

@@ -14,11 +14,8 @@ returns-3 c = search says
 add-up-to-requires : tie.Need-add-up-to-requires
 add-up-to-requires c κs = search says
 
-add-up-to-requires-2 : tie.Need-add-up-to-requires-2
-add-up-to-requires-2 c κs = search says
-
-are-legal-requires : tie.Need-are-legal-requires
-are-legal-requires c κs = search says
+fill-bytes-requires : tie.Need-fill-bytes-requires
+fill-bytes-requires c κs = search says
 
 returns-4 : tie.Need-returns-4
 returns-4 c = search says
@@ -26,19 +23,5 @@ returns-4 c = search says
 returns-5 : tie.Need-returns-5
 returns-5 c = search says
 
-returns-6 : tie.Need-returns-6
-returns-6 c = search says
-
 pub says-files-spec : {M : Type 1} → statement M
-says-files-spec =
-    tie.close
-    (tie.spec
-    returns
-    returns-2
-    returns-3
-    add-up-to-requires
-    add-up-to-requires-2
-    are-legal-requires
-    returns-4
-    returns-5
-    returns-6)
+says-files-spec = tie.close (tie.spec returns returns-2 returns-3 add-up-to-requires fill-bytes-requires returns-4 returns-5)
