@@ -7,3 +7,4 @@ pub mod Wholes
 pub mod Loops
 pub mod Turns
 pub mod Blocks
+pub mod Helds

@@ -1,5 +1,5 @@
 -- The unit that is a whole record: what its one number says of it. Assumes nothing.
-use mathlib.Core.Path.{_≡_, refl, sym, ap, _∙_}
+use mathlib.Core.Path.{_≡_, refl, sym, ap, _∙_, subst}
 use mathlib.Core.List.{List}
 use Prim.Native.Nat.{ℕ, _+_, _-_, _≤_, _<_}
 use native.Mathlib.Omega.{arith}
@@ -101,6 +101,9 @@ unit-worded f r s =
     (λ b. if-case (If-any (Worded f)) (eqb f 83) _ None
     (λ d. map-any (Indicated s) (Worded f) (λ i w n c. c .led-by .word ∙ sym (word-segmented f (eqb-true f 83 d))) (segment s) (segment-indicated s))
     (λ d. refl)))
+
+pub unit-word : (f r : ℕ) (s : List ℕ) (i w n : ℕ) → unitOf f r s ≡ Of i w n → w ≡ wordOf f
+unit-word f r s i w n e = subst (If-any (Worded f)) e (unit-worded f r s)
 
 -- a unit that is a whole record of at most r bytes, k with its control word
 pub record Whole (f r : ℕ) (u : Unit) (k : ℕ) : Type 0 where

@@ -1,3 +1,4 @@
 pub mod Unit
 pub mod Cut
 pub mod Turn
+pub mod Held

@@ -14,6 +14,7 @@ ghost use Rattle.base.specs.Format.{F, D, S};
 ghost use Rattle.block.specs.Unit.{pad, fixed, measured, variable, segment, unitOf, lengthOf, wordOf, wholeOf};
 ghost use Rattle.block.specs.Cut.{cut, someUnits, isCut, units};
 ghost use Rattle.block.specs.Turn.{outcome, isTurn, openAfter, turned, Turning, blockOutcome};
+ghost use Rattle.block.specs.Held.{empty, endsWith, Reached, heldUpTo, heldIn};
 use base::FIXED;
 use base::SEGMENTED;
 use base::VARIABLE;
@@ -35,6 +36,15 @@ pub enum Unit {
 pub struct Outcome {
     pub number: u32,
     pub pending: usize,
+}
+
+// What a block holds: the records that end in it, and its bytes: of records, of control words, of padding and of the offset.
+pub struct Held {
+    pub records: usize,
+    pub bytes: usize,
+    pub words: usize,
+    pub padding: usize,
+    pub offset: usize,
 }
 
 // ---- padding
@@ -541,4 +551,119 @@ pub fn block_outcome(
         return whole_outcome(variable_cuts(size, s, offset), pending);
     }
     answer(7, 0)
+}
+
+// ---- what a block holds
+
+// What is held where nothing counts.
+pub fn empty() -> Held
+    ensures { λ r. ⌜ r ≡ empty ⌝ }
+{
+    Held {
+        records: 0,
+        bytes: 0,
+        words: 0,
+        padding: 0,
+        offset: 0,
+    }
+}
+
+// The records that end with a segment that has this digit for its indicator.
+fn ends_with(digit: u8) -> usize
+    ensures { λ r. ⌜ r ≡ endsWith (digit - 48) ⌝ }
+{
+    if digit == b'1' {
+        return 0;
+    }
+    if digit == b'2' {
+        return 0;
+    }
+    1
+}
+
+// What a block holds whose units end at a place: so many, with control words of `word` bytes, in which so many records end. Behind them must be padding.
+fn held_up_to(s: &[u8], offset: usize, at: usize, word: usize, units: usize, records: usize) -> Held
+    requires { ⌜ Reached (now s) offset at word units ⌝ }
+    ensures { λ r. ⌜ r ≡ heldUpTo (now (s .entry)) offset at word units records ⌝ }
+{
+    if units == 0 {
+        return empty();
+    }
+    if padding_from(s, at) {
+        let words = units * word;
+        return Held {
+            records,
+            bytes: at - offset - words,
+            words,
+            padding: s.len() - at,
+            offset,
+        };
+    }
+    empty()
+}
+
+// What a block of fixed-length records holds.
+fn fixed_held(size: u32, offset: usize, s: &[u8]) -> Held
+    ensures { λ r. ⌜ r ≡ heldIn F size offset (now (s .entry)) ⌝ }
+{
+    let mut units: usize = 0;
+    let mut at = offset;
+    loop {
+        let n = fixed_length(size, s, at);
+        if n == 0 {
+            return held_up_to(s, offset, at, 0, units, units);
+        }
+        units += 1;
+        at += n;
+    }
+}
+
+// What a block of variable-length records holds.
+fn variable_held(size: u32, offset: usize, s: &[u8]) -> Held
+    ensures { λ r. ⌜ r ≡ heldIn D size offset (now (s .entry)) ⌝ }
+{
+    let mut units: usize = 0;
+    let mut at = offset;
+    loop {
+        let n = variable_length(size, s, at);
+        if n == 0 {
+            return held_up_to(s, offset, at, 4, units, units);
+        }
+        units += 1;
+        at += n;
+    }
+}
+
+// What a block of segments holds; `size` has no part in it.
+fn segments_held(size: u32, offset: usize, s: &[u8]) -> Held
+    ensures { λ r. ⌜ r ≡ heldIn S size offset (now (s .entry)) ⌝ }
+{
+    let mut units: usize = 0;
+    let mut records: usize = 0;
+    let mut at = offset;
+    loop {
+        let n = segment_length(s, at);
+        if n == 0 {
+            return held_up_to(s, offset, at, 5, units, records);
+        }
+        records += ends_with(s[at]);
+        units += 1;
+        at += n;
+    }
+}
+
+// What a block holds, in a file of that format, record length and offset length.
+pub fn block_held(format: u32, size: u32, offset: usize, s: &[u8]) -> Held
+    ensures { λ r. ⌜ r ≡ heldIn format size offset (now (s .entry)) ⌝ }
+{
+    if format == FIXED as u32 {
+        return fixed_held(size, offset, s);
+    }
+    if format == VARIABLE as u32 {
+        return variable_held(size, offset, s);
+    }
+    if format == SEGMENTED as u32 {
+        return segments_held(size, offset, s);
+    }
+    empty()
 }
