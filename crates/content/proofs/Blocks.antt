@@ -188,7 +188,7 @@ turn-shut r k i n =
     if-case (λ (b : Bool). b ≡ false) (leb i 1) (ifB (eqb (suc k) 0) (leb n r) false) (ifB false (ifB (eqb (suc k) 0) false (leb (suc k - 1 + n) r)) false)
     (λ _. if-false _ _ _ (ne-eqb (suc k) 0 (λ z. omega arith))) (λ _. if-false _ _ _ refl)
 
-turns-shut : (r k : ℕ) (xs : List Segment) → turnsFrom r (suc k) false xs .number ≡ 0 → (xs ≡ []) × (turnsFrom r (suc k) false xs .pending ≡ suc k)
+pub turns-shut : (r k : ℕ) (xs : List Segment) → turnsFrom r (suc k) false xs .number ≡ 0 → (xs ≡ []) × (turnsFrom r (suc k) false xs .pending ≡ suc k)
 unfolding turnsFrom outcome
 turns-shut r k [] h = (refl, refl)
 turns-shut r k (x ∷ xs) h =
@@ -243,27 +243,27 @@ split-walks s v i c n (r ∷ rs) g e z m k (u, q, h) = (
 )
 
 -- what the records are where a segment stands before others
-joined-whole : (x : Segment) (xs : List Segment) → (x .indicator ≡ 1 → ⊥) → (x .indicator ≡ 2 → ⊥) → joined (x ∷ xs) ≡ x .bytes ∷ joined xs
+pub joined-whole : (x : Segment) (xs : List Segment) → (x .indicator ≡ 1 → ⊥) → (x .indicator ≡ 2 → ⊥) → joined (x ∷ xs) ≡ x .bytes ∷ joined xs
 unfolding joined
 joined-whole x xs a b = if-false _ _ _ (ne-eqb (x .indicator) 1 a) ∙ if-false _ _ _ (ne-eqb (x .indicator) 2 b)
 
-joined-one : (x : Segment) (xs : List Segment) → x .indicator ≡ 1 → joined (x ∷ xs) ≡ onFirst (x .bytes) (joined xs)
+pub joined-one : (x : Segment) (xs : List Segment) → x .indicator ≡ 1 → joined (x ∷ xs) ≡ onFirst (x .bytes) (joined xs)
 unfolding joined
 joined-one x xs a = if-true _ _ _ (eq-eqb (x .indicator) 1 a)
 
-joined-two : (x : Segment) (xs : List Segment) → (x .indicator ≡ 1 → ⊥) → x .indicator ≡ 2 → joined (x ∷ xs) ≡ onFirst (x .bytes) (joined xs)
+pub joined-two : (x : Segment) (xs : List Segment) → (x .indicator ≡ 1 → ⊥) → x .indicator ≡ 2 → joined (x ∷ xs) ≡ onFirst (x .bytes) (joined xs)
 unfolding joined
 joined-two x xs a b = if-false _ _ _ (ne-eqb (x .indicator) 1 a) ∙ if-true _ _ _ (eq-eqb (x .indicator) 2 b)
 
-open-whole : (o i n : ℕ) → (i ≡ 1 → ⊥) → (i ≡ 2 → ⊥) → openAfter o i n ≡ 0
+pub open-whole : (o i n : ℕ) → (i ≡ 1 → ⊥) → (i ≡ 2 → ⊥) → openAfter o i n ≡ 0
 unfolding openAfter
 open-whole o i n a b = if-false _ _ _ (ne-eqb i 1 a) ∙ if-false _ _ _ (ne-eqb i 2 b)
 
-open-one : (o i n : ℕ) → i ≡ 1 → openAfter o i n ≡ suc n
+pub open-one : (o i n : ℕ) → i ≡ 1 → openAfter o i n ≡ suc n
 unfolding openAfter
 open-one o i n a = if-true _ _ _ (eq-eqb i 1 a) ∙ add-one n
 
-open-two : (k i n : ℕ) → (i ≡ 1 → ⊥) → i ≡ 2 → openAfter (suc k) i n ≡ suc (k + n)
+pub open-two : (k i n : ℕ) → (i ≡ 1 → ⊥) → i ≡ 2 → openAfter (suc k) i n ≡ suc (k + n)
 unfolding openAfter
 open-two k i n a b = let e : suc k + n ≡ suc (k + n) = omega arith in if-false _ _ _ (ne-eqb i 1 a) ∙ if-true _ _ _ (eq-eqb i 2 b) ∙ e
 
@@ -468,9 +468,9 @@ units-hands s v q x xs ys g h = by-open q
 -- ---- the block at a place of the image
 
 -- the units of a block, read backwards
-record UnitsOf (f r o : ℕ) (l : List ℕ) (x : Segment) (xs : List Segment) : Type 0 where
-  long : o ≤ length l
-  cuts : cut f r (drop o l) ≡ some (x ∷ xs)
+pub record UnitsOf (f r o : ℕ) (l : List ℕ) (x : Segment) (xs : List Segment) : Type 0 where
+  pub long : o ≤ length l
+  pub cuts : cut f r (drop o l) ≡ some (x ∷ xs)
 
 some-of : (c : Option (List Segment)) (x : Segment) (xs : List Segment) → someUnits c ≡ some (x ∷ xs) → c ≡ some (x ∷ xs)
 unfolding someUnits
@@ -484,7 +484,7 @@ some-empty none h = let z : _≡_ {A = ℕ} 0 1 = cc in omega arith
 some-empty (some []) h = let z : _≡_ {A = ℕ} 0 1 = cc in omega arith
 some-empty (some (y ∷ ys)) h = let z : _≡_ {A = ℕ} 0 1 = cc in omega arith
 
-units-of : (f b r o : ℕ) (l : List ℕ) (x : Segment) (xs : List Segment) → units f b r o l ≡ some (x ∷ xs) → UnitsOf f r o l x xs
+pub units-of : (f b r o : ℕ) (l : List ℕ) (x : Segment) (xs : List Segment) → units f b r o l ≡ some (x ∷ xs) → UnitsOf f r o l x xs
 unfolding units
 units-of f b r o l x xs =
     if-case P (leb (length l) b) _ none
@@ -497,7 +497,7 @@ units-of f b r o l x xs =
     never : none ≡ some (x ∷ xs) → UnitsOf f r o l x xs
     never q = let z : _≡_ {A = ℕ} 0 1 = cc in absurd (omega arith)
 
-units-empty : (f b r o : ℕ) (l : List ℕ) → units f b r o l ≡ some [] → ⊥
+pub units-empty : (f b r o : ℕ) (l : List ℕ) → units f b r o l ≡ some [] → ⊥
 unfolding units
 units-empty f b r o l =
     if-case P (leb (length l) b) _ none

@@ -13,6 +13,7 @@ pub mod Rows
 pub mod Files
 pub mod Founds
 pub mod Blocks
+pub mod Helds
 pub mod Phases
 pub mod Walked
 pub mod Records

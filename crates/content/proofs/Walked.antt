@@ -14,6 +14,7 @@ use lib.ListN.{length, take, drop, length-take, length-drop}
 use lib.Seq.{drop-length}
 use Rattle.base.specs.If.{ifB, if-true, if-false, and-first}
 use Rattle.base.specs.Part.{part}
+use Rattle.base.specs.Sum.{sum}
 use Rattle.base.specs.Answer.{fault, verdict}
 use Rattle.image.specs.Item.{Item, block, mark, reelEnd, broken, decode, isItem, allItems}
 use Rattle.image.specs.Framing.{items}
@@ -29,6 +30,7 @@ use Rattle.label.specs.Field.{formatOf, blockLengthOf, recordLengthOf, offsetOf
 use Rattle.label.specs.Judged.{labelFault}
 use Rattle.block.specs.Cut.{Segment, units}
 use Rattle.block.specs.Turn.{blockOutcome}
+use Rattle.block.specs.declared.Held.{Held}
 use Rattle.volume.specs.State.{State, start}
 use Rattle.volume.specs.Fault.{valueOf, secondHeaderFault, outcomeIn, blockFault, contextFault, itemFault}
 use Rattle.volume.specs.Step.{Event, begins, holds, kindIn, bytesIn, segmentsOf, segmentsIn, goesOnAfter, firstAfter, secondAfter, pendingAfter, stateAfter, eventsOf}
@@ -44,7 +46,8 @@ use Rattle.content.specs.Section.{placeBehind, dataFrom}
 use Rattle.content.specs.Walk.{opened, unitIn, begunBy}
 use Rattle.content.specs.File.{markFrom, walkFrom, beginsFile, goesOnBehind, firstBehind, headerFrom, firstFile, nextFile, fileBehind, fromFile, filesOn, fileNumbered, begunAt}
 use Rattle.content.specs.File.{begunBy as startedBy}
-use Rattle.content.specs.Walked.{handed, Walks, endOf, FileIs, Filed}
+use Rattle.content.specs.Held.{heldBy, fileHeld}
+use Rattle.content.specs.Walked.{handed, Walks, endOf, Amounts, FileIs, Filed}
 use Rattle.content.specs.declared.Walk.{Walk}
 use Rattle.content.specs.declared.FileAt.{FileAt}
 use Rattle.content.specs.declared.NextFile.{NextFile}
@@ -57,6 +60,7 @@ use Rattle.content.proofs.Searches.{ItemAt, item-at, InOrder, data-on, 
 use Rattle.content.proofs.Records.{walks-end}
 use Rattle.content.proofs.Files.{header-item}
 use Rattle.content.proofs.Blocks.{Hands, block-hands, next-walks}
+use Rattle.content.proofs.Helds.{Sums, nextHeld, held-next, held-end, block-sums}
 use Rattle.content.proofs.Phases.{labels, second-behind, block-data, mark-data, label-labels, block-no-mark, record-some}
 
 -- ---- a whole image in order
@@ -110,10 +114,15 @@ pub record Comes (s : List ℕ) (x : NextFile) (ds : List File) (set : List ℕ)
   pub filed : Filed s x ds
   pub named : SetIs s x set
 
+-- what a file of record length and format of w, whose next data block is at x, still hands out with q open, and what its blocks from there on hold
+pub record Owes (s : List ℕ) (w : Walk) (q : ℕ) (x : Extent) (rs : List (List ℕ)) : Type 0 where
+  pub hands : Hands s (w .size) q (unitIn s (opened w x)) rs
+  pub sums : Sums (nextHeld s w x) rs
+
 -- with the last HDR1 at `first`, a file open or not, and so much of a record: what the open file still hands out, by its lengths, and nothing where
 -- none is open; and the files to come
 pub record Told (s : List ℕ) (ongoing : Bool) (p : Phase) (at : ℕ) (xs : List Item) (first : ℕ) (g : Bool) (w : Walk) (q : ℕ) (es : List Event) : Type 0 where
-  pub owed : ongoing ≡ true → Hands s (w .size) q (unitIn s (opened w (dataFrom p at xs))) (joined (collect es .segments))
+  pub owed : ongoing ≡ true → Owes s w q (dataFrom p at xs) (joined (collect es .segments))
   pub none : ongoing ≡ false → collect es .segments ≡ []
   pub comes : Comes s (headerFrom g p first at xs) (collect es .files) (setFrom es)
 
@@ -126,7 +135,7 @@ told-on : (s : List ℕ) (o : Bool) (p r : Phase) (at : ℕ) (x : Item) (xs : Li
     → Told s o r (placeBehind at x) xs (firstBehind first (at + 3) k) g′ w q es → Told s o p at (x ∷ xs) first g w q es
 told-on s o p r at x xs k first g g′ w q es e d a b c i h =
     record {
-      owed = λ on. subst (λ (y : Extent). Hands s (w .size) q (unitIn s (opened w y)) (joined (collect es .segments))) (sym (data-on p r at x xs k e a b d)) (h .owed on);
+      owed = λ on. subst (λ (y : Extent). Owes s w q y (joined (collect es .segments))) (sym (data-on p r at x xs k e a b d)) (h .owed on);
       none = h .none;
       comes =
           subst (λ (y : NextFile). Comes s y (collect es .files) (setFrom es))
@@ -189,11 +198,15 @@ told-new s p r at x xs first label w q es c e d z f here long body h = record { 
         two : 2 ≤ 2
         two = omega arith
 
+    owes : Owes s (walkFrom (bytesIn x) 0) 0 (dataFrom Data m (decode (drop m s))) (joined (collect es .segments))
+    owes =
+        subst (λ (y : Extent). Owes s (walkFrom (bytesIn x) 0) 0 y (joined (collect es .segments))) (there .datum)
+        (subst (λ (j : ℕ). Owes s (walkFrom (bytesIn x) 0) j (dataFrom r (placeBehind at x) xs) (joined (collect es .segments))) z (h .owed refl))
+
     hands : Hands s (valueOf (recordLengthOf (bytesIn x))) 0 (unitIn s (opened (walkFrom (bytesIn x) m) (dataFrom Data m (decode (drop m s))))) (joined (collect es .segments))
     hands =
         subst (λ (t : Place). Hands s (valueOf (recordLengthOf (bytesIn x))) 0 (unitIn s t) (joined (collect es .segments))) (opened-from (dataFrom Data m (decode (drop m s))))
-        (subst (λ (y : Extent). Hands s (valueOf (recordLengthOf (bytesIn x))) 0 (unitIn s (opened (walkFrom (bytesIn x) 0) y)) (joined (collect es .segments))) (there .datum)
-        (subst (λ (j : ℕ). Hands s (valueOf (recordLengthOf (bytesIn x))) j (unitIn s (opened (walkFrom (bytesIn x) 0) (dataFrom r (placeBehind at x) xs))) (joined (collect es .segments))) z (h .owed refl)))
+        (owes .hands)
       where
         opened-from : (y : Extent) → opened (walkFrom (bytesIn x) 0) y ≡ opened (walkFrom (bytesIn x) m) y
         opened-from (Block a b) = unfold opened in refl
@@ -217,11 +230,26 @@ told-new s p r at x xs first label w q es c e d z f here long body h = record { 
         let none : m ≡ m + 0 = omega arith in
         subst (Follows s (headerFrom false r first (placeBehind at x) xs)) none (there .follows false first (ap (λ (y : Phase). isOpen (stage y) false) second))
 
+    -- its data ends there, too
+    data-ended : (fileHeld s (walkFrom (bytesIn x) m) .end ≤ length s) × Leads s m (fileHeld s (walkFrom (bytesIn x) m) .end)
+    data-ended = unfold fileHeld in held-end s (formatOf (bytesIn x)) (valueOf (recordLengthOf (bytesIn x))) (valueOf (offsetOf (bytesIn x))) m (there .fits)
+
     -- the next file is sought behind this HDR2
     next-file : headerFrom false r first (placeBehind at x) xs ≡ nextFile s file
     next-file = unfold nextFile placeBehind in
         ap₂ (λ (y : Phase) (ys : List Item). headerFrom false y first (placeBehind at x) ys) second (sym (c .rest))
         ∙ ap (λ (n : ℕ). headerFrom false (Header 2) first (at + 3 + n) (decode (drop (at + 3 + n) s))) eighty
+
+    amounts : Amounts s file (record { fields = fieldsFrom label (bytesIn x); records = joined (collect es .segments) })
+    amounts = unfold fileHeld fileBehind in
+        let same = held-next s (walkFrom (bytesIn x) 0) m in
+        record {
+          records = ap (λ (y : Held). y .records) same ∙ owes .sums .number;
+          bytes = ap (λ (y : Held). y .bytes) same ∙ owes .sums .bytes;
+          ends = data-ended .0;
+          behind = data-ended .1 (headerFrom false r first (placeBehind at x) xs) (there .follows false first (ap (λ (y : Phase). isOpen (stage y) false) second)) .same false first
+              ∙ next-file;
+        }
 
     behind-file : fileBehind s file (endOf s (walkFrom (bytesIn x) m)) ≡ headerFrom false r first (placeBehind at x) xs
     behind-file = unfold fileBehind in ended .1 (headerFrom false r first (placeBehind at x) xs) follows .same false first
@@ -234,6 +262,7 @@ told-new s p r at x xs first label w q es c e d z f here long body h = record { 
       walks = walks;
       ends = ended .0;
       behind = behind-file ∙ next-file;
+      amounts = amounts;
     }
 
     files : Comes s (headerFrom false p first at (x ∷ xs)) (record { fields = fieldsFrom label (bytesIn x); records = joined (collect es .segments) } ∷ collect es .files) (setOf label)
@@ -254,10 +283,14 @@ told-block : (s : List ℕ) (p r : Phase) (at : ℕ) (x : Item) (xs : List Item)
 unfolding collect setFrom outcomeIn isKind beginsFile goesOnBehind firstBehind ifB placeBehind
 told-block s p r at x xs first g second q es c e d some' f h = record {
   owed = λ on.
-      subst (λ (y : Extent). Hands s (w .size) q (unitIn s (opened w y)) (joined (segmentsOf (units (w .format) b (w .size) (w .offset) l) ++ collect es .segments)))
+      subst (λ (y : Extent). Owes s w q y (joined (segmentsOf (units (w .format) b (w .size) (w .offset) l) ++ collect es .segments)))
       (sym (data-block p at x xs e))
-      (subst (λ (k : List ℕ). Hands s (w .size) q (unitIn s (opened w (Block (at + 3) n))) (joined (segmentsOf (units (w .format) b (w .size) (w .offset) k) ++ collect es .segments)))
-      (sym (c .bytes)) (block-hands s w b (at + 3) n q (collect es .segments) some' (c .within) fine owed));
+      (subst (λ (k : List ℕ). Owes s w q (Block (at + 3) n) (joined (segmentsOf (units (w .format) b (w .size) (w .offset) k) ++ collect es .segments)))
+      (sym (c .bytes))
+      (record {
+        hands = block-hands s w b (at + 3) n q (collect es .segments) some' (c .within) fine (owed .hands);
+        sums = block-sums s w b (at + 3) n q (collect es .segments) (unitIn s (opened w (dataFrom Data (at + 3 + n) (decode (drop (at + 3 + n) s))))) fine (owed .hands) (owed .sums);
+      }));
   none = λ off. absurd (false≢true (sym off));
   comes = subst (λ (y : NextFile). Comes s y (collect es .files) (setFrom es)) (sym (header-on g p r first at x xs dataBlock e refl d)) (h .comes);
 }
@@ -280,13 +313,12 @@ told-block s p r at x xs first g second q es c e d some' f h = record {
     next-data : dataFrom r (at + 3 + n) xs ≡ dataFrom Data (at + 3 + n) (decode (drop (at + 3 + n) s))
     next-data = ap₂ (λ (y : Phase) (ys : List Item). dataFrom y (at + 3 + n) ys) (block-data p r d) (sym (c .rest))
 
-    owed : Hands s (w .size) (blockOutcome (w .format) b (w .size) (w .offset) q (part (at + 3) n s) .pending)
-        (unitIn s (opened w (dataFrom Data (at + 3 + n) (decode (drop (at + 3 + n) s))))) (joined (collect es .segments))
+    owed : Owes s w (blockOutcome (w .format) b (w .size) (w .offset) q (part (at + 3) n s) .pending) (dataFrom Data (at + 3 + n) (decode (drop (at + 3 + n) s)))
+        (joined (collect es .segments))
     owed =
-        subst (λ (k : List ℕ). Hands s (w .size) (blockOutcome (w .format) b (w .size) (w .offset) q k .pending)
-        (unitIn s (opened w (dataFrom Data (at + 3 + n) (decode (drop (at + 3 + n) s))))) (joined (collect es .segments))) (c .bytes)
-        (subst (λ (y : Extent). Hands s (w .size) (blockOutcome (w .format) b (w .size) (w .offset) q l .pending) (unitIn s (opened w y)) (joined (collect es .segments)))
-        next-data (h .owed refl))
+        subst (λ (k : List ℕ). Owes s w (blockOutcome (w .format) b (w .size) (w .offset) q k .pending) (dataFrom Data (at + 3 + n) (decode (drop (at + 3 + n) s)))
+        (joined (collect es .segments))) (c .bytes)
+        (subst (λ (y : Extent). Owes s w (blockOutcome (w .format) b (w .size) (w .offset) q l .pending) y (joined (collect es .segments))) next-data (h .owed refl))
 
 -- EOF1
 told-end : (s : List ℕ) (p r : Phase) (at : ℕ) (x : Item) (xs : List Item) (first : ℕ) (g : Bool) (w : Walk) (q : ℕ) (es : List Event) → kindIn p x ≡ eof 1
@@ -294,15 +326,14 @@ told-end : (s : List ℕ) (p r : Phase) (at : ℕ) (x : Item) (xs : List Item) (
 unfolding isKind beginsFile goesOnBehind firstBehind ifB
 told-end s p r at x xs first g w q es e d z h = record {
   owed = λ _.
-      subst (λ (y : Extent). Hands s (w .size) q (unitIn s (opened w y)) (joined (collect es .segments))) (sym (data-end p at x xs e))
-      (subst (λ (ys : List Segment). Hands s (w .size) q (unitIn s (opened w Nowhere)) (joined ys)) (sym (h .none refl))
-      (subst (λ (j : ℕ). Hands s (w .size) j (unitIn s (opened w Nowhere)) (joined [])) (sym z) over));
+      subst (λ (y : Extent). Owes s w q y (joined (collect es .segments))) (sym (data-end p at x xs e))
+      (subst (λ (ys : List Segment). Owes s w q Nowhere (joined ys)) (sym (h .none refl)) (subst (λ (j : ℕ). Owes s w j Nowhere (joined [])) (sym z) over));
   none = λ off. absurd (false≢true (sym off));
   comes = subst (λ (y : NextFile). Comes s y (collect es .files) (setFrom es)) (sym (header-on g p r first at x xs (eof 1) e refl d)) (h .comes);
 }
   where
-    over : Hands s (w .size) 0 (unitIn s (opened w Nowhere)) (joined [])
-    over = unfold opened unitIn joined begunBy handed in refl
+    over : Owes s w 0 Nowhere (joined [])
+    over = record { hands = unfold opened unitIn joined begunBy handed in refl; sums = record { number = unfold heldBy joined in refl; bytes = unfold heldBy joined sum in refl } }
 
 -- ---- one item without fault
 

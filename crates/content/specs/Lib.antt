@@ -3,6 +3,7 @@ pub mod Walk
 pub mod Whole
 pub mod Measure
 pub mod File
+pub mod Held
 pub mod Numbers
 pub mod Items
 pub mod Found

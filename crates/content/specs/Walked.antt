@@ -1,13 +1,15 @@
 -- What a walk hands out, record by record, where it ends, and what going from file to file meets.
 -- `along` counts down a number that is large enough; `along-more` and `along-over` (proofs/Records.antt) are its equations.
 use mathlib.Core.Path.{_≡_}
-use mathlib.Core.List.{List, [], _∷_}
+use mathlib.Core.List.{List, [], _∷_, map}
 use Prim.Native.Nat.{ℕ, zero, suc, _+_, _≤_}
 use lib.ListN.{length}
 use Rattle.base.specs.Part.{part}
+use Rattle.base.specs.Sum.{sum}
 use Rattle.volume.specs.Meaning.{File, fieldsFrom}
 use Rattle.content.specs.Walk.{Rest, ends, fails, Record, whole, split, nothing, recordAt}
 use Rattle.content.specs.File.{nextFile, fileBehind}
+use Rattle.content.specs.Held.{fileHeld}
 use Rattle.content.specs.declared.Walk.{Walk}
 use Rattle.content.specs.declared.FileAt.{FileAt}
 use Rattle.content.specs.declared.NextFile.{NextFile}
@@ -43,6 +45,13 @@ lastOf s w = along (λ v. v) (λ r v. v) s w
 unfoldable pub endOf : List ℕ → Walk → ℕ
 endOf s w = lastOf s w .at + lastOf s w .left
 
+-- what the blocks of a file hold, added up, is what its records come to; and what follows the file is found from behind its last block on, too
+pub record Amounts (s : List ℕ) (f : FileAt) (d : File) : Type 0 where
+  pub records : fileHeld s (f .walk) .held .records ≡ length (d .records)
+  pub bytes : fileHeld s (f .walk) .held .bytes ≡ sum (map length (d .records))
+  pub ends : fileHeld s (f .walk) .end ≤ length s
+  pub behind : fileBehind s f (fileHeld s (f .walk) .end) ≡ nextFile s f
+
 -- a file of the meaning where it stands: its first HDR1 and HDR2 lie within the image and have its fields, the walk hands out its records, and what
 -- follows the file is found from the end of its records on, too
 pub record FileIs (s : List ℕ) (f : FileAt) (d : File) : Type 0 where
@@ -52,6 +61,7 @@ pub record FileIs (s : List ℕ) (f : FileAt) (d : File) : Type 0 where
   pub walks : Walks s (f .walk) (d .records)
   pub ends : endOf s (f .walk) ≤ length s
   pub behind : fileBehind s f (endOf s (f .walk)) ≡ nextFile s f
+  pub amounts : Amounts s f d
 
 -- going from file to file meets exactly these, and none behind the last
 abbrev pub Filed : List ℕ → NextFile → List File → Type 0

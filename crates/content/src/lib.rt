@@ -2,6 +2,7 @@
 // set it leaves to the layers below.
 mod counting; // counting.rt: how many records, how long, and where they end
 mod file; // file.rt: the files of a set, one after the other
+mod holding; // holding.rt: what a file holds, block by block
 mod items; // items.rt: an image item by item
 mod join; // join.rt: segments joined in a buffer
 mod measuring; // measuring.rt: the record at a place, by its numbers
@@ -18,6 +19,8 @@ pub use counting::file_facts;
 pub use file::file_behind;
 pub use file::first_file;
 pub use file::next_file;
+pub use holding::FileHeld;
+pub use holding::file_held;
 pub use items::ItemAt;
 pub use items::item_at;
 pub use measuring::Measured;

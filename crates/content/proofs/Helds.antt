@@ -1,0 +1,352 @@
+-- Laws of what a file holds: the equations of `heldFrom`, the loop over its blocks, and that on an accepted image it is what the records come to.
+-- Assumes nothing.
+use mathlib.Core.Path.{_≡_, refl, sym, ap, _∙_, subst}
+use mathlib.Core.Bool.{Bool, true, false}
+use mathlib.Core.List.{List, [], _∷_, _++_, map}
+use mathlib.Core.Option.{Option, none, some}
+use Prim.Native.Nat.{ℕ, zero, suc, _+_, _-_, _≤_, _<_}
+use native.Mathlib.Omega.{arith}
+use borrow.Author.Needs.{needs}
+use borrow.Author.Tests.{eq-eqb, ne-eqb, eqb-true, eqb-false}
+use mir.Val.{Fits}
+use mir.Syntax.{w64}
+use lib.Dec.{leb, eqb}
+use lib.ListN.{length, take, drop, length-append}
+use Rattle.base.specs.If.{ifB, if-true, if-false, if-case}
+use Rattle.base.specs.Part.{part}
+use Rattle.base.specs.Sum.{sum}
+use Rattle.base.proofs.Parts.{length-part, part-within}
+use Rattle.image.specs.Item.{decode}
+use Rattle.order.specs.declared.Phase.the-variants.{Data}
+use Rattle.block.specs.Unit.{wordOf}
+use Rattle.block.specs.Cut.{Segment, cut, someUnits, units}
+use Rattle.block.specs.Turn.{outcome, isTurn, openAfter, turnsFrom, turned, blockOutcome}
+use Rattle.block.specs.Held.{endsWith, recordsEnding, segmentBytes, empty, heldIn, total}
+use Rattle.block.specs.Held.{heldBy as heldOf}
+use Rattle.block.specs.declared.Held.{Held}
+use Rattle.block.specs.declared.Outcome.{Outcome}
+use Rattle.block.proofs.Helds.{Fitting, held-fits}
+use Rattle.volume.specs.Meaning.{onFirst, joined}
+use Rattle.volume.specs.Step.{segmentsOf}
+use Rattle.sheet.proofs.Assembled.{InTurn, starts, follows, in-turn}
+use Rattle.content.specs.Section.{dataFrom}
+use Rattle.content.specs.Held.{plus, Room, adding, heldBy, heldF, heldFrom, fileHeld}
+use Rattle.content.specs.declared.Walk.{Walk}
+use Rattle.content.specs.declared.holding.FileHeld.{FileHeld}
+use Rattle.content.specs.declared.section.Extent.{Extent}
+use Rattle.content.specs.declared.section.Extent.the-variants.{At as Block, Nowhere}
+use Rattle.content.specs.declared.unit.Taken.{Taken}
+use Rattle.content.proofs.Sections.{by-place, Ahead, data-within}
+use Rattle.content.proofs.Searches.{Follows, Leads, data-leads}
+use Rattle.content.proofs.Blocks.{Hands, turns-shut, joined-whole, joined-one, joined-two, open-whole, open-one, open-two, UnitsOf, units-of, units-empty}
+
+-- ---- the equations
+
+same-by : (s : List ℕ) (f r o at : ℕ) (x : Extent) (g h : ℕ → FileHeld) → ((start n : ℕ) → x ≡ Block start n → g (start + n) ≡ h (start + n))
+    → heldBy s f r o at x g ≡ heldBy s f r o at x h
+unfolding heldBy
+same-by s f r o at (Block start n) g h e = ap (adding (heldIn f r o (part start n s))) (e start n refl)
+same-by s f r o at Nowhere g h e = refl
+
+-- the next block is further on
+enough : (j k : ℕ) (s : List ℕ) (f r o at : ℕ) → length s - at < j → length s - at < k → heldF j s f r o at ≡ heldF k s f r o at
+unfolding heldF
+enough zero k s f r o at a b = absurd (omega arith)
+enough (suc j) zero s f r o at a b = absurd (omega arith)
+enough (suc j) (suc k) s f r o at a b =
+    same-by s f r o at (dataFrom Data at (decode (drop at s))) (λ i. heldF j s f r o i) (λ i. heldF k s f r o i)
+    (λ start n e.
+    let c = data-within s Data at start n e in
+    enough j k s f r o (start + n) (omega (arith, c .onward, c .within)) (omega (arith, c .onward, c .within)))
+
+-- what is held from a place on, by the next data block
+pub held-at : (s : List ℕ) (f r o at : ℕ) → heldFrom s f r o at ≡ heldBy s f r o at (dataFrom Data at (decode (drop at s))) (λ i. heldFrom s f r o i)
+unfolding heldFrom heldF
+held-at s f r o at =
+    same-by s f r o at (dataFrom Data at (decode (drop at s))) (λ i. heldF (length s) s f r o i) (λ i. heldF (suc (length s)) s f r o i)
+    (λ start n e.
+    let c = data-within s Data at start n e in
+    enough (length s) (suc (length s)) s f r o (start + n) (omega (arith, c .onward, c .within)) (omega (arith, c .onward, c .within)))
+
+held-block : (s : List ℕ) (f r o at start n : ℕ) → dataFrom Data at (decode (drop at s)) ≡ Block start n
+    → heldFrom s f r o at ≡ adding (heldIn f r o (part start n s)) (heldFrom s f r o (start + n))
+unfolding heldBy
+held-block s f r o at start n e = held-at s f r o at ∙ ap (λ (x : Extent). heldBy s f r o at x (λ i. heldFrom s f r o i)) e
+
+held-over : (s : List ℕ) (f r o at : ℕ) → dataFrom Data at (decode (drop at s)) ≡ Nowhere → heldFrom s f r o at ≡ record { held = empty; end = at }
+unfolding heldBy
+held-over s f r o at e = held-at s f r o at ∙ ap (λ (x : Extent). heldBy s f r o at x (λ i. heldFrom s f r o i)) e
+
+-- ---- the loop over the blocks: what was added up and what is left make the whole
+
+pub record Summing (s : List ℕ) (w : Walk) (h : Held) (at : ℕ) : Type 0 where
+  pub room : length s < 18446744073709551616
+  pub records : h .records ≤ at
+  pub bytes : total h ≤ at
+  pub left : adding h (heldFrom s (w .format) (w .size) (w .offset) at) ≡ fileHeld s w
+
+adding-none : (x : FileHeld) → adding empty x ≡ x
+adding-none x =
+    let a : 0 + x .held .records ≡ x .held .records = omega arith in
+    let b : 0 + x .held .bytes ≡ x .held .bytes = omega arith in
+    let c : 0 + x .held .words ≡ x .held .words = omega arith in
+    let d : 0 + x .held .padding ≡ x .held .padding = omega arith in
+    let e : 0 + x .held .offset ≡ x .held .offset = omega arith in
+    λ i. record { held = record { records = a i; bytes = b i; words = c i; padding = d i; offset = e i }; end = x .end }
+
+adding-two : (h k : Held) (x : FileHeld) → adding (plus h k) x ≡ adding h (adding k x)
+adding-two h k x =
+    let y = x .held in
+    let a : h .records + k .records + y .records ≡ h .records + (k .records + y .records) = omega arith in
+    let b : h .bytes + k .bytes + y .bytes ≡ h .bytes + (k .bytes + y .bytes) = omega arith in
+    let c : h .words + k .words + y .words ≡ h .words + (k .words + y .words) = omega arith in
+    let d : h .padding + k .padding + y .padding ≡ h .padding + (k .padding + y .padding) = omega arith in
+    let e : h .offset + k .offset + y .offset ≡ h .offset + (k .offset + y .offset) = omega arith in
+    λ i. record { held = record { records = a i; bytes = b i; words = c i; padding = d i; offset = e i }; end = x .end }
+
+adding-over : (h : Held) (at : ℕ) → _≡_ {A = FileHeld} (record { held = h; end = at }) (adding h (record { held = empty; end = at }))
+adding-over h at =
+    let a : h .records ≡ h .records + 0 = omega arith in
+    let b : h .bytes ≡ h .bytes + 0 = omega arith in
+    let c : h .words ≡ h .words + 0 = omega arith in
+    let d : h .padding ≡ h .padding + 0 = omega arith in
+    let e : h .offset ≡ h .offset + 0 = omega arith in
+    λ i. record { held = record { records = a i; bytes = b i; words = c i; padding = d i; offset = e i }; end = at }
+
+pub summing-none : (s : List ℕ) (w : Walk) (h : Held) → length s < 18446744073709551616 → h ≡ empty → Summing s w h (w .at)
+unfolding fileHeld
+summing-none s w h l e =
+    let a : h .records ≡ 0 = ap (λ (k : Held). k .records) e in
+    let b : total h ≡ 0 = ap (λ (k : Held). total k) e in
+    let x = heldFrom s (w .format) (w .size) (w .offset) (w .at) in
+    record { room = l; records = omega (arith, a); bytes = omega (arith, b); left = ap (λ (k : Held). adding k x) e ∙ adding-none x }
+
+-- the block that was found, and what it holds
+record More (s : List ℕ) (w : Walk) (h : Held) (at start n : ℕ) (k : Held) : Type 0 where
+  ahead : Ahead s at start n
+  is : k ≡ heldIn (w .format) (w .size) (w .offset) (part start n s)
+  fits : Fitting k n
+
+more-of : (s : List ℕ) (w : Walk) (h : Held) (at start n : ℕ) (x : Extent) (k : Held) → x ≡ dataFrom Data at (decode (drop at s)) → x ≡ Block start n
+    → k ≡ heldIn (w .format) (w .size) (w .offset) (take (start + n - start) (drop start s)) → More s w h at start n k
+more-of s w h at start n x k e q p =
+    let c = data-within s Data at start n (sym e ∙ q) in
+    let is : k ≡ heldIn (w .format) (w .size) (w .offset) (part start n s) = p ∙ ap (heldIn (w .format) (w .size) (w .offset)) (part-within start n s) in
+    record {
+      ahead = c;
+      is = is;
+      fits = subst (Fitting k) (length-part start n s (c .within))
+          (subst (λ (y : Held). Fitting y (length (part start n s))) (sym is) (held-fits (w .format) (w .size) (w .offset) (part start n s)));
+    }
+
+pub summing-more : (s : List ℕ) (w : Walk) (h : Held) (at start n : ℕ) (x : Extent) (k g : Held) → Summing s w h at → x ≡ dataFrom Data at (decode (drop at s))
+    → x ≡ Block start n → k ≡ heldIn (w .format) (w .size) (w .offset) (take (start + n - start) (drop start s)) → g ≡ plus h k → Summing s w g (start + n)
+summing-more s w h at start n x k g c e q p t =
+    let m = more-of s w h at start n x k e q p in
+    let a : g .records ≡ h .records + k .records = ap (λ (y : Held). y .records) t in
+    let b : total g ≡ total (plus h k) = ap (λ (y : Held). total y) t in
+    let rest = heldFrom s (w .format) (w .size) (w .offset) (start + n) in
+    record {
+      room = c .room;
+      records = omega (arith, a, c .records, m .fits .records, m .ahead .onward);
+      bytes = omega (arith, b, c .bytes, m .fits .bytes, m .ahead .onward);
+      left =
+          ap (λ (y : Held). adding y rest) t ∙ adding-two h k rest ∙ ap (λ (y : Held). adding h (adding y rest)) (m .is)
+          ∙ ap (adding h) (sym (held-block s (w .format) (w .size) (w .offset) at start n (sym e ∙ q))) ∙ c .left;
+    }
+
+pub summing-over : (s : List ℕ) (w : Walk) (h : Held) (at : ℕ) (x : Extent) → Summing s w h at → x ≡ dataFrom Data at (decode (drop at s)) → x ≡ Nowhere
+    → _≡_ {A = FileHeld} (record { held = h; end = at }) (fileHeld s w)
+summing-over s w h at x c e q =
+    adding-over h at ∙ ap (adding h) (sym (held-over s (w .format) (w .size) (w .offset) at (sym e ∙ q))) ∙ c .left
+
+pub sum-room : (s : List ℕ) (w : Walk) (h : Held) (at start n : ℕ) (x : Extent) (k : Held) → Summing s w h at → x ≡ dataFrom Data at (decode (drop at s))
+    → x ≡ Block start n → k ≡ heldIn (w .format) (w .size) (w .offset) (take (start + n - start) (drop start s)) → Room (plus h k)
+sum-room s w h at start n x k c e q p =
+    let m = more-of s w h at start n x k e q p in
+    record {
+      records = omega (arith, c .room, c .records, m .fits .records, m .ahead .onward, m .ahead .within);
+      bytes = omega (arith, c .room, c .bytes, m .fits .bytes, m .ahead .onward, m .ahead .within);
+    }
+
+pub block-end : (s : List ℕ) (at start n : ℕ) (x : Extent) → x ≡ dataFrom Data at (decode (drop at s)) → x ≡ Block start n → start + n ≤ length s
+block-end s at start n x e q = data-within s Data at start n (sym e ∙ q) .within
+
+pub block-fits : (s : List ℕ) (at start n : ℕ) (x : Extent) → length s < 18446744073709551616 → x ≡ dataFrom Data at (decode (drop at s)) → x ≡ Block start n
+    → Fits w64 (start + n)
+block-fits s at start n x h e q = omega (arith, block-end s at start n x e q)
+
+pub block-falls : (s : List ℕ) (at start n : ℕ) (x : Extent) → x ≡ dataFrom Data at (decode (drop at s)) → x ≡ Block start n → length s - (start + n) < length s - at
+block-falls s at start n x e q = let c = data-within s Data at start n (sym e ∙ q) in omega (arith, c .onward, c .within)
+
+pub ruleset summings = (summing-none, summing-more, summing-over, sum-room, block-end, block-fits, block-falls, needs)
+
+-- ---- the place where the data ends: inside the image, and from there on the same file follows
+
+pub held-end : (s : List ℕ) (f r o at : ℕ) → at ≤ length s → (heldFrom s f r o at .end ≤ length s) × Leads s at (heldFrom s f r o at .end)
+held-end s f r o at = by-place s P each at
+  where
+    P : ℕ → Type 0
+    P i = i ≤ length s → (heldFrom s f r o i .end ≤ length s) × Leads s i (heldFrom s f r o i .end)
+
+    each : (i : ℕ) → ((m : ℕ) → i < m → m ≤ length s → P m) → P i
+    each i again h = by-block (dataFrom Data i (decode (drop i s))) refl
+      where
+        by-block : (x : Extent) → dataFrom Data i (decode (drop i s)) ≡ x → (heldFrom s f r o i .end ≤ length s) × Leads s i (heldFrom s f r o i .end)
+        by-block (Block start n) e =
+            let c = data-within s Data i start n e in
+            let (a, b) = again (start + n) (omega (arith, c .onward)) (c .within) (c .within) in
+            let same : heldFrom s f r o (start + n) .end ≡ heldFrom s f r o i .end = ap (λ (x : FileHeld). x .end) (sym (held-block s f r o i start n e)) in
+            (subst (λ (j : ℕ). j ≤ length s) same a, λ x l. subst (Follows s x) same (b x (data-leads s i start n e x l)))
+        by-block Nowhere e =
+            let same : i ≡ heldFrom s f r o i .end = ap (λ (x : FileHeld). x .end) (sym (held-over s f r o i e)) in
+            (subst (λ (j : ℕ). j ≤ length s) same h, λ x l. subst (Follows s x) same l)
+
+-- ---- the records that segments in turn are joined to, counted
+
+length-first : (bs : List ℕ) (rs : List (List ℕ)) → (rs ≡ [] → ⊥) → length (onFirst bs rs) ≡ length rs
+unfolding onFirst
+length-first bs [] h = absurd (h refl)
+length-first bs (r ∷ rs) h = refl
+
+sum-first : (bs : List ℕ) (rs : List (List ℕ)) → sum (map length (onFirst bs rs)) ≡ length bs + sum (map length rs)
+unfolding onFirst sum
+sum-first bs [] = refl
+sum-first bs (r ∷ rs) = omega (arith, length-append bs r)
+
+joined-bytes : (xs ys : List Segment) → sum (map length (joined (xs ++ ys))) ≡ segmentBytes xs + sum (map length (joined ys))
+unfolding joined segmentBytes sum
+joined-bytes [] ys = omega arith
+joined-bytes (x ∷ xs) ys =
+    let again = joined-bytes xs ys in
+    let first : sum (map length (onFirst (x .bytes) (joined (xs ++ ys)))) ≡ length (x .bytes) + segmentBytes xs + sum (map length (joined ys))
+    = omega (arith, again, sum-first (x .bytes) (joined (xs ++ ys))) in
+    if-case P (eqb (x .indicator) 1) (onFirst (x .bytes) (joined (xs ++ ys))) _ (λ _. first)
+    (λ _. if-case P (eqb (x .indicator) 2) (onFirst (x .bytes) (joined (xs ++ ys))) (x .bytes ∷ joined (xs ++ ys)) (λ _. first) (λ _. omega (arith, again)))
+  where
+    P : List (List ℕ) → Type 0
+    P rs = sum (map length rs) ≡ length (x .bytes) + segmentBytes xs + sum (map length (joined ys))
+
+ends-none : (i : ℕ) → i ≡ 1 → endsWith i ≡ 0
+unfolding endsWith
+ends-none i e = if-true _ _ _ (eq-eqb i 1 e)
+
+ends-still : (i : ℕ) → (i ≡ 1 → ⊥) → i ≡ 2 → endsWith i ≡ 0
+unfolding endsWith
+ends-still i a e = if-false _ _ _ (ne-eqb i 1 a) ∙ if-true _ _ _ (eq-eqb i 2 e)
+
+ends-one : (i : ℕ) → (i ≡ 1 → ⊥) → (i ≡ 2 → ⊥) → endsWith i ≡ 1
+unfolding endsWith
+ends-one i a b = if-false _ _ _ (ne-eqb i 1 a) ∙ if-false _ _ _ (ne-eqb i 2 b)
+
+-- a record that is open behind some segments goes on in those that follow
+abbrev Goes : ℕ → List Segment → Type 0
+Goes q ys = (q ≡ 0 → ⊥) → joined ys ≡ [] → ⊥
+
+-- a segment that leaves its record open is the last of its block
+last-open : (r k : ℕ) (x : Segment) (xs ys : List Segment) → turnsFrom r (suc k) false xs .number ≡ 0 → Goes (turnsFrom r (suc k) false xs .pending) ys
+    → joined (x ∷ (xs ++ ys)) ≡ onFirst (x .bytes) (joined (xs ++ ys)) → endsWith (x .indicator) ≡ 0
+    → length (joined (x ∷ (xs ++ ys))) ≡ recordsEnding (x ∷ xs) + length (joined ys)
+unfolding recordsEnding sum
+last-open r k x xs ys h g e z =
+    let (none', pending) = turns-shut r k xs h in
+    let rest : joined (xs ++ ys) ≡ joined ys = ap (λ (zs : List Segment). joined (zs ++ ys)) none' in
+    let long : length (onFirst (x .bytes) (joined ys)) ≡ length (joined ys)
+    = length-first (x .bytes) (joined ys) (g (λ n. omega (arith, pending))) in
+    let ending : sum (map (λ (y : Segment). endsWith (y .indicator)) xs) ≡ 0 = ap (λ (zs : List Segment). sum (map (λ (y : Segment). endsWith (y .indicator)) zs)) none' in
+    ap length e ∙ ap (λ (rs : List (List ℕ)). length (onFirst (x .bytes) rs)) rest ∙ long ∙ omega (arith, ending, z)
+
+joined-number : (r : ℕ) (xs ys : List Segment) (q : ℕ) (head : Bool) → turnsFrom r q head xs .number ≡ 0 → Goes (turnsFrom r q head xs .pending) ys
+    → length (joined (xs ++ ys)) ≡ recordsEnding xs + length (joined ys)
+unfolding turnsFrom outcome recordsEnding sum
+joined-number r [] ys q head = λ h g. omega arith
+joined-number r (x ∷ xs) ys q head =
+    if-case P (isTurn r q head (x .indicator) (length (x .bytes))) (turnsFrom r (openAfter q (x .indicator) (length (x .bytes))) false xs) (outcome 8 0)
+    (λ t. by-one (eqb (x .indicator) 1) refl (eqb (x .indicator) 2) refl (in-turn r q head (x .indicator) (length (x .bytes)) t)
+    (λ h g. joined-number r xs ys (openAfter q (x .indicator) (length (x .bytes))) false h g))
+    (λ _ z. absurd (eqb-false 8 0 refl z))
+  where
+    i : ℕ
+    i = x .indicator
+
+    n : ℕ
+    n = length (x .bytes)
+
+    P : Outcome → Type 0
+    P o = o .number ≡ 0 → Goes (o .pending) ys → length (joined (x ∷ (xs ++ ys))) ≡ endsWith (x .indicator) + sum (map (λ (y : Segment). endsWith (y .indicator)) xs) + length (joined ys)
+
+    open-by : (k : ℕ) → openAfter q i n ≡ suc k → joined (x ∷ (xs ++ ys)) ≡ onFirst (x .bytes) (joined (xs ++ ys)) → endsWith i ≡ 0
+        → P (turnsFrom r (openAfter q i n) false xs)
+    open-by k e j z = subst (λ (o : ℕ). P (turnsFrom r o false xs)) (sym e) (λ h g. unfold recordsEnding sum in last-open r k x xs ys h g j z)
+
+    by-one : (a : Bool) → eqb i 1 ≡ a → (b : Bool) → eqb i 2 ≡ b → InTurn r q i n
+        → (turnsFrom r (openAfter q i n) false xs .number ≡ 0 → Goes (turnsFrom r (openAfter q i n) false xs .pending) ys
+        → length (joined (xs ++ ys)) ≡ sum (map (λ (y : Segment). endsWith (y .indicator)) xs) + length (joined ys))
+        → P (turnsFrom r (openAfter q i n) false xs)
+    by-one true a b d t again = let one = eqb-true i 1 a in open-by n (open-one q i n one) (joined-one x (xs ++ ys) one) (ends-none i one)
+    by-one false a true d (starts p o m) again = let two = eqb-true i 2 d in absurd (omega (arith, two))
+    by-one false a true d (follows p o m) again =
+        let other = eqb-false i 1 a in
+        let two = eqb-true i 2 d in
+        let some' : q ≡ suc (q - 1) = omega arith in
+        open-by (q - 1 + n) (ap (λ (k : ℕ). openAfter k i n) some' ∙ open-two (q - 1) i n other two) (joined-two x (xs ++ ys) other two) (ends-still i other two)
+    by-one false a false d t again = λ h g.
+        let one = eqb-false i 1 a in
+        let two = eqb-false i 2 d in
+        ap length (joined-whole x (xs ++ ys) one two)
+        ∙ omega (arith, again h g, ends-one i one two)
+
+-- ---- the blocks of an accepted file: what they hold is what its records come to
+
+pub record Sums (h : Held) (rs : List (List ℕ)) : Type 0 where
+  pub number : h .records ≡ length rs
+  pub bytes : h .bytes ≡ sum (map length rs)
+
+-- what is held from the next data block on
+abbrev pub nextHeld : List ℕ → Walk → Extent → Held
+nextHeld s w x = heldBy s (w .format) (w .size) (w .offset) 0 x (λ i. heldFrom s (w .format) (w .size) (w .offset) i) .held
+
+pub held-next : (s : List ℕ) (w : Walk) (at : ℕ) → heldFrom s (w .format) (w .size) (w .offset) at .held ≡ nextHeld s w (dataFrom Data at (decode (drop at s)))
+held-next s w at = ap (λ (x : FileHeld). x .held) (held-at s (w .format) (w .size) (w .offset) at) ∙ anywhere (dataFrom Data at (decode (drop at s)))
+  where
+    anywhere : (x : Extent) → heldBy s (w .format) (w .size) (w .offset) at x (λ i. heldFrom s (w .format) (w .size) (w .offset) i) .held ≡ nextHeld s w x
+    anywhere (Block start n) = unfold heldBy in refl
+    anywhere Nowhere = unfold heldBy in refl
+
+hands-goes : (s : List ℕ) (r q : ℕ) (t : Taken) (ys : List Segment) → Hands s r q t (joined ys) → Goes q ys
+hands-goes s r zero t ys h z e = z refl
+hands-goes s r (suc k) t ys h z e = subst (Hands s r (suc k) t) e h
+
+held-units : (f r o : ℕ) (l : List ℕ) (x : Segment) (xs : List Segment) → cut f r (drop o l) ≡ some (x ∷ xs)
+    → (heldIn f r o l .records ≡ recordsEnding (x ∷ xs)) × (heldIn f r o l .bytes ≡ segmentBytes (x ∷ xs))
+unfolding heldIn heldOf someUnits
+held-units f r o l x xs e =
+    let here : heldIn f r o l ≡ heldOf (wordOf f) o (length l) (some (x ∷ xs)) = ap (λ (c : Option (List Segment)). heldOf (wordOf f) o (length l) (someUnits c)) e in
+    (ap (λ (h : Held). h .records) here, ap (λ (h : Held). h .bytes) here)
+
+-- a block, and those behind it
+pub block-sums : (s : List ℕ) (w : Walk) (b start n q : ℕ) (ys : List Segment) (t : Taken)
+    → blockOutcome (w .format) b (w .size) (w .offset) q (part start n s) .number ≡ 0
+    → Hands s (w .size) (blockOutcome (w .format) b (w .size) (w .offset) q (part start n s) .pending) t (joined ys)
+    → Sums (nextHeld s w (dataFrom Data (start + n) (decode (drop (start + n) s)))) (joined ys)
+    → Sums (nextHeld s w (Block start n)) (joined (segmentsOf (units (w .format) b (w .size) (w .offset) (part start n s)) ++ ys))
+unfolding blockOutcome turned segmentsOf outcome heldBy
+block-sums s w b start n q ys t = by-units (units (w .format) b (w .size) (w .offset) (part start n s)) refl
+  where
+    l : List ℕ
+    l = part start n s
+
+    by-units : (c : Option (List Segment)) → units (w .format) b (w .size) (w .offset) l ≡ c → turned (w .size) q true c .number ≡ 0
+        → Hands s (w .size) (turned (w .size) q true c .pending) t (joined ys) → Sums (nextHeld s w (dataFrom Data (start + n) (decode (drop (start + n) s)))) (joined ys)
+        → Sums (nextHeld s w (Block start n)) (joined (segmentsOf c ++ ys))
+    by-units none e h k c = absurd (eqb-false 7 0 refl h)
+    by-units (some []) e h k c = absurd (units-empty (w .format) b (w .size) (w .offset) l e)
+    by-units (some (x ∷ xs)) e h k c =
+        let u = units-of (w .format) b (w .size) (w .offset) l x xs e in
+        let here = held-units (w .format) (w .size) (w .offset) l x xs (u .cuts) in
+        let rest = held-next s w (start + n) in
+        let number = joined-number (w .size) (x ∷ xs) ys q true h (hands-goes s (w .size) (turnsFrom (w .size) q true (x ∷ xs) .pending) t ys k) in
+        record {
+          number = omega (arith, here .0, c .number, ap (λ (y : Held). y .records) rest, number);
+          bytes = omega (arith, here .1, c .bytes, ap (λ (y : Held). y .bytes) rest, joined-bytes (x ∷ xs) ys);
+        }
