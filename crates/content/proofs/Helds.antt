@@ -202,6 +202,27 @@ held-end s f r o at = by-place s P each at
             let same : i ≡ heldFrom s f r o i .end = ap (λ (x : FileHeld). x .end) (sym (held-over s f r o i e)) in
             (subst (λ (j : ℕ). j ≤ length s) same h, λ x l. subst (Follows s x) same l)
 
+-- What is counted of a file is no more than the bytes from its place on.
+pub held-within : (s : List ℕ) (f r o at : ℕ) → Fitting (heldFrom s f r o at .held) (length s - at)
+held-within s f r o at = by-place s (λ (i : ℕ). Fitting (heldFrom s f r o i .held) (length s - i)) each at
+  where
+    each : (i : ℕ) → ((m : ℕ) → i < m → m ≤ length s → Fitting (heldFrom s f r o m .held) (length s - m)) → Fitting (heldFrom s f r o i .held) (length s - i)
+    each i again = by-block (dataFrom Data i (decode (drop i s))) refl
+      where
+        by-block : (x : Extent) → dataFrom Data i (decode (drop i s)) ≡ x → Fitting (heldFrom s f r o i .held) (length s - i)
+        by-block (Block start n) e =
+            let c = data-within s Data i start n e in
+            let here = held-fits f r o (part start n s) in
+            let long = length-part start n s (c .within) in
+            let rest = again (start + n) (omega (arith, c .onward)) (c .within) in
+            subst (λ (x : FileHeld). Fitting (x .held) (length s - i)) (sym (held-block s f r o i start n e))
+            (record {
+              records = omega (arith, here .records, rest .records, long, c .onward, c .within);
+              bytes = omega (arith, here .bytes, rest .bytes, long, c .onward, c .within);
+            })
+        by-block Nowhere e =
+            subst (λ (x : FileHeld). Fitting (x .held) (length s - i)) (sym (held-over s f r o i e)) (record { records = omega arith; bytes = omega arith })
+
 -- ---- the records that segments in turn are joined to, counted
 
 length-first : (bs : List ℕ) (rs : List (List ℕ)) → (rs ≡ [] → ⊥) → length (onFirst bs rs) ≡ length rs

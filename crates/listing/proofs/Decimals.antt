@@ -6,12 +6,13 @@ use Prim.Native.Nat.{ℕ, zero, suc, _+_, _-_, _*_, _/_, _%_, _^_, _≤_, _<_}
 use native.Mathlib.Nat.{pow-suc, div-lt-iff-lt-mul}
 use native.Mathlib.Omega.{arith}
 use native.Mathlib.Numerals.{add-one}
+use native.Mathlib.Decide.{decLt}
 use borrow.Author.Needs.{needs}
 use mir.Val.{Fits}
 use mir.Syntax.{w64}
 use borrow.Author.Tests.{lt-ltb, le-ltb, ltb-true, ltb-false}
 use lib.Dec.{ltb}
-use lib.ListN.{length, take, drop, getD, set, length-set, length-drop, drop-of-length-le}
+use lib.ListN.{length, take, drop, getD, set, length-set, length-drop, length-append, drop-of-length-le}
 use lib.Seq.{drop-cons, drop-set-lt, getD-set-same, take-all}
 use Rattle.base.specs.If.{ifB, if-true, if-false, if-case}
 use Rattle.output.proofs.Writing.{wrote-same}
@@ -37,6 +38,20 @@ pub decimal-more : (n : ℕ) → 10 ≤ n → decimal n ≡ decimal (n / 10) ++ 
 unfolding decimal decimalF
 decimal-more n h =
     if-false _ _ _ (le-ltb n 10 h) ∙ ap (λ (l : List ℕ). l ++ ((48 + n % 10) ∷ [])) (decimal-enough n (suc (n / 10)) (n / 10) (omega arith) (omega arith))
+
+-- a number below a power of ten has no more digits
+tens-below : (k n : ℕ) → n < 10 ^ (suc k) → n / 10 < 10 ^ k
+tens-below k n h = let ten : 0 < 10 = omega arith in div-lt-iff-lt-mul {k = 10} ten .1 (subst (λ (i : ℕ). n < i) (pow-suc 10 k) h)
+
+pub decimal-long : (k n : ℕ) → n < 10 ^ (suc k) → length (decimal n) ≤ suc k
+decimal-long zero n h = omega (arith, ap length (decimal-one n (omega arith)))
+decimal-long (suc k) n h = by-one (decLt n 10) (decimal-long k (n / 10) (tens-below (suc k) n h))
+  where
+    by-one : Dec (n < 10) → length (decimal (n / 10)) ≤ suc k → length (decimal n) ≤ suc (suc k)
+    by-one (yes l) again = omega (arith, ap length (decimal-one n l))
+    by-one (no m) again =
+        let all = ap length (decimal-more n (omega arith)) in
+        omega (arith, all, again, length-append (decimal (n / 10)) ((48 + n % 10) ∷ []))
 
 -- ---- the loop of `put_decimal`: the digits of what is left, then those written from place i + 1 on
 

@@ -21,20 +21,19 @@ use Rattle.order.specs.declared.Phase.the-variants.{Reel, Header}
 use Rattle.order.specs.declared.Due.{Due}
 use Rattle.order.specs.declared.Due.the-variants.{To, Wrong}
 use Rattle.order.specs.Due.{dueAfter}
+use Rattle.block.specs.declared.Held.{Held}
 use Rattle.volume.specs.Step.{kindIn, bytesIn}
 use Rattle.volume.specs.Run.{imageVerdict}
 use Rattle.volume.specs.Meaning.{File, content}
 use Rattle.sheet.proofs.Entries.{entry-name, entry-second}
 use Rattle.content.specs.Section.{placeBehind}
 use Rattle.content.specs.File.{headerFrom, beginsFile, goesOnBehind, firstBehind, onward, firstFile, nextFile, fileBehind}
-use Rattle.content.specs.Records.{recordsAt, factsOf, countedFrom}
-use Rattle.content.specs.Walked.{endOf, FileIs, Filed}
-use Rattle.content.specs.declared.counting.Facts.{Facts}
-use Rattle.content.specs.declared.counting.Counted.{Counted}
+use Rattle.content.specs.Held.{fileHeld}
+use Rattle.content.specs.Walked.{FileIs, Filed}
+use Rattle.content.specs.declared.holding.FileHeld.{FileHeld}
 use Rattle.content.specs.declared.FileAt.{FileAt}
 use Rattle.content.specs.declared.NextFile.{NextFile}
 use Rattle.content.specs.declared.NextFile.the-variants.{At, Nowhere}
-use Rattle.content.proofs.Records.{walks-records, counted-facts}
 use Rattle.content.proofs.Walked.{files-all}
 use Rattle.listing.specs.Page.{Wrote, endless}
 use Rattle.listing.specs.Text.{heading, named, counted, described, line, lines, listingOf}
@@ -43,7 +42,7 @@ use Rattle.listing.specs.Place.{describedAt, lineAt}
 -- ---- a line
 
 -- what is said of a file, by the parts of the image that the code cuts out
-pub described-written : (s : List ℕ) (f : FileAt) (first second i g : List ℕ) (x : Facts) (o : List ℕ) (a : ℕ) (p : List ℕ) (r : ℕ) (q : List ℕ) (t : ℕ)
+pub described-written : (s : List ℕ) (f : FileAt) (first second i g : List ℕ) (x : Held) (o : List ℕ) (a : ℕ) (p : List ℕ) (r : ℕ) (q : List ℕ) (t : ℕ)
     → first ≡ part (f .first) 80 s → second ≡ part (f .second) 80 s → i ≡ part 4 17 first → g ≡ part 4 1 second
     → Wrote o a (named i g) p r → Wrote p r (counted (x .records) (x .bytes)) q t → Wrote o a (describedAt s f x) q t
 unfolding describedAt
@@ -52,7 +51,7 @@ described-written s f first second i g x o a p r q t ef es ei eg w v =
     (ap (λ (y : List ℕ). y ++ counted (x .records) (x .bytes)) (ap₂ named (ei ∙ ap (part 4 17) ef) (eg ∙ ap (part 4 1) es)))
     (wrote-wrote o a (named i g) p r (counted (x .records) (x .bytes)) q t w v)
 
-pub line-written : (s : List ℕ) (f : FileAt) (x : Facts) (n : ℕ) (d o : List ℕ) (a : ℕ) (p : List ℕ) (r : ℕ) (q : List ℕ) (t : ℕ)
+pub line-written : (s : List ℕ) (f : FileAt) (x : Held) (n : ℕ) (d o : List ℕ) (a : ℕ) (p : List ℕ) (r : ℕ) (q : List ℕ) (t : ℕ)
     → d ≡ digits 4 n → Wrote o a d p r → Wrote p r (describedAt s f x) q t → Wrote o a (lineAt s n f x) q t
 unfolding lineAt
 line-written s f x n d o a p r q t e w v =
@@ -62,8 +61,8 @@ line-written s f x n d o a p r q t e w v =
 pub ruleset describing = (described-written, line-written, needs)
 
 -- where a file of the meaning stands, its line is found
-line-is : (s : List ℕ) (n : ℕ) (f : FileAt) (d : File) → FileIs s f d → lineAt s n f (factsOf (recordsAt s (f .walk))) ≡ line n d
-unfolding lineAt line described describedAt factsOf
+line-is : (s : List ℕ) (n : ℕ) (f : FileAt) (d : File) → FileIs s f d → lineAt s n f (fileHeld s (f .walk) .held) ≡ line n d
+unfolding lineAt line described describedAt
 line-is s n f d c =
     let first : length (part (f .first) 80 s) ≡ 80 = length-part (f .first) 80 s (c .firstWithin) in
     let second : length (part (f .second) 80 s) ≡ 80 = length-part (f .second) 80 s (c .secondWithin) in
@@ -71,9 +70,8 @@ line-is s n f d c =
     = sym (ap (part 0 17) (c .fields) ∙ entry-name (part (f .first) 80 s) (part (f .second) 80 s) first second 0 17 (omega arith)) in
     let format : part 4 1 (part (f .second) 80 s) ≡ part 35 1 (d .fields)
     = sym (ap (part 35 1) (c .fields) ∙ entry-second (part (f .first) 80 s) (part (f .second) 80 s) first second 0 1 (omega arith)) in
-    let all : recordsAt s (f .walk) ≡ d .records = walks-records s (f .walk) (d .records) (c .walks) in
     ap (λ (l : List ℕ). digits 4 n ++ l)
-    (ap₂ (λ (y z : List ℕ). y ++ z) (ap₂ named name format) (ap (λ (rs : List (List ℕ)). counted (length rs) (sum (map length rs))) all))
+    (ap₂ (λ (y z : List ℕ). y ++ z) (ap₂ named name format) (ap₂ counted (c .amounts .records) (c .amounts .bytes)))
 
 -- ---- from file to file
 
@@ -146,7 +144,7 @@ pub record Next (s : List ℕ) (n : ℕ) (f : FileAt) (rest : List File) : Type 
   pub others : List File
   pub is : FileIs s f file
   pub filed : Filed s (nextFile s f) others
-  pub lined : lines n rest ≡ lineAt s n f (factsOf (recordsAt s (f .walk))) ++ lines (n + 1) others
+  pub lined : lines n rest ≡ lineAt s n f (fileHeld s (f .walk) .held) ++ lines (n + 1) others
 
 next-file : (s : List ℕ) (n : ℕ) (x : NextFile) (f : FileAt) (ds : List File) → Filed s x ds → x ≡ At f → Next s n f ds
 unfolding isFile fileIn lines
@@ -196,37 +194,30 @@ module _ (s o : List ℕ) (a : ℕ) (p : List ℕ) (r n : ℕ) (x : NextFile) (f
   pub number-fits : Fits w64 (n + 1)
   number-fits = let inside : f .second + 80 ≤ length s = next .is .secondWithin in omega (arith, after, c .room)
 
-  -- the walk over the file's records ends inside the image, and the next file is found from there on
-  end : (y : Counted) → y ≡ countedFrom s (f .walk) → y .last .at + y .last .left ≡ endOf s (f .walk)
-  unfolding countedFrom endOf
-  end y h = ap (λ (z : Counted). z .last .at + z .last .left) h
+  -- the next file is found from behind the file's last block on
+  found : (y : FileHeld) (z : NextFile) → y ≡ fileHeld s (f .walk) → z ≡ fileBehind s f (y .end) → z ≡ nextFile s f
+  found y z h k = k ∙ ap (λ (x : FileHeld). fileBehind s f (x .end)) h ∙ next .is .amounts .behind
 
-  found : (y : Counted) (z : NextFile) → y ≡ countedFrom s (f .walk) → z ≡ fileBehind s f (y .last .at + y .last .left) → z ≡ nextFile s f
-  found y z h k = k ∙ ap (fileBehind s f) (end y h) ∙ next .is .behind
-
-  pub end-fits : (y : Counted) → y ≡ countedFrom s (f .walk) → Fits w64 (y .last .at + y .last .left)
-  end-fits y h = omega (arith, end y h, next .is .ends, c .room)
-
-  pub lining-more : (y : Counted) (q : List ℕ) (t : ℕ) (z : NextFile) → y ≡ countedFrom s (f .walk) → Wrote p r (lineAt s n f (y .facts)) q t
-      → z ≡ fileBehind s f (y .last .at + y .last .left) → Lining s o a q t (n + 1) z
+  pub lining-more : (y : FileHeld) (q : List ℕ) (t : ℕ) (z : NextFile) → y ≡ fileHeld s (f .walk) → Wrote p r (lineAt s n f (y .held)) q t
+      → z ≡ fileBehind s f (y .end) → Lining s o a q t (n + 1) z
   lining-more y q t z h w k =
       record {
         room = c .room;
-        before = c .before ++ lineAt s n f (y .facts);
+        before = c .before ++ lineAt s n f (y .held);
         rest = next .others;
         filed = subst (λ (u : NextFile). Filed s u (next .others)) (sym (found y z h k)) (next .filed);
-        wrote = wrote-wrote o a (c .before) p r (lineAt s n f (y .facts)) q t (c .wrote) w;
+        wrote = wrote-wrote o a (c .before) p r (lineAt s n f (y .held)) q t (c .wrote) w;
         whole =
-            append-assoc (c .before) (lineAt s n f (y .facts)) (lines (n + 1) (next .others))
-            ∙ ap (λ (u : Facts). c .before ++ (lineAt s n f u ++ lines (n + 1) (next .others))) (counted-facts s (f .walk) y h)
+            append-assoc (c .before) (lineAt s n f (y .held)) (lines (n + 1) (next .others))
+            ∙ ap (λ (u : FileHeld). c .before ++ (lineAt s n f (u .held) ++ lines (n + 1) (next .others))) h
             ∙ ap (λ (l : List ℕ). c .before ++ l) (sym (next .lined))
             ∙ c .whole;
         number = subst (Behind (n + 1 + 1)) (sym (found y z h k)) (behind-less (n + 1 + 1) (f .second + 80) (nextFile s f) (omega (arith, after)) behind);
       }
 
-  pub lining-falls : (y : Counted) (z : NextFile) → y ≡ countedFrom s (f .walk) → z ≡ fileBehind s f (y .last .at + y .last .left) → left s z < left s x
+  pub lining-falls : (y : FileHeld) (z : NextFile) → y ≡ fileHeld s (f .walk) → z ≡ fileBehind s f (y .end) → left s z < left s x
   lining-falls y z h k =
       subst (λ (u : NextFile). left s z < left s u) (sym e)
       (left-falls s f z (next .is .secondWithin) (subst (Behind (f .second + 80)) (sym (found y z h k)) behind))
 
-pub ruleset lining = (lining-none, lining-all, lining-more, number-fits, end-fits, lining-falls, needs)
+pub ruleset lining = (lining-none, lining-all, lining-more, number-fits, lining-falls, needs)

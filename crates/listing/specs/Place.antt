@@ -1,14 +1,14 @@
--- The line of a file by the places where its labels stand in the image, and what was counted of its records.
+-- The line of a file by the places where its labels stand in the image, and what its blocks hold.
 use mathlib.Core.List.{List, _++_}
 use Prim.Native.Nat.{ℕ}
 use Rattle.base.specs.Part.{part}
 use Rattle.base.specs.Digits.{digits}
+use Rattle.block.specs.declared.Held.{Held}
 use Rattle.content.specs.declared.FileAt.{FileAt}
-use Rattle.content.specs.declared.counting.Facts.{Facts}
 use Rattle.listing.specs.Text.{named, counted}
 
-unfoldable pub describedAt : List ℕ → FileAt → Facts → List ℕ
+unfoldable pub describedAt : List ℕ → FileAt → Held → List ℕ
 describedAt s f x = named (part 4 17 (part (f .first) 80 s)) (part 4 1 (part (f .second) 80 s)) ++ counted (x .records) (x .bytes)
 
-unfoldable pub lineAt : List ℕ → ℕ → FileAt → Facts → List ℕ
+unfoldable pub lineAt : List ℕ → ℕ → FileAt → Held → List ℕ
 lineAt s n f x = digits 4 n ++ describedAt s f x

@@ -10,8 +10,8 @@ ghost use Rattle.listing.specs.Page.{Wrote};
 ghost use Rattle.listing.specs.Text.{listingOf, refusalLine, textOf};
 use base::Verdict;
 use content::NextFile;
-use content::count_records;
 use content::file_behind;
+use content::file_held;
 use content::first_file;
 use line::put_heading;
 use line::put_line;
@@ -19,7 +19,11 @@ use line::put_refusal;
 use output::Written;
 use output::done;
 use output::refusal;
+use page::put;
 use volume::check;
+
+// The listing of an accepted set has room here: a heading of 40 bytes, and at most 64 lines of at most 43.
+const PAGE: usize = 2792;
 
 // Writes the heading and a line for each file of an accepted set.
 fn put_listing(out: &mut [u8], image: &[u8]) -> usize
@@ -34,29 +38,28 @@ fn put_listing(out: &mut [u8], image: &[u8]) -> usize
             NextFile::Nowhere => return end,
             NextFile::At(f) => {
                 let w = f.walk;
-                let x = count_records(image, w);
-                let facts = x.facts;
-                let last = x.last;
-                end = put_line(out, end, image, n, f, facts);
+                let x = file_held(image, w);
+                let held = x.held;
+                end = put_line(out, end, image, n, f, held);
                 n += 1;
-                // What the walk went over is not gone over again: the next file is sought from its end on.
-                next = file_behind(image, f, last.at + last.left);
+                // The blocks are not gone over again: the next file is sought from behind the last of them on.
+                next = file_behind(image, f, x.end);
             }
         }
     }
 }
 
-// The listing of an accepted set, whose length is found in a buffer in which it has no room, before the first byte is written.
+// The listing of an accepted set, written on a page of its own before the first byte of the lent buffer is.
 fn accepted(image: &[u8], out: &mut [u8]) -> Written
     requires { ⌜ imageVerdict (now image) .number ≡ 0 ⌝ }
     ensures { λ r. ⌜ Answers (fitted (listingOf (content (now (image .entry)))) (now (out .entry))) r (now (out .exit)) ⌝ }
 {
-    let mut none = [0u8; 1];
-    let end = put_listing(&mut none, image);
+    let mut page = [0u8; PAGE];
+    let end = put_listing(&mut page, image);
     if out.len() < end {
         return refusal(10);
     }
-    put_listing(out, image);
+    put(out, 0, &page[..end]);
     done(end)
 }
 

@@ -7,7 +7,7 @@ use crate::page::put;
 use crate::page::put_number;
 use base::Verdict;
 use base::part_of;
-use content::Facts;
+use block::Held;
 use content::FileAt;
 use output::four_digits;
 
@@ -55,27 +55,27 @@ fn put_counts(out: &mut [u8], at: usize, records: u64, size: u64) -> usize
 }
 
 // Writes what is said of a file, and ends the line.
-fn put_file(out: &mut [u8], at: usize, image: &[u8], f: FileAt, x: Facts) -> usize
-    ensures { λ r. ⌜ Wrote (now (out .entry)) at (describedAt (now (image .entry)) f x) (now (out .exit)) r ⌝ }
+fn put_file(out: &mut [u8], at: usize, image: &[u8], f: FileAt, held: Held) -> usize
+    ensures { λ r. ⌜ Wrote (now (out .entry)) at (describedAt (now (image .entry)) f held) (now (out .exit)) r ⌝ }
 {
     let first = part_of(image, f.first, 80);
     let second = part_of(image, f.second, 80);
     let behind = put_names(out, at, part_of(first, 4, 17), part_of(second, 4, 1));
-    put_counts(out, behind, x.records, x.bytes)
+    put_counts(out, behind, held.records as u64, held.bytes as u64)
 }
 
-// Writes the line of file n, from 1, of whose records this was counted.
+// Writes the line of file n, from 1, whose blocks hold this.
 pub(crate) fn put_line(
     out: &mut [u8],
     at: usize,
     image: &[u8],
     n: usize,
     f: FileAt,
-    x: Facts,
+    held: Held,
 ) -> usize
-    ensures { λ r. ⌜ Wrote (now (out .entry)) at (lineAt (now (image .entry)) n f x) (now (out .exit)) r ⌝ }
+    ensures { λ r. ⌜ Wrote (now (out .entry)) at (lineAt (now (image .entry)) n f held) (now (out .exit)) r ⌝ }
 {
     let d = four_digits(n);
     let behind = put(out, at, &d);
-    put_file(out, behind, image, f, x)
+    put_file(out, behind, image, f, held)
 }

@@ -29,17 +29,14 @@ returns c = search lining
 enum-known-next : tie.Need-enum-known-next Inv-loop μ-loop
 enum-known-next c = search lining
 
-count-records-requires : tie.Need-count-records-requires Inv-loop μ-loop
-count-records-requires c κs = search lining
+file-held-requires : tie.Need-file-held-requires Inv-loop μ-loop
+file-held-requires c κs = search lining
 
 put-line-requires : tie.Need-put-line-requires Inv-loop μ-loop
 put-line-requires c κs = search lining
 
 add-n : tie.Need-add-n Inv-loop μ-loop
 add-n c = search lining
-
-add-file-behind : tie.Need-add-file-behind Inv-loop μ-loop
-add-file-behind c = search lining
 
 file-behind-requires : tie.Need-file-behind-requires Inv-loop μ-loop
 file-behind-requires c κs = search lining
@@ -63,10 +60,9 @@ put-listing-spec =
     same-length
     returns
     enum-known-next
-    count-records-requires
+    file-held-requires
     put-line-requires
     add-n
-    add-file-behind
     file-behind-requires
     loop-less
     loop-again)
