@@ -16,9 +16,9 @@ use Rattle.base.specs.Sum.{sum}
 use Rattle.content.specs.Walk.{Inside, isInside, unitNext, unitFrom, firstSegment, nextSegment, Rest, ends, fails, before, restBy, restF, restAt, Record, whole, split, nothing, splitBy, begunBy, recordAt}
 use Rattle.content.specs.Measure.{isEnded, bytesBehind, measuredBy, recordBytes}
 use Rattle.content.specs.Walked.{handed, Walks, alongBy, alongF, along, lastOf, endOf}
-use Rattle.content.specs.Records.{recordsAt, factsOf, countedFrom}
+use Rattle.content.specs.Records.{recordsAt, factsOf}
 use Rattle.content.specs.declared.Walk.{Walk}
-use Rattle.content.specs.declared.counting.Counted.{Counted}
+use Rattle.content.specs.declared.counting.Facts.{Facts}
 use Rattle.content.specs.declared.measuring.Measured.{Measured}
 use Rattle.content.specs.declared.measuring.Measured.the-variants.{Whole, Split, Nothing as None}
 use Rattle.content.specs.declared.unit.Taken.{Taken}
@@ -340,10 +340,9 @@ pub record Counting (s : List ℕ) (from : Walk) (records bytes : ℕ) (w : Walk
   pub most : bytes ≤ w .at
   pub number : records + length (recordsAt s w) ≡ length (recordsAt s from)
   pub total : bytes + sum (map length (recordsAt s w)) ≡ sum (map length (recordsAt s from))
-  pub last : lastOf s w ≡ lastOf s from
 
 pub counting-none : (s : List ℕ) (from : Walk) → Counting s from 0 0 from
-counting-none s from = record { some = omega arith; most = omega arith; number = omega arith; total = omega arith; last = refl }
+counting-none s from = record { some = omega arith; most = omega arith; number = omega arith; total = omega arith }
 
 counting-more : (s : List ℕ) (from : Walk) (records bytes : ℕ) (w : Walk) (r : List ℕ) (n : ℕ) (v : Walk) → Counting s from records bytes w
     → handed s (recordAt s w) ≡ ends r v → length r ≡ n → Counting s from (records + 1) (bytes + n) v
@@ -356,7 +355,6 @@ counting-more s from records bytes w r n v c e l =
       most = omega (arith, c .most, p .bytes, l);
       number = omega (arith, c .number, ap length rs);
       total = omega (arith, c .total, ap (λ (ts : List (List ℕ)). sum (map length ts)) rs, l);
-      last = sym (last-more s w r v e) ∙ c .last;
     }
 
 pub counting-whole : (s : List ℕ) (from : Walk) (records bytes : ℕ) (w : Walk) (start n : ℕ) (v : Walk) (m : Measured) → Counting s from records bytes w
@@ -371,18 +369,13 @@ counting-split s from records bytes w n v m c e q =
     counting-more s from records bytes w (recordBytes (recordAt s w)) n v c (both .0) (both .1)
 
 pub counted-all : (s : List ℕ) (from : Walk) (records bytes : ℕ) (w : Walk) (m : Measured) → Counting s from records bytes w → m ≡ measuredBy (recordAt s w) → m ≡ None
-    → _≡_ {A = Counted} (record { facts = record { records = records; bytes = bytes }; last = w }) (countedFrom s from)
-unfolding countedFrom factsOf sum
+    → _≡_ {A = Facts} (record { records = records; bytes = bytes }) (factsOf (recordsAt s from))
+unfolding factsOf sum
 counted-all s from records bytes w m c e q =
     let none = measured-nothing s w m e q in
     let a : records ≡ length (recordsAt s from) = omega (arith, c .number, ap length none) in
     let b : bytes ≡ sum (map length (recordsAt s from)) = omega (arith, c .total, ap (λ (ts : List (List ℕ)). sum (map length ts)) none) in
-    let z : w ≡ lastOf s from = sym (last-over s w (handed-nothing s (recordAt s w) (sym e ∙ q))) ∙ c .last in
-    λ i. record { facts = record { records = a i; bytes = b i }; last = z i }
-
-pub counted-facts : (s : List ℕ) (from : Walk) (x : Counted) → x ≡ countedFrom s from → x .facts ≡ factsOf (recordsAt s from)
-unfolding countedFrom
-counted-facts s from x e = ap (λ (y : Counted). y .facts) e
+    λ i. record { records = a i; bytes = b i }
 
 -- the numbers fit, and the walk goes on
 record Further (s : List ℕ) (records bytes : ℕ) (w : Walk) (n : ℕ) (v : Walk) : Type 0 where
@@ -437,4 +430,4 @@ pub split-falls : (s : List ℕ) (from : Walk) (records bytes : ℕ) (w : Walk) 
 split-falls s from records bytes w n v m c e q = further-split s from records bytes w n v m c e q .falls
 
 pub ruleset counts =
-    (counting-none, counting-whole, counting-split, counted-all, counted-facts, whole-number, split-number, whole-total, split-total, whole-falls, split-falls, needs)
+    (counting-none, counting-whole, counting-split, counted-all, whole-number, split-number, whole-total, split-total, whole-falls, split-falls, needs)

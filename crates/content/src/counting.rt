@@ -1,6 +1,6 @@
-// What a walk over a file's records comes to: how many records and how many record bytes there are, and where it ends. It joins no record.
+// What a walk over a file's records comes to: how many records and how many record bytes there are. It joins no record.
 ghost use mathlib.Core.Path.{_≡_};
-ghost use Rattle.content.specs.Records.{recordsAt, factsOf, countedFrom};
+ghost use Rattle.content.specs.Records.{recordsAt, factsOf};
 use crate::Walk;
 use crate::measuring::Measured;
 use crate::measuring::measure;
@@ -12,25 +12,16 @@ pub struct Facts {
     pub bytes: u64,
 }
 
-// The facts of some records, and the walk behind the last of them.
-pub struct Counted {
-    pub facts: Facts,
-    pub last: Walk,
-}
-
-// The records from a walk on, in one walk.
-pub fn count_records(image: &[u8], from: Walk) -> Counted
-    ensures { λ r. ⌜ r ≡ countedFrom (now (image .entry)) from ⌝ }
+// The facts of the records from a walk on, be its state right or forged.
+pub fn file_facts(image: &[u8], from: Walk) -> Facts
+    ensures { λ r. ⌜ r ≡ factsOf (recordsAt (now (image .entry)) from) ⌝ }
 {
     let mut records: u64 = 0;
     let mut bytes: u64 = 0;
     let mut w = from;
     loop {
         match measure(image, w) {
-            Measured::Nothing => {
-                let facts = Facts { records, bytes };
-                return Counted { facts, last: w };
-            }
+            Measured::Nothing => return Facts { records, bytes },
             Measured::Whole(_, n, v) => {
                 records += 1;
                 bytes += n as u64;
@@ -43,12 +34,4 @@ pub fn count_records(image: &[u8], from: Walk) -> Counted
             }
         }
     }
-}
-
-// The facts of the records from a walk on.
-pub fn file_facts(image: &[u8], from: Walk) -> Facts
-    ensures { λ r. ⌜ r ≡ factsOf (recordsAt (now (image .entry)) from) ⌝ }
-{
-    let x = count_records(image, from);
-    x.facts
 }

@@ -1,6 +1,6 @@
 // Records handed out: by number, and by a walk over one file. It knows where a record stands and how its segments are joined; what is right in a
 // set it leaves to the layers below.
-mod counting; // counting.rt: how many records, how long, and where they end
+mod counting; // counting.rt: how many records, and how long
 mod file; // file.rt: the files of a set, one after the other
 mod holding; // holding.rt: what a file holds, block by block
 mod items; // items.rt: an image item by item
@@ -12,9 +12,7 @@ mod section; // section.rt: the next data block of a file
 mod segment; // segment.rt: a record segment by segment
 mod unit; // unit.rt: the next unit of a file
 
-pub use counting::Counted;
 pub use counting::Facts;
-pub use counting::count_records;
 pub use counting::file_facts;
 pub use file::file_behind;
 pub use file::first_file;
