@@ -11,12 +11,15 @@ use Rattle.base.specs.If.{ifB}
 use Rattle.base.specs.Format.{F, D, S}
 use Rattle.base.specs.Part.{part, same, allAre}
 use Rattle.base.specs.Digits.{isDigit, allDigits, value, digits}
+use Rattle.base.specs.Sum.{sum}
 use Rattle.charset.specs.Number.{numberIn}
 use Rattle.charset.specs.Date.{isCentury, isYearDay, isDate}
 use Rattle.output.specs.Text.{bytes}
 use Rattle.block.specs.Unit.{fixed, measured, variable, segment, unitOf, wordOf}
 use Rattle.block.specs.Cut.{Segment, onto, cutOne, cutF, cut, someUnits, units}
 use Rattle.block.specs.Turn.{outcome, isTurn, openAfter, turnsFrom, turned, blockOutcome}
+use Rattle.block.specs.Held.{endsWith, recordsEnding, segmentBytes, heldBy, heldIn}
+use Rattle.block.specs.declared.Held.{Held}
 use Rattle.volume.specs.Meaning.{onFirst, joined}
 use Rattle.writing.specs.Pack.{enters, taken, indicatorOf, controlWord, startOf, unitIn, fill, after, weights, weight, blocksF, blocksLeft, blocksOf}
 
@@ -25,6 +28,8 @@ pub data Example : Type 0 where
   gives : ℕ → ℕ → List String → List String → Example
   -- the number on a block of format f and record length r, with no record open
   answers : ℕ → ℕ → String → ℕ → Example
+  -- what a block of format f, record length r and offset length o holds: records that end in it, bytes of records, of control words, of padding and of the offset
+  splits : ℕ → ℕ → ℕ → String → List ℕ → Example
   -- records in a file of format f and block length b are written as these blocks
   packs : ℕ → ℕ → List String → List String → Example
   -- whether a field is a date
@@ -62,9 +67,13 @@ isSame : Bool → Bool → Bool
 isSame true b = b
 isSame false b = not b
 
+numbersOf : Held → List ℕ
+numbersOf h = h .records ∷ h .bytes ∷ h .words ∷ h .padding ∷ h .offset ∷ []
+
 holds : Example → Bool
 holds (gives f r bs ts) = sameRecords (segmentsFrom f r 0 bs) ts
 holds (answers f r s number) = eqb (blockOutcome f 20 r 0 0 (bytes s) .number) number
+holds (splits f r o s ns) = same (numbersOf (heldIn f r o (bytes s))) ns
 holds (packs f b xs ts) = sameTexts (blocksOf f b (texts xs)) ts
 holds (dates s b) = isSame (isDate (bytes s)) b
 
@@ -104,6 +113,12 @@ examples =
     ∷ answers S 10 "20005X" 7
     ∷ answers S 10 "20005" 8
     ∷ gives S 10 ("10007AB^^" ∷ "30006C00005" ∷ []) ("ABC" ∷ "" ∷ [])
+    -- circumflexes of a record are no padding; a record counts where it ends; a block that cannot be cut holds nothing
+    ∷ splits F 4 0 "AB^^CD^^^^" (2 ∷ 8 ∷ 0 ∷ 2 ∷ 0 ∷ [])
+    ∷ splits D 10 3 "XYZ0007ABC0004^" (2 ∷ 3 ∷ 8 ∷ 1 ∷ 3 ∷ [])
+    ∷ splits S 10 0 "10007AB^^" (0 ∷ 2 ∷ 5 ∷ 2 ∷ 0 ∷ [])
+    ∷ splits S 10 0 "30006C00005" (2 ∷ 1 ∷ 10 ∷ 0 ∷ 0 ∷ [])
+    ∷ splits F 4 0 "ABCD^^^^E" (0 ∷ 0 ∷ 0 ∷ 0 ∷ 0 ∷ [])
     -- one byte more than an empty record needs is left behind `30008JKL`
     ∷ packs S 14 ("ABCDEFGHIJKL" ∷ "" ∷ []) ("10014ABCDEFGHI" ∷ "30008JKL00005" ∷ [])
     -- five bytes are left behind `A`: enough for an empty record, and not for `B`
@@ -119,5 +134,5 @@ examples =
     ∷ []
 
 pub all-hold : allHold examples ≡ true
-unfolding allHold holds examples sameRecords segmentsFrom before texts sameTexts isSame bytes ifB part same allAre isDigit allDigits value numberIn isCentury isYearDay isDate fixed measured variable segment unitOf onto cutOne cutF cut someUnits units outcome isTurn openAfter turnsFrom turned blockOutcome onFirst joined digits wordOf enters taken indicatorOf controlWord startOf unitIn fill after weights weight blocksF blocksLeft blocksOf
+unfolding allHold holds examples sameRecords segmentsFrom before texts sameTexts isSame bytes ifB part same allAre isDigit allDigits value numberIn isCentury isYearDay isDate fixed measured variable segment unitOf onto cutOne cutF cut someUnits units outcome isTurn openAfter turnsFrom turned blockOutcome endsWith recordsEnding segmentBytes sum heldBy heldIn numbersOf onFirst joined digits wordOf enters taken indicatorOf controlWord startOf unitIn fill after weights weight blocksF blocksLeft blocksOf
 all-hold = refl
