@@ -24,15 +24,17 @@ use Rattle.output.specs.declared.Written.{Written as Answer}
 use Rattle.output.proofs.Writing.{answers-refused}
 use Rattle.output.specs.Output.{Written, Result, refusedWith, placed, refusalOf, writtenOf, Answers, AnswersAt}
 use Rattle.writing.specs.Lay.{Reel, reelsOf, Laid, laid, short, layOn, lay}
-use Rattle.writing.specs.Write.{stored, storedLaid, writeSheet, write}
+use Rattle.writing.specs.Write.{flat, stored, storedLaid, writeSheet, write}
 use Rattle.writing.specs.Rewrite.{sheetFrom, rewrite}
 use Rattle.writing.proofs.Packing.{by-test}
 use Rattle.writing.proofs.Units.{both}
 use Rattle.writer.specs.declared.pen.Pen.{Pen}
 use Rattle.writer.specs.declared.set.Place.{Place}
 use Rattle.writer.specs.Pass.{overLong, reelsFrom, reelsAt, inked, behind, inkedAt, Outcome, outcome, laidFrom, imaged, imageFrom}
-use Rattle.writer.specs.Sets.{Origin, Task, task, Sheeted, meaningAt, Writable, setLaid, SetReady, sheetAt, Ordered}
+use Rattle.writer.specs.Sets.{Origin, originOf, Task, task, taskOf, Sheeted, meaningAt, Writable, setLaid, SetReady, sheetAt, Ordered}
 use Rattle.writer.proofs.Files.{laid-short}
+use Rattle.writer.proofs.Rows.{set-in, names-in}
+use Rattle.writer.proofs.FromSheet.{sheet-ordered, sheet-answers}
 
 -- ---- what a pass has found out
 
@@ -244,7 +246,7 @@ module _ (from : Origin) (set lengths bytes : List ℕ) (g : Place) (quota : ℕ
     n-is : n ≡ count
     n-is = omega (arith, whole)
 
-    pub rooms-within : n ≤ 16
+    rooms-within : n ≤ 16
     rooms-within = omega (arith, n-is, few-names)
 
     module _ (rooms : List ℕ) (r : rooms ≡ take n (replicate 16 quota)) where
@@ -257,7 +259,7 @@ module _ (from : Origin) (set lengths bytes : List ℕ) (g : Place) (quota : ℕ
       room-is : (i : ℕ) → i < length rooms → getD rooms i 0 ≡ quota
       room-is i h = ap (λ (s : List ℕ). getD s i 0) rooms-are ∙ getD-replicate count i quota 0 (omega (arith, rooms-long))
 
-      pub quota-writable : Writable (task from set lengths bytes rooms names) g
+      quota-writable : Writable (task from set lengths bytes rooms names) g
       quota-writable =
           record {
             placed = y .placed;
@@ -279,12 +281,47 @@ module _ (from : Origin) (set lengths bytes : List ℕ) (g : Place) (quota : ℕ
           ap (layOn (meaningAt (task from set lengths bytes rooms names) g))
           (ap (λ (qs : List ℕ). reelsFrom qs (inParts 6 names)) rooms-are ∙ reels-same count quota (inParts 6 names) refl)
 
-      pub quota-answers : (o : List ℕ) (a : Answer) (q : List ℕ) → Answers (storedLaid (setLaid (task from set lengths bytes rooms names) g) o) a q
+      quota-answers : (o : List ℕ) (a : Answer) (q : List ℕ) → Answers (storedLaid (setLaid (task from set lengths bytes rooms names) g) o) a q
           → Answers (writeSheet (sheetAt from set lengths bytes g quota names) o) a q
       unfolding writeSheet
       quota-answers o a q m = subst (λ (l : Laid). Answers (storedLaid l o) a q) laid-is m
 
-pub ruleset quotas = (rooms-within, quota-writable, quota-answers, needs)
+-- the same, as the code holds it
+module _ (image : Bool) (files counts set lengths bytes : List ℕ) (g : Place) (quota : ℕ) (names : List ℕ) (y : Ordered (originOf image files counts) set lengths bytes g quota names) where
+  abbrev from : Origin
+  from = originOf image files counts
+
+  pub set-room : 47 + length set ≤ 149
+  set-room = omega (arith, y .six)
+
+  few-bytes : length names ≤ 96
+  few-bytes = omega (arith, whole from set lengths bytes g quota names y, few-names from set lengths bytes g quota names y)
+
+  pub names-room : 53 + length names ≤ 149
+  names-room = omega (arith, few-bytes)
+
+  module _ (n : ℕ) (e : n ≡ length names / 6) where
+    pub quota-within : n ≤ 16
+    quota-within = rooms-within from set lengths bytes g quota names y n e
+
+    module _ (rooms titled labels : List ℕ) (r : rooms ≡ take n (replicate 16 quota)) (t : titled ≡ putAt (replicate 149 0) 47 set) (l : labels ≡ putAt titled 53 names) where
+      names-whole : length names ≡ 6 * length rooms
+      names-whole = omega (arith, whole from set lengths bytes g quota names y, rooms-long from set lengths bytes g quota names y n e rooms r)
+
+      task-is : taskOf image files counts lengths bytes labels rooms ≡ task from set lengths bytes rooms names
+      task-is =
+          λ i.
+          task from (set-in set names titled labels (y .six) few-bytes t l i) lengths bytes rooms (names-in set names titled labels (y .six) few-bytes t l (length rooms) names-whole i)
+
+      pub row-writable : Writable (taskOf image files counts lengths bytes labels rooms) g
+      row-writable = subst (λ (s : Task). Writable s g) (sym task-is) (quota-writable from set lengths bytes g quota names y n e rooms r)
+
+      pub row-answers : (o : List ℕ) (a : Answer) (q : List ℕ) → Answers (storedLaid (setLaid (taskOf image files counts lengths bytes labels rooms) g) o) a q
+          → Answers (writeSheet (sheetAt from set lengths bytes g quota names) o) a q
+      row-answers o a q m =
+          quota-answers from set lengths bytes g quota names y n e rooms r o a q (subst (λ (s : Task). Answers (storedLaid (setLaid s g) o) a q) task-is m)
+
+pub ruleset quotas = (set-room, names-room, quota-within, row-writable, row-answers, needs)
 
 -- ---- a flat sheet
 
@@ -295,14 +332,26 @@ write-refused x out n a e d h =
     subst (λ (b : Answer). Answers (write x out) b out) (sym (h ∙ ap refusalOf e))
     (subst (λ (w : Written). Answers w (refusalOf (sheetNumber x)) out) (sym (if-false _ _ _ (ne-eqb (sheetNumber x) 0 other))) (answers-refused (sheetNumber x) out))
 
-pub write-right : (x : Flat) (out : List ℕ) (n : ℕ) (a : Answer) (p : List ℕ) → n ≡ sheetNumber x → n ≡ 0 → Answers (writeSheet (sheetOf x) out) a p → Answers (write x out) a p
+write-right : (x : Flat) (out : List ℕ) (n : ℕ) (a : Answer) (p : List ℕ) → n ≡ sheetNumber x → n ≡ 0 → Answers (writeSheet (sheetOf x) out) a p → Answers (write x out) a p
 unfolding write
 write-right x out n a p e z m = subst (λ (w : Written). Answers w a p) (sym (if-true _ _ _ (eq-eqb (sheetNumber x) 0 (sym e ∙ z)))) m
 
-pub number-zero : (x : Flat) (n : ℕ) → n ≡ sheetNumber x → n ≡ 0 → sheetNumber x ≡ 0
-number-zero x n e z = sym e ∙ z
+-- where the files of a sheet begin
+abbrev first : Place
+first =
+    record { nth = 0; first = 0; byte = 0; file = record { first = 0; second = 0; walk = record { format = 0; size = 0; offset = 0; at = 0; left = 0 } } }
 
-pub ruleset writes = (write-refused, write-right, number-zero, needs)
+module _ (set files counts lengths bytes : List ℕ) (quota : ℕ) (names : List ℕ) (n : ℕ) (e : n ≡ sheetNumber (flat set files counts lengths bytes quota names)) (z : n ≡ 0)
+  where
+    pub write-ordered : Ordered (originOf false files counts) set lengths bytes first quota names
+    write-ordered = sheet-ordered set files counts lengths bytes quota names (sym e ∙ z)
+
+    pub write-legal : (out : List ℕ) (a : Answer) (p : List ℕ) → Answers (writeSheet (sheetAt (originOf false files counts) set lengths bytes first quota names) out) a p
+        → Answers (write (flat set files counts lengths bytes quota names) out) a p
+    write-legal out a p m =
+        write-right (flat set files counts lengths bytes quota names) out n a p e z (sheet-answers set files counts lengths bytes quota names (sym e ∙ z) out a p m)
+
+pub ruleset writes = (write-refused, write-ordered, write-legal, needs)
 
 -- ---- an image
 

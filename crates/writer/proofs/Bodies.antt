@@ -23,7 +23,7 @@ use Rattle.writer.specs.Pass.{Job, Outcome, Fits, between, penned}
 use Rattle.writer.specs.Source.{walkOf, movedTo, recordsOf, endAt, stopOf, Good, splitBytes, SplitHere, foundBytes, Finds}
 use Rattle.writer.specs.Records.{Behind, Recordable, Splittable, Recorded}
 use Rattle.writer.specs.Bodies.{Takable, Bodied, BodyPut}
-use Rattle.writer.proofs.Packs.{penned-short}
+use Rattle.writer.proofs.Blocks.{penned-short}
 
 -- ---- a record that was found
 

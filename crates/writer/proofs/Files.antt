@@ -1,7 +1,7 @@
 -- A file between its labels. Assumes nothing.
 use mathlib.Core.Path.{_≡_, refl, sym, ap, _∙_, subst}
 use mathlib.Core.Bool.{Bool, true, false, false≢true}
-use mathlib.Core.List.{List, [], _++_}
+use mathlib.Core.List.{List, [], _∷_, _++_}
 use Prim.Native.Nat.{ℕ, _+_, _≤_}
 use native.Mathlib.Omega.{arith}
 use borrow.Author.Needs.{needs}
@@ -13,8 +13,9 @@ use Rattle.base.specs.Part.{part}
 use Rattle.charset.specs.Number.{numberIn}
 use Rattle.charset.specs.declared.Number.{Number}
 use Rattle.charset.specs.declared.Number.the-variants.{Value, Wrong}
-use Rattle.image.specs.Item.{Item, encode}
+use Rattle.image.specs.Item.{Item, mark, encode}
 use Rattle.image.proofs.RoundTrip.{encode-append}
+use Rattle.label.specs.Name.{HDR1, HDR2, EOF1, EOF2}
 use Rattle.volume.specs.Fault.{valueOf}
 use Rattle.sheet.specs.Legal.{formatFrom, blockLengthFrom}
 use Rattle.writing.specs.Pack.{Left, finished, startOf, blocksLeft, blocksF, weight, blocksOf}
@@ -23,15 +24,16 @@ use Rattle.writing.proofs.Packing.{by-test}
 use Rattle.writer.specs.declared.pen.Pen.{Pen}
 use Rattle.writer.specs.declared.source.Cursor.{Cursor}
 use Rattle.writer.specs.declared.body.Body.{Body}
-use Rattle.writer.specs.Pass.{reelsAt, Job, job, inkAt, lacks, inked, Outcome, behind, inkedAt, outcome, restOf, ends, laidFrom, Fits, Sound, between, fillOf, afterOf, fillDue, leftDue, penned}
+use Rattle.writer.specs.Pass.{reelsAt, Job, job, entryIn, sequenceIn, setIn, Puts, pairOf, inkAt, lacks, inked, Outcome, behind, inkedAt, outcome, restOf, ends, laidFrom, Fits, Sound, between, fillOf, afterOf, fillDue, leftDue, penned}
 use Rattle.writer.specs.Pens.{Closable, Closes}
 use Rattle.writer.specs.Source.{recordsOf}
 use Rattle.writer.specs.Bodies.{Bodied, BodyPut}
 use Rattle.writer.specs.Files.{Beginnable, begun, Begins, Endable, Ends, Tailable, Tailed, fileLaid, filedFrom, nextFrom, FileReady, FilePut}
-use Rattle.writer.proofs.Items.{length-headers, length-file-end}
+use Rattle.writer.proofs.Items.{length-headers, length-file-end, puts-kept}
+use Rattle.writer.proofs.Written.{ink-puts}
 use Rattle.writer.proofs.Passes.{ink-none, ink-length, outcome-items, fits-items}
 use Rattle.writer.proofs.Pens.{ends-given}
-use Rattle.writer.proofs.Packs.{penned-short}
+use Rattle.writer.proofs.Blocks.{penned-short}
 
 -- ---- between blocks, the bytes of an open block do not count
 
@@ -88,19 +90,13 @@ block-length-unsaid e f x h k v = ap valueOf (sym v ∙ k ∙ ap numberIn h)
 pub ruleset entries = (block-length-said, block-length-unsaid, needs)
 
 module _ (lay : Bool) (f b : ℕ) (e : List ℕ) (j : Job) (lengths bytes : List ℕ) (c : Cursor) (p : Pen) (o : List ℕ) (h : f ≡ formatFrom e) (k : b ≡ blockLengthFrom e) where
-  pub bodied-of : Bodied lay (formatFrom e) (blockLengthFrom e) j lengths bytes c p o → Bodied lay f b j lengths bytes c p o
+  bodied-of : Bodied lay (formatFrom e) (blockLengthFrom e) j lengths bytes c p o → Bodied lay f b j lengths bytes c p o
   bodied-of y =
       subst (λ (g : ℕ). Bodied lay g b j lengths bytes c p o) (sym h) (subst (λ (g : ℕ). Bodied lay (formatFrom e) g j lengths bytes c p o) (sym k) y)
 
-  pub put-of : (q : List ℕ) (r : Body) → BodyPut lay f b j lengths bytes c p o q r → BodyPut lay (formatFrom e) (blockLengthFrom e) j lengths bytes c p o q r
+  put-of : (q : List ℕ) (r : Body) → BodyPut lay f b j lengths bytes c p o q r → BodyPut lay (formatFrom e) (blockLengthFrom e) j lengths bytes c p o q r
   put-of q r y =
       subst (λ (g : ℕ). BodyPut lay g (blockLengthFrom e) j lengths bytes c p o q r) h (subst (λ (g : ℕ). BodyPut lay f g j lengths bytes c p o q r) k y)
-
-pub put-kept : (lay : Bool) (f b : ℕ) (j : Job) (lengths bytes : List ℕ) (c : Cursor) (p : Pen) (o q : List ℕ) (r : Body) → BodyPut lay f b j lengths bytes c p o q r
-    → length q ≡ length o
-put-kept lay f b j lengths bytes c p o q r y = y .kept
-
-pub ruleset bodies = (bodied-of, put-of, put-kept, needs)
 
 -- ---- the header labels
 
@@ -114,13 +110,21 @@ module _ (lay : Bool) (set e : List ℕ) (sequence : ℕ) (p : Pen) (o : List �
   headers-room : lay ≡ true → p .at + length (encode (headers set e 1 sequence)) ≤ length o
   headers-room l = let r = y .room l in omega (arith, length-headers set e 1 sequence)
 
-  pub begin-kept : (q : List ℕ) → q ≡ inkAt lay o (p .at) (encode (headers set e 1 sequence)) → length q ≡ length o
+  begin-kept : (q : List ℕ) → q ≡ inkAt lay o (p .at) (encode (headers set e 1 sequence)) → length q ≡ length o
   begin-kept q h = ap length h ∙ ink-length lay o (p .at) (encode (headers set e 1 sequence)) headers-room
 
-  pub begins : (q : List ℕ) → q ≡ inkAt lay o (p .at) (encode (headers set e 1 sequence)) → Begins lay set e sequence p o q (begun p)
+  begins : (q : List ℕ) → q ≡ inkAt lay o (p .at) (encode (headers set e 1 sequence)) → Begins lay set e sequence p o q (begun p)
   begins q h = record { is = refl; laid = h; kept = begin-kept q h }
 
-pub ruleset beginning = (begin-room, begin-fits, begin-kept, begins, needs)
+  pub begins-measured : lay ≡ false → Begins lay set e sequence p o o (begun p)
+  begins-measured l = begins o (sym (ink-none lay o (p .at) (encode (headers set e 1 sequence)) l))
+
+pub begins-laid : (lay : Bool) (labels : List ℕ) (p : Pen) (o q : List ℕ) → Beginnable lay p (length o) → lay ≡ true → Puts o (p .at) (encode (pairOf HDR1 HDR2 labels 1 0)) q
+    → Begins lay (setIn labels) (entryIn labels) (sequenceIn labels) p o q (begun p)
+unfolding headers
+begins-laid lay labels p o q y l w = begins lay (setIn labels) (entryIn labels) (sequenceIn labels) p o y q (ink-puts lay o (p .at) _ q l w)
+
+pub ruleset beginning = (begin-room, begin-fits, begins-measured, begins-laid, puts-kept, needs)
 
 -- ---- the trailer labels
 
@@ -133,21 +137,18 @@ abbrev closedEnd : Pen → Pen
 closedEnd c = record { at = c .at + 172; used = 0; room = c .room; next = c .next; section = c .section; count = c .count; on = false; short = false }
 
 module _ (lay : Bool) (set e : List ℕ) (sequence : ℕ) (p : Pen) (o : List ℕ) (y : Endable lay p (length o)) where
-  pub end-closable : Closable lay p (length o)
-  end-closable = y .closable
-
   module _ (q : List ℕ) (c : Pen) (x : Closes lay p o q c) where
-    pub end-room : lay ≡ true → c .at + 172 ≤ length q
+    end-room : lay ≡ true → c .at + 172 ≤ length q
     end-room l = let r = y .room l in omega (arith, x .kept, x .place)
 
-    pub end-fits : FitsIn w64 (c .at + 172)
+    end-fits : FitsIn w64 (c .at + 172)
     end-fits = record { fits = omega (arith, x .place, y .closable .place, y .closable .used, behind-small (p .on) (p .at) (p .used)) }
 
     trailer-room : lay ≡ true → c .at + length (encode (fileEnd set e (c .section) sequence (c .count))) ≤ length q
     trailer-room l = let r = end-room l in omega (arith, length-file-end set e (c .section) sequence (c .count))
 
     module _ (z : List ℕ) (h : z ≡ inkAt lay q (c .at) (encode (fileEnd set e (c .section) sequence (c .count)))) where
-      pub end-kept : length z ≡ length o
+      end-kept : length z ≡ length o
       end-kept = ap length h ∙ ink-length lay q (c .at) (encode (fileEnd set e (c .section) sequence (c .count))) trailer-room ∙ x .kept
 
       -- behind the last record the open block is only to be closed, and then the file ends
@@ -161,7 +162,7 @@ module _ (lay : Bool) (set e : List ℕ) (sequence : ℕ) (p : Pen) (o : List �
           ∙ sym (x .same j [] next)
           ∙ ends-given lay j c q [] [] next false (x .short ∙ s) (x .shut)
 
-      pub ends-by : Ends lay set e sequence p o z (closedEnd c)
+      ends-by : Ends lay set e sequence p o z (closedEnd c)
       ends-by =
           record {
             sound =
@@ -193,22 +194,44 @@ module _ (lay : Bool) (set e : List ℕ) (sequence : ℕ) (p : Pen) (o : List �
                 ∙ sym (finished-end f b j next s);
           }
 
-pub ruleset ending = (end-closable, end-room, end-fits, end-kept, ends-by, needs)
-
 module _ (lay : Bool) (set e : List ℕ) (sequence : ℕ) (x : Body) (o : List ℕ) (y : Tailable lay x (length o)) where
-  pub tail-endable : x .pen .short ≡ false → Endable lay (x .pen) (length o)
-  tail-endable s = y .endable s
+  pub tail-short : x .pen .short ≡ true → Tailed lay set e sequence x o o x
+  tail-short s = record { kept = refl; end = refl; lacks = λ _. (refl, refl); given = λ t. absurd (false≢true (sym t ∙ s)) }
 
-  pub tailed-lacks : x .pen .short ≡ true → Tailed lay set e sequence x o o x
-  tailed-lacks s = record { kept = refl; end = refl; lacks = λ _. (refl, refl); given = λ t. absurd (false≢true (sym t ∙ s)) }
+  module _ (s : x .pen .short ≡ false) where
+    pub tail-closable : Closable lay (x .pen) (length o)
+    tail-closable = y .endable s .closable
 
-  pub tailed-ends : (q : List ℕ) (r : Pen) → x .pen .short ≡ false → Ends lay set e sequence (x .pen) o q r → Tailed lay set e sequence x o q (record { pen = r; end = x .end })
-  tailed-ends q r s w = record { kept = w .kept; end = refl; lacks = λ t. absurd (false≢true (sym s ∙ t)); given = λ _. w }
+    module _ (q : List ℕ) (c : Pen) (k : Closes lay (x .pen) o q c) where
+      pub tail-kept : length q ≡ length o
+      tail-kept = k .kept
 
-  pub tailed-kept : (q : List ℕ) (r : Pen) → Ends lay set e sequence (x .pen) o q r → length q ≡ length o
-  tailed-kept q r w = w .kept
+      pub tail-room : lay ≡ true → c .at + 172 ≤ length q
+      tail-room l = end-room lay set e sequence (x .pen) o (y .endable s) q c k l
 
-pub ruleset tails = (tail-endable, tailed-lacks, tailed-ends, tailed-kept, needs)
+      pub tail-fits : FitsIn w64 (c .at + 172)
+      tail-fits = end-fits lay set e sequence (x .pen) o (y .endable s) q c k
+
+      tailed-by : (z : List ℕ) → z ≡ inkAt lay q (c .at) (encode (fileEnd set e (c .section) sequence (c .count)))
+          → Tailed lay set e sequence x o z (record { pen = closedEnd c; end = x .end })
+      tailed-by z h =
+          let w = ends-by lay set e sequence (x .pen) o (y .endable s) q c k z h in
+          record { kept = w .kept; end = refl; lacks = λ t. absurd (false≢true (sym s ∙ t)); given = λ _. w }
+
+      pub tailed-measured : lay ≡ false → Tailed lay set e sequence x o q (record { pen = closedEnd c; end = x .end })
+      tailed-measured l = tailed-by q (sym (ink-none lay q (c .at) (encode (fileEnd set e (c .section) sequence (c .count))) l))
+
+module _ (lay : Bool) (labels : List ℕ) (x : Body) (o q z : List ℕ) (c : Pen) where
+  pub tailed-laid : Tailable lay x (length o) → x .pen .short ≡ false → Closes lay (x .pen) o q c → lay ≡ true
+      → Puts q (c .at) (encode (mark ∷ pairOf EOF1 EOF2 labels (c .section) (c .count))) z
+      → Tailed lay (setIn labels) (entryIn labels) (sequenceIn labels) x o z (record { pen = closedEnd c; end = x .end })
+  unfolding fileEnd
+  tailed-laid y s k l w = tailed-by lay (setIn labels) (entryIn labels) (sequenceIn labels) x o y s q c k z (ink-puts lay q (c .at) _ z l w)
+
+  pub tail-all-kept : (bs : List ℕ) → Closes lay (x .pen) o q c → Puts q (c .at) bs z → length z ≡ length o
+  tail-all-kept bs k w = w .kept ∙ k .kept
+
+pub ruleset tails = (tail-short, tail-closable, tail-kept, tail-room, tail-fits, tailed-measured, tailed-laid, tail-all-kept, needs)
 
 -- ---- the whole file
 
@@ -302,8 +325,22 @@ module _ (lay : Bool) (j : Job) (lengths bytes : List ℕ) (c : Cursor) (p : Pen
               };
         }
 
-    pub file-bodied : Bodied lay f b j lengths bytes c h q
-    file-bodied = subst (λ (w : Pen). Bodied lay f b j lengths bytes c w q) (sym (z .is)) begun-bodied
+    bodied : Bodied lay f b j lengths bytes c h q
+    bodied = subst (λ (w : Pen). Bodied lay f b j lengths bytes c w q) (sym (z .is)) begun-bodied
+
+    -- as the code reads its format and block length from its entry
+    module _ (e : List ℕ) (n m : ℕ) (here : e ≡ j .entry) (format : n ≡ formatFrom e) (long : m ≡ blockLengthFrom e) where
+      format-is : n ≡ formatFrom (j .entry)
+      format-is = format ∙ ap formatFrom here
+
+      long-is : m ≡ blockLengthFrom (j .entry)
+      long-is = long ∙ ap blockLengthFrom here
+
+      pub file-bodied : Bodied lay n m j lengths bytes c h q
+      file-bodied = bodied-of lay n m (j .entry) j lengths bytes c h q format-is long-is bodied
+
+      file-body : (u : List ℕ) (x : Body) → BodyPut lay n m j lengths bytes c h q u x → BodyPut lay f b j lengths bytes c h q u x
+      file-body u x w = put-of lay n m (j .entry) j lengths bytes c h q format-is long-is u x w
 
     module _ (u : List ℕ) (x : Body) (w : BodyPut lay f b j lengths bytes c h q u x) where
       body-same : (next : Next) → penned lay f b j (x .pen) u (between finished) next ≡ filedFrom lay j p o xs next
@@ -330,8 +367,8 @@ module _ (lay : Bool) (j : Job) (lengths bytes : List ℕ) (c : Cursor) (p : Pen
           ∙ ap (λ (k : Left). ends true j (x .pen) u [] (blocksLeft f b k) (a .next)) (if-same (x .pen .on) finished)) in
           ends-room j (x .pen) u (a .next) s (subst (λ (v : Outcome). Fits v (length u)) (sym d) g)
 
-      pub file-tailable : Tailable lay x (length u)
-      file-tailable =
+      tailable : Tailable lay x (length u)
+      tailable =
           record {
             endable =
                 λ s.
@@ -350,8 +387,8 @@ module _ (lay : Bool) (j : Job) (lengths bytes : List ℕ) (c : Cursor) (p : Pen
           behind-on t at n e = unfold behind in if-true _ _ _ e
 
       module _ (v : List ℕ) (r : Body) (t : Tailed lay (j .set) (j .entry) (j .sequence) x u v r) where
-        pub file-kept : length v ≡ length o
-        file-kept = t .kept ∙ body-kept
+        all-kept : length v ≡ length o
+        all-kept = t .kept ∙ body-kept
 
         put-by : x .pen .short ≡ false → FilePut lay j lengths bytes c p o v r
         unfolding nextFrom
@@ -359,7 +396,7 @@ module _ (lay : Bool) (j : Job) (lengths bytes : List ℕ) (c : Cursor) (p : Pen
             let d = t .given s in
             record {
               sound = λ _. d .sound (j .rooms) (j .names) (w .sound) (y .few);
-              kept = file-kept;
+              kept = all-kept;
               untouched = λ l. d .untouched l ∙ w .untouched l ∙ z .laid ∙ ink-none lay o (p .at) (encode (headers (j .set) (j .entry) 1 (j .sequence))) l;
               end = λ _. t .end ∙ w .end s;
               same = λ next. d .same f b (j .rooms) (j .names) next s ∙ body-same next;
@@ -372,7 +409,7 @@ module _ (lay : Bool) (j : Job) (lengths bytes : List ℕ) (c : Cursor) (p : Pen
             let gone : r .pen .short ≡ true = ap (λ (k : Pen). k .short) (d .1) ∙ s in
             record {
               sound = λ e. absurd (false≢true (sym e ∙ gone));
-              kept = file-kept;
+              kept = all-kept;
               untouched = λ l. d .0 ∙ w .untouched l ∙ z .laid ∙ ink-none lay o (p .at) (encode (headers (j .set) (j .entry) 1 (j .sequence))) l;
               end = λ e. absurd (false≢true (sym e ∙ gone));
               same =
@@ -382,7 +419,18 @@ module _ (lay : Bool) (j : Job) (lengths bytes : List ℕ) (c : Cursor) (p : Pen
                   ∙ body-same next;
             }
 
-        pub file-put : FilePut lay j lengths bytes c p o v r
-        file-put = by-test (x .pen .short) put-lacks put-by
+        put-all : FilePut lay j lengths bytes c p o v r
+        put-all = by-test (x .pen .short) put-lacks put-by
 
-pub ruleset filing = (file-beginnable, file-bodied, file-tailable, file-kept, file-put, needs)
+    module _ (e : List ℕ) (n m : ℕ) (here : e ≡ j .entry) (format : n ≡ formatFrom e) (long : m ≡ blockLengthFrom e) (u : List ℕ) (x : Body)
+        (w : BodyPut lay n m j lengths bytes c h q u x) where
+      pub file-tailable : Tailable lay x (length u)
+      file-tailable = tailable u x (file-body e n m here format long u x w)
+
+      pub file-put : (v : List ℕ) (r : Body) → Tailed lay (j .set) (j .entry) (j .sequence) x u v r → FilePut lay j lengths bytes c p o v r
+      file-put v r t = put-all u x (file-body e n m here format long u x w) v r t
+
+      pub file-all-kept : (v : List ℕ) (r : Body) → Tailed lay (j .set) (j .entry) (j .sequence) x u v r → length v ≡ length o
+      file-all-kept v r t = file-put v r t .kept
+
+pub ruleset filing = (file-beginnable, file-bodied, file-tailable, file-all-kept, file-put, needs)

@@ -11,7 +11,7 @@ use mir.Syntax.{w64}
 use lib.ListN.{length, drop, getD, length-append, drop-of-length-le}
 use Rattle.base.specs.If.{ifB, if-true, if-false}
 use Rattle.base.specs.Part.{part, putAt}
-use Rattle.base.proofs.Parts.{put-put}
+use Rattle.base.proofs.Parts.{part-part, put-put}
 use Rattle.image.specs.Item.{block, mark, reelEnd, encode}
 use Rattle.image.specs.Framing.{head}
 use Rattle.image.proofs.RoundTrip.{encode-append}
@@ -23,22 +23,27 @@ use Rattle.writing.specs.Pack.{blocksOf, Room}
 use Rattle.writing.specs.Lay.{Laid, laid, short, put, headers, Next, rest, layFiles, layOn}
 use Rattle.writing.proofs.Packing.{by-test}
 use Rattle.writing.proofs.Packed.{Suited, legal-room}
-use Rattle.writing.proofs.Entry.{legal-second, suited}
+use Rattle.writing.proofs.Entry.{legal-first, legal-second, suited}
 use Rattle.writing.proofs.Laying.{legal-file}
 use Rattle.writer.specs.declared.pen.Pen.{Pen}
 use Rattle.writer.specs.declared.source.Cursor.{Cursor}
 use Rattle.writer.specs.declared.body.Body.{Body}
 use Rattle.writer.specs.declared.set.Place.{Place}
 use Rattle.writer.specs.declared.set.Filing.{Filing}
-use Rattle.writer.specs.Pass.{Puts, reelsAt, Job, job, inkAt, inked, behind, inkedAt, Outcome, outcome, laidFrom, imaged, imageFrom, Fits, Between}
+use Rattle.writer.specs.Pass.{Puts, reelsAt, Job, job, namesIn, inkAt, inked, behind, inkedAt, Outcome, outcome, laidFrom, imaged, imageFrom, Fits, Between}
 use Rattle.writer.specs.Source.{recordsOf, Good}
 use Rattle.writer.specs.Files.{fileLaid, filedFrom, nextFrom, FileReady, FilePut}
-use Rattle.writer.specs.Sets.{Origin, listed, read, originOf, totalOf, filesAt, Task, task, PlacedIn, layAt, Filed, Fileable, OneFiled, AllFiled, Closing, Closed, firstPen, headOf, Sheeted, meaningAt, setLaid, SetReady}
-use Rattle.writer.proofs.Items.{length-first-reel, length-reel-end}
+use Rattle.writer.specs.Sets.{Origin, listed, read, totalOf, filesAt, Task, taskOf, PlacedIn, layAt, Filed, Fileable, OneFiled, AllFiled, Closing, Closed, firstPen, headOf, Sheeted, meaningAt, setLaid, SetReady}
+use Rattle.writer.proofs.Items.{length-first-reel, length-reel-end, puts-kept}
 use Rattle.writer.proofs.Passes.{ink-none, ink-length}
-use Rattle.writer.proofs.Written.{ink-not, ink-puts, room-laid, puts-kept}
+use Rattle.writer.proofs.Written.{ink-not, ink-puts}
 use Rattle.writer.proofs.Pens.{reels-some}
 use Rattle.writer.proofs.Files.{laid-short, laid-items, laid-room}
+
+-- the set entry of a legal file has six bytes
+pub legal-set : (set : List ℕ) (ds : List File) → 1 ≤ length ds → legalFiles set ds ≡ true → length set ≡ 6
+legal-set set [] h l = absurd (omega arith)
+legal-set set (d ∷ ds) h l = legal-file set d ds l (λ e r o. legal-first set (d .fields) e .six)
 
 -- ---- one file
 
@@ -137,24 +142,6 @@ module _ (t : Task) (g : Place) (entry : List ℕ) (records : List (List ℕ)) (
         same-short : v .pen .short ≡ false → x .pen .short ≡ false
         same-short z = sym (ap (λ (w : Pen). w .short) pen) ∙ z
 
--- ---- the entry of a file, as the code holds it
-
-module _ (lay : Bool) (e k set : List ℕ) (n m : ℕ) (rooms names lengths bytes : List ℕ) (d : Cursor) (p : Pen) (o : List ℕ) (h : e ≡ k) (i : m ≡ n) where
-  pub ready-entry : FileReady lay (job set k n rooms names) lengths bytes d p o → FileReady lay (job set e m rooms names) lengths bytes d p o
-  ready-entry y =
-      subst (λ (l : List ℕ). FileReady lay (job set l m rooms names) lengths bytes d p o) (sym h)
-      (subst (λ (r : ℕ). FileReady lay (job set k r rooms names) lengths bytes d p o) (sym i) y)
-
-  pub put-entry : (q : List ℕ) (x : Body) → FilePut lay (job set e m rooms names) lengths bytes d p o q x → FilePut lay (job set k n rooms names) lengths bytes d p o q x
-  put-entry q x y =
-      subst (λ (l : List ℕ). FilePut lay (job set l n rooms names) lengths bytes d p o q x) h
-      (subst (λ (r : ℕ). FilePut lay (job set e r rooms names) lengths bytes d p o q x) i y)
-
-pub file-kept : (lay : Bool) (j : Job) (lengths bytes : List ℕ) (d : Cursor) (p : Pen) (o q : List ℕ) (x : Body) → FilePut lay j lengths bytes d p o q x → length q ≡ length o
-file-kept lay j lengths bytes d p o q x y = y .kept
-
-pub ruleset entered = (ready-entry, put-entry, file-kept, needs)
-
 -- ---- the loop over files
 
 -- the files that are to be laid
@@ -231,40 +218,6 @@ module _ (lay : Bool) (t : Task) (g : Place) (p : Pen) (o : List ℕ) where
           (λ z. let j : ifB (v .on) (totalOf (t .from) (t .bytes) - v .place .nth) 0 ≡ totalOf (t .from) (t .bytes) - v .place .nth = if-true _ _ _ z in omega arith)
           (λ z. let j : ifB (v .on) (totalOf (t .from) (t .bytes) - v .place .nth) 0 ≡ 0 = if-false _ _ _ z in omega arith)
 
-pub ruleset files = (along-none, along-fileable, along-all, along-kept, along-more, files-fall, needs)
-
--- ---- where the file comes from
-
-module _ (image : Bool) (files counts set lengths bytes rooms names : List ℕ) (lay : Bool) (g : Place) (p : Pen) (o : List ℕ) where
-  abbrev by : Origin → Task
-  by from = task from set lengths bytes rooms names
-
-  is-read : image ≡ true → originOf image files counts ≡ read
-  unfolding originOf
-  is-read e = if-true _ _ _ e
-
-  is-listed : image ≡ false → originOf image files counts ≡ listed files counts
-  unfolding originOf
-  is-listed e = if-false _ _ _ e
-
-  pub fileable-read : image ≡ true → Fileable lay (by (originOf image files counts)) g p o → Fileable lay (by read) g p o
-  fileable-read e y = subst (λ (f : Origin). Fileable lay (by f) g p o) (is-read e) y
-
-  pub fileable-listed : image ≡ false → Fileable lay (by (originOf image files counts)) g p o → Fileable lay (by (listed files counts)) g p o
-  fileable-listed e y = subst (λ (f : Origin). Fileable lay (by f) g p o) (is-listed e) y
-
-  pub filed-read : (q : List ℕ) (x : Filing) → image ≡ true → OneFiled lay (by read) g p o q x → OneFiled lay (by (originOf image files counts)) g p o q x
-  filed-read q x e y = subst (λ (f : Origin). OneFiled lay (by f) g p o q x) (sym (is-read e)) y
-
-  pub filed-listed : (q : List ℕ) (x : Filing) → image ≡ false → OneFiled lay (by (listed files counts)) g p o q x
-      → OneFiled lay (by (originOf image files counts)) g p o q x
-  filed-listed q x e y = subst (λ (f : Origin). OneFiled lay (by f) g p o q x) (sym (is-listed e)) y
-
-pub one-kept : (lay : Bool) (t : Task) (g : Place) (p : Pen) (o q : List ℕ) (x : Filing) → OneFiled lay t g p o q x → length q ≡ length o
-one-kept lay t g p o q x y = y .filed .kept
-
-pub ruleset origins = (fileable-read, fileable-listed, filed-read, filed-listed, one-kept, needs)
-
 -- ---- the end of the set
 
 abbrev closedSet : Pen → Pen
@@ -285,20 +238,22 @@ module _ (lay : Bool) (p : Pen) (o : List ℕ) (y : Closing lay p (length o)) wh
     end-room : lay ≡ true → p .at + length (encode (mark ∷ reelEnd ∷ [])) ≤ length o
     end-room l = let r = y .room l s in omega (arith, length-reel-end)
 
-    module _ (q : List ℕ) (e : q ≡ inkAt lay o (p .at) (encode (mark ∷ reelEnd ∷ []))) where
-      pub closed-kept : length q ≡ length o
-      closed-kept = ap length e ∙ ink-length lay o (p .at) (encode (mark ∷ reelEnd ∷ [])) end-room
+    closed-by : (q : List ℕ) → q ≡ inkAt lay o (p .at) (encode (mark ∷ reelEnd ∷ [])) → Closed lay p o q (closedSet p)
+    unfolding put
+    closed-by q e =
+        record {
+          kept = ap length e ∙ ink-length lay o (p .at) (encode (mark ∷ reelEnd ∷ [])) end-room;
+          untouched = λ l. e ∙ ink-none lay o (p .at) (encode (mark ∷ reelEnd ∷ [])) l;
+          same = laid-items lay p (closedSet p) o q (mark ∷ reelEnd ∷ []) (laid []) 6 s refl refl length-reel-end e closing-room;
+        }
 
-      pub closed-by : Closed lay p o q (closedSet p)
-      unfolding put
-      closed-by =
-          record {
-            kept = closed-kept;
-            untouched = λ l. e ∙ ink-none lay o (p .at) (encode (mark ∷ reelEnd ∷ [])) l;
-            same = laid-items lay p (closedSet p) o q (mark ∷ reelEnd ∷ []) (laid []) 6 s refl refl length-reel-end e closing-room;
-          }
+    pub closed-laid : (q : List ℕ) → lay ≡ true → Puts o (p .at) (encode (mark ∷ reelEnd ∷ [])) q → Closed lay p o q (closedSet p)
+    closed-laid q l w = closed-by q (ink-puts lay o (p .at) (encode (mark ∷ reelEnd ∷ [])) q l w)
 
-pub ruleset closings = (closed-short, closing-room, closing-fits, closed-kept, closed-by, needs)
+    pub closed-measured : lay ≡ false → Closed lay p o o (closedSet p)
+    closed-measured l = closed-by o (ink-not lay o (p .at) (encode (mark ∷ reelEnd ∷ [])) l)
+
+pub ruleset closings = (closed-short, closing-room, closing-fits, closed-laid, closed-measured, puts-kept, needs)
 
 -- behind the last file there is none
 pub no-counts : (es : List (List ℕ)) (ls bs : List ℕ) → filesFrom es [] ls bs ≡ []
@@ -319,25 +274,19 @@ length-head : (name : List ℕ) → length (headOf name) ≡ 88
 unfolding headOf
 length-head name = length-append head (encode (block (madeVolume name) ∷ [])) ∙ ap (λ (n : ℕ). 5 + n) (length-first-reel name)
 
-pub head-puts : (lay : Bool) (o names name q : List ℕ) → lay ≡ true → name ≡ part 0 6 names → Puts o 0 (head ++ encode (block (madeVolume name) ∷ [])) q
-    → q ≡ inkAt lay o 0 (headOf (part 0 6 names))
-unfolding headOf
-head-puts lay o names name q l e p =
-    ink-puts lay o 0 (head ++ encode (block (madeVolume (part 0 6 names)) ∷ [])) q l
-    (subst (λ (n : List ℕ). Puts o 0 (head ++ encode (block (madeVolume n) ∷ [])) q) e p)
+pub head-laid : (lay : Bool) (o labels name q : List ℕ) → lay ≡ true → name ≡ part 53 6 labels → Puts o 0 (headOf name) q → q ≡ inkAt lay o 0 (headOf (part 53 6 labels))
+head-laid lay o labels name q l e p = ink-puts lay o 0 (headOf (part 53 6 labels)) q l (subst (λ (n : List ℕ). Puts o 0 (headOf n) q) e p)
 
-pub ruleset heads = (head-puts, ink-not, room-laid, puts-kept, needs)
-
-pub head-kept : (lay : Bool) (o name q : List ℕ) → (lay ≡ true → 88 ≤ length o) → q ≡ inkAt lay o 0 (headOf name) → length q ≡ length o
+head-kept : (lay : Bool) (o name q : List ℕ) → (lay ≡ true → 88 ≤ length o) → q ≡ inkAt lay o 0 (headOf name) → length q ≡ length o
 head-kept lay o name q r e = ap length e ∙ ink-length lay o 0 (headOf name) (λ l. let m = r l in omega (arith, length-head name))
-
-pub first-room : (rooms : List ℕ) (n : ℕ) → 1 ≤ length rooms → n ≡ getD rooms 0 0 → firstPen n ≡ firstPen (getD rooms 0 0)
-first-room rooms n h e = ap firstPen e
 
 pub first-index : (rooms : List ℕ) → 1 ≤ length rooms → 0 < length rooms
 first-index rooms h = omega arith
 
-pub ruleset setBegins = (head-kept, first-room, first-index, needs)
+pub first-room : (lay : Bool) (o : List ℕ) → (lay ≡ true → 88 ≤ length o) → lay ≡ true → 88 ≤ length o
+first-room lay o h l = h l
+
+pub ruleset setBegins = (head-laid, ink-not, puts-kept, first-index, first-room, needs)
 
 -- the head, the first reel's label, and what follows
 head-same : (lay : Bool) (o q name : List ℕ) (room : ℕ) (l : Laid) → (lay ≡ true → 88 ≤ length o) → q ≡ inkAt lay o 0 (headOf name)
@@ -480,4 +429,37 @@ module _ (lay : Bool) (t : Task) (g : Place) (o : List ℕ) (y : SetReady lay t 
               same = z .same ∙ last-same;
             }
 
-pub ruleset sets = (set-one, set-room, set-fileable, set-closing, set-all-kept, sheeted, needs)
+-- ---- the set, as the code holds it
+
+module _ (lay image : Bool) (files counts lengths bytes labels rooms : List ℕ) (g : Place) (o : List ℕ) (y : SetReady lay (taskOf image files counts lengths bytes labels rooms) g o) where
+  abbrev t : Task
+  t = taskOf image files counts lengths bytes labels rooms
+
+  pub begin-one : 1 ≤ length rooms
+  begin-one = y .writable .one
+
+  pub begin-room : lay ≡ true → 88 ≤ length o
+  begin-room l = set-room lay t g o y l
+
+  named : part 53 6 labels ≡ part (6 * 0) 6 (namesIn (length rooms) labels)
+  named = sym (part-part 53 0 6 (6 * length rooms) labels (omega (arith, begin-one)))
+
+  module _ (p : Pen) (q : List ℕ) (k : (p ≡ firstPen (getD rooms 0 0)) × (q ≡ inkAt lay o 0 (headOf (part 53 6 labels)))) where
+    laid-head : q ≡ inkAt lay o 0 (headOf (part (6 * 0) 6 (namesIn (length rooms) labels)))
+    laid-head = k .1 ∙ ap (λ (n : List ℕ). inkAt lay o 0 (headOf n)) named
+
+    pub begun-along : Along lay t g p q q (record { on = true; place = g; pen = p })
+    begun-along = along-none lay t g p q (set-fileable lay t g o y q p (k .0) laid-head)
+
+    module _ (u : List ℕ) (x : Filing) (m : Along lay t g p q u x) (off : x .on ≡ false) where
+      pub along-closing : Closing lay (x .pen) (length u)
+      along-closing = set-closing lay t g o y q p (k .0) laid-head u x (along-all lay t g p q u x m off)
+
+      module _ (v : List ℕ) (r : Pen) (z : Closed lay (x .pen) u v r) where
+        pub along-all-kept : length v ≡ length o
+        along-all-kept = set-all-kept lay t g o y q p (k .0) laid-head u x (along-all lay t g p q u x m off) v r z
+
+        pub along-sheeted : Sheeted lay (setLaid t g) o v r
+        along-sheeted = sheeted lay t g o y q p (k .0) laid-head u x (along-all lay t g p q u x m off) v r z
+
+pub ruleset sets = (begin-one, begin-room, begun-along, along-fileable, along-kept, along-more, files-fall, along-closing, along-all-kept, along-sheeted, needs)

@@ -38,50 +38,8 @@ use Rattle.writer.specs.declared.set.Filing.{Filing}
 use Rattle.writer.specs.Pass.{job}
 use Rattle.writer.specs.Source.{walkOf, recordsOf, endAt, Good}
 use Rattle.writer.specs.Files.{FileReady, FilePut}
-use Rattle.writer.specs.Sets.{Origin, read, originOf, totalOf, filesAt, Placed, walkAt, Over, followed, behindRead, Task, task, Fileable, OneFiled, sheetAt, Ordered}
-use Rattle.writer.proofs.Filing.{legal-others, file-ready, one-filed, file-kept}
-
--- ---- the fields of a file
-
--- what is put over the whole of a list
-all-put : (o bs : List ℕ) → length bs ≡ length o → putAt o 0 bs ≡ bs
-unfolding putAt
-all-put o bs e = ap (λ (s : List ℕ). bs ++ s) (drop-of-length-le o {i = 0 + length bs} (omega arith)) ∙ append-nil bs
-
-pub part-room : (l s : List ℕ) (at from w : ℕ) → length l ≡ 80 → from + w ≤ 80 → at + w ≤ 46 → s ≡ part from w l → at + length s ≤ 46
-part-room l s at from w h k m e = let n : length s ≡ w = ap length e ∙ length-part from w l (omega arith) in omega arith
-
-pub entry-made : (f s a x b y c z : List ℕ) → length f ≡ 80 → length s ≡ 80 → a ≡ part 4 17 f → x ≡ putAt (replicate 46 32) 0 a → b ≡ part 35 18 f → y ≡ putAt x 17 b
-    → c ≡ part 4 11 s → z ≡ putAt y 35 c → z ≡ fieldsFrom f s
-unfolding fieldsFrom
-entry-made f s a x b y c z lf ls ea ex eb ey ec ez =
-    let la : length a ≡ 17 = ap length ea ∙ length-part 4 17 f (omega arith) in
-    let lb : length b ≡ 18 = ap length eb ∙ length-part 35 18 f (omega arith) in
-    let lc : length c ≡ 11 = ap length ec ∙ length-part 4 11 s (omega arith) in
-    let lo : length {A = ℕ} (replicate 46 32) ≡ 46 = refl in
-    let lab : length (a ++ b) ≡ length a + length b = length-append a b in
-    let labc : length ((a ++ b) ++ c) ≡ length (a ++ b) + length c = length-append (a ++ b) c in
-    let i : 17 ≡ 0 + length a = omega arith in
-    let j : 35 ≡ 0 + length (a ++ b) = omega arith in
-    let two : y ≡ putAt (replicate 46 32) 0 (a ++ b)
-    = ey ∙ ap₂ (λ (o : List ℕ) (k : ℕ). putAt o k b) ex i ∙ put-put (replicate 46 32) 0 a b (omega arith) in
-    ez
-    ∙ ap₂ (λ (o : List ℕ) (k : ℕ). putAt o k c) two j
-    ∙ put-put (replicate 46 32) 0 (a ++ b) c (omega arith)
-    ∙ all-put (replicate 46 32) ((a ++ b) ++ c) (omega arith)
-    ∙ append-assoc a b c
-    ∙ ap₂ (λ (t u : List ℕ). t ++ u) ea (ap₂ (λ (t u : List ℕ). t ++ u) eb ec)
-
-pub ruleset entrances = (part-room, entry-made, needs)
-
-pub label-long : (bytes l : List ℕ) (at : ℕ) → at + 80 ≤ length bytes → l ≡ part at 80 bytes → length l ≡ 80
-label-long bytes l at h e = ap length e ∙ length-part at 80 bytes h
-
-pub entry-there : (bytes : List ℕ) (i j : ℕ) (f s e : List ℕ) → f ≡ part i 80 bytes → s ≡ part j 80 bytes → e ≡ fieldsFrom f s
-    → e ≡ fieldsFrom (part i 80 bytes) (part j 80 bytes)
-entry-there bytes i j f s e p q h = h ∙ ap₂ fieldsFrom p q
-
-pub ruleset labelled = (label-long, entry-there, needs)
+use Rattle.writer.specs.Sets.{Origin, read, originOf, totalOf, filesAt, Placed, walkAt, passed, filingAt, followedBy, Task, task, Fileable, OneFiled, sheetAt, Ordered}
+use Rattle.writer.proofs.Filing.{legal-set, legal-others, file-ready, one-filed}
 
 -- ---- the file at a place
 
@@ -171,19 +129,10 @@ module _ (lay : Bool) (set lengths bytes rooms names : List ℕ) (g : Place) (p 
     read-ready = file-ready t g entry (d .records) _ (y .placed) files-first lay c good begun p o y
 
     module _ (q : List ℕ) (x : Body) (m : FilePut lay (job set entry (g .nth + 1) rooms names) lengths bytes c p o q x) where
-      -- its records are passed, unless a reel is lacking
-      pub read-over : Over bytes (g .file) x
-      read-over =
-          record {
-            within = λ z. omega (arith, m .end z, ends, is .ends);
-            next = λ z. ap (fileBehind bytes (g .file)) (m .end z ∙ ends) ∙ is .behind;
-          }
-
       -- a place behind this file
-      placed-on : (f : FileAt) → (g .nth + 1 < length all → Met bytes (At f) (drop (g .nth + 1) all))
-          → Placed read set lengths bytes (record { nth = g .nth + 1; first = 0; byte = 0; file = f })
+      placed-on : (f : FileAt) (stop : ℕ) → (g .nth + 1 < length all → Met bytes (At f) (drop (g .nth + 1) all)) → Placed read set lengths bytes (passed g stop x f)
       unfolding totalOf filesAt
-      placed-on f w =
+      placed-on f stop w =
           record {
             few = y .placed .few;
             within = omega (arith, more);
@@ -191,59 +140,29 @@ module _ (lay : Bool) (set lengths bytes rooms names : List ℕ) (g : Place) (p 
             legal = legal-others t g entry (d .records) _ (y .placed) files-first;
           }
 
-      next-filed : (h : NextFile) → x .pen .short ≡ false → nextFile bytes (g .file) ≡ h → OneFiled lay t g p o q (behindRead (g .file) (g .nth) (x .pen) h)
-      unfolding behindRead totalOf filesAt
-      next-filed (At h) z e =
+      next-filed : (stop : ℕ) (h : NextFile) → x .pen .short ≡ false → nextFile bytes (g .file) ≡ h → OneFiled lay t g p o q (followedBy g stop x h)
+      unfolding followedBy totalOf filesAt
+      next-filed stop (At h) z e =
           let there : Met bytes (At h) (drop (g .nth + 1) all) = subst (λ (f : NextFile). Met bytes f (drop (g .nth + 1) all)) e (both .1) in
           let some : 0 < length (drop (g .nth + 1) all) = met-some bytes h (drop (g .nth + 1) all) there in
-          one-filed t g entry (d .records) _ (y .placed) files-first lay c good begun p o q x _ m refl refl (λ _. refl) (λ _. placed-on h (λ _. there)) (λ _. z)
+          one-filed t g entry (d .records) _ (y .placed) files-first lay c good begun p o q x _ m refl refl (λ _. refl) (λ _. placed-on h stop (λ _. there)) (λ _. z)
           (λ _. omega (arith, behind-long)) (λ w. absurd (false≢true (sym w)))
-      next-filed Nowhere z e =
+      next-filed stop Nowhere z e =
           let none : length (drop (g .nth + 1) all) ≡ 0
           = met-none bytes (drop (g .nth + 1) all) (subst (λ (f : NextFile). Met bytes f (drop (g .nth + 1) all)) e (both .1)) in
           one-filed t g entry (d .records) _ (y .placed) files-first lay c good begun p o q x _ m refl refl (λ _. refl)
-          (λ _. placed-on (g .file) (λ w. absurd (omega (arith, behind-long)))) (λ w. absurd (false≢true w)) (λ w. absurd (false≢true w))
+          (λ _. placed-on (g .file) stop (λ w. absurd (omega (arith, behind-long)))) (λ w. absurd (false≢true w)) (λ w. absurd (false≢true w))
           (λ _ _. omega (arith, behind-long))
 
-      short-filed : x .pen .short ≡ true → OneFiled lay t g p o q (behindRead (g .file) (g .nth) (x .pen) Nowhere)
-      unfolding behindRead
-      short-filed z =
+      -- unless a reel is lacking, the next file is found from where the records of this one end
+      pub read-filed : (stop : ℕ) → x .pen .short ≡ false → OneFiled lay t g p o q (followedBy g stop x (fileBehind bytes (g .file) (x .end)))
+      read-filed stop z =
+          next-filed stop (fileBehind bytes (g .file) (x .end)) z (sym (ap (fileBehind bytes (g .file)) (m .end z ∙ ends) ∙ is .behind))
+
+      pub read-short : (stop : ℕ) → x .pen .short ≡ true → OneFiled lay t g p o q (filingAt false g stop x (g .file))
+      read-short stop z =
           one-filed t g entry (d .records) _ (y .placed) files-first lay c good begun p o q x _ m refl refl (λ w. absurd (false≢true (sym w ∙ z)))
           (λ w. absurd (false≢true (sym w ∙ z))) (λ w. absurd (false≢true w)) (λ w. absurd (false≢true w)) (λ _ w. absurd (false≢true (sym w ∙ z)))
-
-      pub read-filed : (v : Filing) → v ≡ behindRead (g .file) (g .nth) (x .pen) (followed bytes (g .file) (x .pen)) → OneFiled lay t g p o q v
-      unfolding followed
-      read-filed v e =
-          subst (OneFiled lay t g p o q) (sym e)
-          (if-case (λ (h : NextFile). OneFiled lay t g p o q (behindRead (g .file) (g .nth) (x .pen) h)) (x .pen .short) Nowhere (nextFile bytes (g .file))
-          short-filed (λ z. next-filed (nextFile bytes (g .file)) z refl))
-
-pub ruleset reading = (first-within, second-within, read-small, read-ready, read-over, read-filed, file-kept, needs)
-
--- ---- the parts of a turn
-
-abbrev filing : ℕ → Bool → FileAt → Pen → Filing
-filing i on f p = record { on = on; place = record { nth = i + 1; first = 0; byte = 0; file = f }; pen = p }
-
-module _ (bytes : List ℕ) (f : FileAt) (i : ℕ) (x : Body) where
-  pub behind-short : x .pen .short ≡ true → filing i false f (x .pen) ≡ behindRead f i (x .pen) (followed bytes f (x .pen))
-  unfolding behindRead followed
-  behind-short z = ap (behindRead f i (x .pen)) (sym (if-true _ _ _ z))
-
-  module _ (y : Over bytes f x) (z : x .pen .short ≡ false) (n : NextFile) (e : n ≡ fileBehind bytes f (x .end)) where
-    follows : n ≡ followed bytes f (x .pen)
-    unfolding followed
-    follows = e ∙ y .next z ∙ sym (if-false _ _ _ z)
-
-    pub behind-at : (h : FileAt) → n ≡ At h → filing i true h (x .pen) ≡ behindRead f i (x .pen) (followed bytes f (x .pen))
-    unfolding behindRead
-    behind-at h q = ap (behindRead f i (x .pen)) (sym q ∙ follows)
-
-    pub behind-nowhere : n ≡ Nowhere → filing i false f (x .pen) ≡ behindRead f i (x .pen) (followed bytes f (x .pen))
-    unfolding behindRead
-    behind-nowhere q = ap (behindRead f i (x .pen)) (sym q ∙ follows)
-
-pub ruleset behindReads = (behind-short, behind-at, behind-nowhere, needs)
 
 -- ---- what an accepted image, a legal quota and legal names give
 
@@ -258,46 +177,48 @@ module _ (s : List ℕ) (quota : ℕ) (names : List ℕ) (h : imageVerdict s .nu
       let none : length (content s .files) ≡ 0 = met-none s (content s .files) (subst (λ (z : NextFile). Met s z (content s .files)) (sym e ∙ q) (files-all s h)) in
       omega (arith, says .one)
 
-  pub first-is : (n : NextFile) (f : FileAt) → n ≡ firstFile s → n ≡ At f → firstFile s ≡ At f
-  first-is n f e q = sym e ∙ q
-
   pub no-file : (out : List ℕ) (a : Answer) (n : NextFile) → n ≡ firstFile s → n ≡ Nowhere → Answers (writeSheet (sheetFrom s quota names) out) a out
   no-file out a n e q = absurd (some-file n e q)
 
-  module _ (f : FileAt) (e : firstFile s ≡ At f) (files counts lengths set l : List ℕ) (p : l ≡ part (f .first) 80 s) (q : set ≡ setOf l) where
-    abbrev start : Place
-    start = record { nth = 0; first = 0; byte = 0; file = f }
+  module _ (v : NextFile) (f : FileAt) (there : v ≡ firstFile s) (found : v ≡ At f) (files counts lengths set l : List ℕ) (p : l ≡ part (f .first) 80 s) (q : set ≡ setOf l)
+    where
+      e : firstFile s ≡ At f
+      e = sym there ∙ found
 
-    is-from : originOf true files counts ≡ read
-    unfolding originOf
-    is-from = if-true _ _ _ refl
+      abbrev start : Place
+      start = record { nth = 0; first = 0; byte = 0; file = f }
 
-    same-set : set ≡ content s .set
-    same-set = q ∙ ap setOf p ∙ sym (set-first s f h e)
+      is-from : originOf true files counts ≡ read
+      unfolding originOf
+      is-from = if-true _ _ _ refl
 
-    pub image-ordered : Ordered (originOf true files counts) set lengths s start quota names
-    unfolding sheetFrom totalOf filesAt
-    image-ordered =
-        subst (λ (o : Origin). Ordered o set lengths s start quota names) (sym is-from)
-        (record {
-          placed =
-              record {
-                few = says .few;
-                within = omega arith;
-                stands = λ _. subst (λ (z : NextFile). Met s z (content s .files)) e (files-all s h);
-                legal = subst (λ (z : List ℕ). legalFiles z (content s .files) ≡ true) (sym same-set) (says .files);
-              };
-          first = refl;
-          some = omega (arith, says .one);
-          room = reels-legal quota names k .room;
-          named = reels-legal quota names k .named;
-        })
+      same-set : set ≡ content s .set
+      same-set = q ∙ ap setOf p ∙ sym (set-first s f h e)
 
-    pub image-answers : (out : List ℕ) (a : Answer) (r : List ℕ) → Answers (writeSheet (sheetAt (originOf true files counts) set lengths s start quota names) out) a r
-        → Answers (writeSheet (sheetFrom s quota names) out) a r
-    unfolding sheetAt sheetFrom filesAt
-    image-answers out a r m =
-        subst (λ (z : List ℕ). Answers (writeSheet (record { meaning = record { set = z; files = content s .files }; quota = quota; names = inParts 6 names }) out) a r) same-set
-        (subst (λ (o : Origin). Answers (writeSheet (sheetAt o set lengths s start quota names) out) a r) is-from m)
+      pub image-ordered : Ordered (originOf true files counts) set lengths s start quota names
+      unfolding sheetFrom totalOf filesAt
+      image-ordered =
+          subst (λ (o : Origin). Ordered o set lengths s start quota names) (sym is-from)
+          (record {
+            placed =
+                record {
+                  few = says .few;
+                  within = omega arith;
+                  stands = λ _. subst (λ (z : NextFile). Met s z (content s .files)) e (files-all s h);
+                  legal = subst (λ (z : List ℕ). legalFiles z (content s .files) ≡ true) (sym same-set) (says .files);
+                };
+            first = refl;
+            some = omega (arith, says .one);
+            room = reels-legal quota names k .room;
+            named = reels-legal quota names k .named;
+            six = ap length same-set ∙ legal-set (content s .set) (content s .files) (says .one) (says .files);
+          })
 
-pub ruleset images = (first-is, no-file, image-ordered, image-answers, needs)
+      pub image-answers : (out : List ℕ) (a : Answer) (r : List ℕ) → Answers (writeSheet (sheetAt (originOf true files counts) set lengths s start quota names) out) a r
+          → Answers (writeSheet (sheetFrom s quota names) out) a r
+      unfolding sheetAt sheetFrom filesAt
+      image-answers out a r m =
+          subst (λ (z : List ℕ). Answers (writeSheet (record { meaning = record { set = z; files = content s .files }; quota = quota; names = inParts 6 names }) out) a r) same-set
+          (subst (λ (o : Origin). Answers (writeSheet (sheetAt o set lengths s start quota names) out) a r) is-from m)
+
+pub ruleset images = (no-file, image-ordered, image-answers, needs)

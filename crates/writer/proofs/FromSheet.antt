@@ -12,7 +12,7 @@ use mir.Syntax.{w64}
 use lib.Dec.{eqb, ltb}
 use lib.ListN.{length, take, drop, getD, length-drop, take-append-drop}
 use lib.Seq.{drop-drop, drop-cons}
-use Rattle.base.specs.If.{if-true, if-false, if-case}
+use Rattle.base.specs.If.{ifB, if-true, if-false, if-case}
 use Rattle.base.specs.Part.{part}
 use Rattle.base.specs.Sum.{sum, cutBy}
 use Rattle.base.proofs.Sums.{sum-at, sum-append}
@@ -32,11 +32,11 @@ use Rattle.writer.specs.declared.source.Cursor.{Cursor}
 use Rattle.writer.specs.declared.body.Body.{Body}
 use Rattle.writer.specs.declared.set.Place.{Place}
 use Rattle.writer.specs.declared.set.Filing.{Filing}
-use Rattle.writer.specs.Pass.{Job, job}
+use Rattle.writer.specs.Pass.{job}
 use Rattle.writer.specs.Source.{lengthsAt, recordsOf, endAt, Good}
 use Rattle.writer.specs.Files.{FileReady, FilePut}
-use Rattle.writer.specs.Sets.{Origin, listed, originOf, totalOf, filesAt, Placed, listedAt, behindListed, Task, task, Fileable, OneFiled, sheetAt, Ordered}
-use Rattle.writer.proofs.Filing.{legal-others, file-ready, one-filed, no-counts}
+use Rattle.writer.specs.Sets.{Origin, listed, originOf, totalOf, filesAt, Placed, listedAt, filingAt, Task, task, Fileable, OneFiled, sheetAt, Ordered}
+use Rattle.writer.proofs.Filing.{legal-set, legal-others, file-ready, one-filed, no-counts}
 
 abbrev place : FileAt → ℕ → ℕ → ℕ → Place
 place f nth first byte = record { nth = nth; first = first; byte = byte; file = f }
@@ -65,6 +65,9 @@ module _ (files counts set lengths bytes rooms names : List ℕ) (g : Place) (y 
   pub nth-small : g .nth < 64
   unfolding totalOf
   nth-small = omega (arith, y .few)
+
+  pub entry-within : 46 * g .nth + 46 ≤ length files
+  entry-within = omega (arith, y .stands .entries)
 
   abbrev entry : List ℕ
   entry = part (46 * g .nth) 46 files
@@ -154,8 +157,8 @@ module _ (files counts set lengths bytes rooms names : List ℕ) (g : Place) (y 
         ∙ ap (place (g .file) (g .nth + 1) stop) (sym (e z ∙ ends))
 
     pub listed-filed : (lay : Bool) (p : Pen) (o q : List ℕ) (x : Body) (v : Filing) → FilePut lay (job set entry (g .nth + 1) rooms names) lengths bytes d p o q x
-        → v ≡ behindListed (g .file) (g .nth) stop (length counts) x → OneFiled lay t g p o q v
-    unfolding behindListed totalOf
+        → v ≡ filingAt (ifB (x .pen .short) false (ltb (g .nth + 1) (length counts))) g stop x (g .file) → OneFiled lay t g p o q v
+    unfolding totalOf
     listed-filed lay p o q x v m e =
         subst (OneFiled lay t g p o q) (sym e)
         (one-filed t g entry records _ y files-some lay d good begun p o q x _ m refl refl
@@ -166,61 +169,6 @@ module _ (files counts set lengths bytes rooms names : List ℕ) (g : Place) (y 
         by-test (x .pen .short) (λ w. absurd (false≢true (sym (if-true (x .pen .short) false (ltb (g .nth + 1) (length counts)) w) ∙ z)))
         (λ w. ltb-true _ _ (sym (if-false (x .pen .short) false (ltb (g .nth + 1) (length counts)) w) ∙ z)))
         (λ z w. ltb-false _ _ (sym (if-false (x .pen .short) false (ltb (g .nth + 1) (length counts)) w) ∙ z)))
-
-module _ (lay : Bool) (files counts set lengths bytes rooms names : List ℕ) (g : Place) (p : Pen) (o : List ℕ)
-    (y : Fileable lay (task (listed files counts) set lengths bytes rooms names) g p o) where
-  pub fileable-nth : g .nth < length counts
-  unfolding totalOf
-  fileable-nth = y .more
-
-  pub placed-records : g .first + sum (drop (g .nth) counts) ≡ length lengths
-  placed-records = y .placed .stands .records
-
-  pub listed-small : g .nth < 64
-  listed-small = nth-small files counts set lengths bytes rooms names g (y .placed) fileable-nth
-
-  module _ (count : ℕ) (k : (count ≡ getD counts (g .nth) 0) × (g .first + count ≤ length lengths)) where
-    pub stop-fits : Fits w64 (length lengths) → Fits w64 (g .first + count)
-    stop-fits f = record { fits = omega (arith, k .1, f .fits) }
-
-    pub stop-fits′ : length lengths < 2 ^ 64 → Fits w64 (g .first + count)
-    stop-fits′ f = record { fits = omega (arith, k .1) }
-
-    module _ (d : Cursor) (n : d ≡ listedAt (g .byte) count (g .first + count)) where
-      pub listed-ready : FileReady lay (job set (part (46 * g .nth) 46 files) (g .nth + 1) rooms names) lengths bytes d p o
-      listed-ready = entry-ready files counts set lengths bytes rooms names g (y .placed) fileable-nth count (g .first + count) (k .0) refl d n lay p o y
-
-      pub listed-put : (q : List ℕ) (x : Body) (v : Filing) → FilePut lay (job set (part (46 * g .nth) 46 files) (g .nth + 1) rooms names) lengths bytes d p o q x
-          → v ≡ behindListed (g .file) (g .nth) (g .first + count) (length counts) x → OneFiled lay (task (listed files counts) set lengths bytes rooms names) g p o q v
-      listed-put q x v m e =
-          listed-filed files counts set lengths bytes rooms names g (y .placed) fileable-nth count (g .first + count) (k .0) refl d n lay p o q x v m e
-
-pub listed-kept : (lay : Bool) (j : Job) (lengths bytes : List ℕ) (d : Cursor) (p : Pen) (o q : List ℕ) (x : Body) → FilePut lay j lengths bytes d p o q x → length q ≡ length o
-listed-kept lay j lengths bytes d p o q x y = y .kept
-
-pub ruleset filing = (fileable-nth, placed-records, listed-small, stop-fits, stop-fits′, listed-ready, listed-put, listed-kept, needs)
-
--- ---- the parts of a turn
-
-pub count-within : (counts lengths : List ℕ) (g : Place) (n : ℕ) → g .nth < length counts → g .first + sum (drop (g .nth) counts) ≡ length lengths
-    → n ≡ getD counts (g .nth) 0 → (n ≡ getD counts (g .nth) 0) × (g .first + n ≤ length lengths)
-count-within counts lengths g n h e k = (k, omega (arith, sum-at counts (g .nth) h))
-
-pub ruleset counting = (count-within, needs)
-
-pub behind-short : (f : FileAt) (i stop n : ℕ) (x : Body) → x .pen .short ≡ true
-    → record { on = false; place = place f (i + 1) stop (x .end); pen = x .pen } ≡ behindListed f i stop n x
-unfolding behindListed
-behind-short f i stop n x z =
-    ap (λ (b : Bool). record { on = b; place = place f (i + 1) stop (x .end); pen = x .pen }) (sym (if-true _ _ _ z))
-
-pub behind-more : (f : FileAt) (i stop n : ℕ) (x : Body) → x .pen .short ≡ false
-    → record { on = ltb (i + 1) n; place = place f (i + 1) stop (x .end); pen = x .pen } ≡ behindListed f i stop n x
-unfolding behindListed
-behind-more f i stop n x z =
-    ap (λ (b : Bool). record { on = b; place = place f (i + 1) stop (x .end); pen = x .pen }) (sym (if-false _ _ _ z))
-
-pub ruleset behinds = (behind-short, behind-more, needs)
 
 -- ---- what number 0 says of a sheet
 
@@ -324,6 +272,7 @@ module _ (set files counts lengths bytes : List ℕ) (quota : ℕ) (names : List
         some = filed;
         room = legal (λ q n. q);
         named = legal (λ q n. n);
+        six = legal-set set (filesFrom (inParts 46 files) counts lengths bytes) (says .one) (says .files);
       })
 
   pub sheet-answers : (out : List ℕ) (a : Answer) (p : List ℕ) → Answers (writeSheet (sheetAt (originOf false files counts) set lengths bytes start quota names) out) a p

@@ -1,12 +1,13 @@
 -- Items written one after the other, where they have room: how long they are together, and what the buffer then holds. Assumes nothing.
-use mathlib.Core.Path.{_≡_, refl, sym, ap, _∙_, subst}
+use mathlib.Core.Path.{_≡_, refl, sym, ap, ap₂, _∙_, subst}
 use mathlib.Core.List.{List, [], _∷_, _++_, append-nil}
-use Prim.Native.Nat.{ℕ, suc, _+_, _-_, _≤_}
+use Prim.Native.Nat.{ℕ, suc, _+_, _*_, _/_, _%_, _≤_}
 use native.Mathlib.Omega.{arith}
+use native.Mathlib.Nat.{add-assoc}
 use native.Mathlib.Numerals.{add-one}
 use borrow.Author.Needs.{needs}
-use lib.ListN.{length, length-append}
-use Rattle.base.specs.Part.{putAt}
+use lib.ListN.{length, getD, length-append}
+use Rattle.base.specs.Part.{part, putAt}
 use Rattle.base.proofs.Parts.{length-put, put-put}
 use Rattle.image.specs.Item.{Item, block, mark, reelEnd, three, bytesOf, encodeBy, encode}
 use Rattle.image.specs.Framing.{head}
@@ -15,7 +16,8 @@ use Rattle.label.specs.Name.{HDR1, HDR2, EOV1, EOV2, EOF1, EOF2}
 use Rattle.label.specs.Made.{madeVolume, madeFirst, madeSecond}
 use Rattle.writing.specs.Lay.{headers, fileEnd, volumeEnd}
 use Rattle.writing.proofs.Labels.{length-first, length-second, length-volume}
-use Rattle.writer.specs.Pass.{Puts}
+use Rattle.writer.specs.Pass.{entryIn, sequenceIn, setIn, Puts, pairOf}
+use Rattle.writer.specs.Sets.{headOf}
 
 -- ---- lengths
 
@@ -102,16 +104,21 @@ puts-items o at n xs p ys q l r a b = subst (λ (s : List ℕ). Puts o at s q) (
 pub puts-copy : (o : List ℕ) (at : ℕ) (bs q : List ℕ) → at + length bs ≤ length o → q ≡ putAt o at bs → Puts o at bs q
 puts-copy o at bs q r e = record { is = e; kept = ap length e ∙ length-put o at bs r }
 
-pub word-room : (o : List ℕ) (at n : ℕ) (w : List ℕ) → at + 3 ≤ length o → w ≡ three n → at + length w ≤ length o
-word-room o at n w r e = let l : length w ≡ 3 = ap length e ∙ length-three n in omega arith
+-- the three bytes of a length word, as the code has them
+abbrev word : ℕ → List ℕ
+word n = (n / 65536) ∷ (n / 256 % 256) ∷ (n % 256) ∷ []
 
-pub puts-word : (o : List ℕ) (at n : ℕ) (w q : List ℕ) → at + 3 ≤ length o → w ≡ three n → q ≡ putAt o at w → Puts o at (three n) q
-puts-word o at n w q r e h = subst (λ (s : List ℕ). Puts o at s q) e (puts-copy o at w q (word-room o at n w r e) h)
+pub puts-word : (o : List ℕ) (at n : ℕ) (q : List ℕ) → at + 3 ≤ length o → q ≡ putAt o at (word n) → Puts o at (three n) q
+unfolding three
+puts-word o at n q r e = puts-copy o at (word n) q r e
 
-pub puts-length : (o : List ℕ) (at : ℕ) (bs q : List ℕ) → Puts o at bs q → length q ≡ length o
-puts-length o at bs q p = p .kept
+pub word-kept : (o : List ℕ) (at n : ℕ) (q : List ℕ) → at + 3 ≤ length o → q ≡ putAt o at (word n) → length q ≡ length o
+word-kept o at n q r e = puts-word o at n q r e .kept
 
-pub puts-mark : (o : List ℕ) (at : ℕ) (q : List ℕ) → Puts o at (three 0) q → Puts o at (encode (mark ∷ [])) q
+pub puts-kept : (o : List ℕ) (at : ℕ) (bs q : List ℕ) → Puts o at bs q → length q ≡ length o
+puts-kept o at bs q p = p .kept
+
+puts-mark : (o : List ℕ) (at : ℕ) (q : List ℕ) → Puts o at (three 0) q → Puts o at (encode (mark ∷ [])) q
 unfolding encode encodeBy bytesOf
 puts-mark o at q p = subst (λ (s : List ℕ). Puts o at s q) (sym (append-nil (three 0))) p
 
@@ -129,76 +136,71 @@ module _ (o : List ℕ) (at : ℕ) (l p : List ℕ) (h : length l ≡ 80) (r : a
       subst (λ (s : List ℕ). Puts o at s q) (ap (λ (n : ℕ). three n ++ l) (sym h) ∙ sym (append-nil (three (length l) ++ l)))
       (puts-puts o at 3 (three 80) p l q (length-three 80) (omega arith) w (puts-copy p (at + 3) l q label-room e))
 
-pub ruleset labels = (puts-room, puts-word, word-room, puts-length, puts-mark, label-room, puts-label, needs)
+pub ruleset lengthWords = (puts-word, word-kept, needs)
+
+pub ruleset labelItems = (puts-room, puts-kept, label-room, puts-label, needs)
 
 -- ---- what stands together
 
 module _ (o : List ℕ) (at : ℕ) where
-  pub puts-reel-end : (p q : List ℕ) → at + 6 ≤ length o → Puts o at (encode (mark ∷ [])) p → Puts p (at + 3) (three 16777215) q
-      → Puts o at (encode (mark ∷ reelEnd ∷ [])) q
-  puts-reel-end p q r a b = puts-items o at 3 (mark ∷ []) p (reelEnd ∷ []) q (length-mark [] 0 none) (omega arith) a (puts-last p (at + 3) q b)
+  pub puts-reel-end : (p q : List ℕ) → at + 6 ≤ length o → Puts o at (three 0) p → Puts p (at + 3) (three 16777215) q → Puts o at (encode (mark ∷ reelEnd ∷ [])) q
+  puts-reel-end p q r a b =
+      puts-items o at 3 (mark ∷ []) p (reelEnd ∷ []) q (length-mark [] 0 none) (omega arith) (puts-mark o at p a) (puts-last p (at + 3) q b)
 
-  pub puts-volume : (name l p : List ℕ) → l ≡ madeVolume name → Puts o at (encode (block l ∷ [])) p → Puts o at (encode (block (madeVolume name) ∷ [])) p
-  puts-volume name l p e a = subst (λ (s : List ℕ). Puts o at (encode (block s ∷ [])) p) e a
+  -- two labels, and the mark behind them
+  pub puts-pair : (first second labels set e x y p q s : List ℕ) (section n count : ℕ) → at + 169 ≤ length o → e ≡ part 0 46 labels → set ≡ part 47 6 labels
+      → n ≡ getD labels 46 0 → x ≡ madeFirst first set e section n count → y ≡ madeSecond second e → Puts o at (encode (block x ∷ [])) p
+      → Puts p (at + 83) (encode (block y ∷ [])) q → Puts q (at + 166) (three 0) s → Puts o at (encode (pairOf first second labels section count)) s
+  puts-pair first second labels set e x y p q s section n count r he hs hn hx hy a b c =
+      let x′ : x ≡ madeFirst first (part 47 6 labels) (part 0 46 labels) section (getD labels 46 0) count
+      = hx ∙ ap₂ (λ (t u : List ℕ). madeFirst first t u section n count) hs he ∙ ap (λ (k : ℕ). madeFirst first (part 47 6 labels) (part 0 46 labels) section k count) hn in
+      let y′ : y ≡ madeSecond second (part 0 46 labels) = hy ∙ ap (madeSecond second) he in
+      let one : length (encode (block (madeFirst first (part 47 6 labels) (part 0 46 labels) section (getD labels 46 0) count) ∷ [])) ≡ 83
+      = length-label _ [] 0 (length-first first (part 47 6 labels) (part 0 46 labels) section (getD labels 46 0) count) none in
+      let two : length (encode (block (madeFirst first (part 47 6 labels) (part 0 46 labels) section (getD labels 46 0) count) ∷ block (madeSecond second (part 0 46 labels)) ∷ [])) ≡ 166
+      = length-label _ _ 83 (length-first first (part 47 6 labels) (part 0 46 labels) section (getD labels 46 0) count) (length-label _ [] 0 (length-second second (part 0 46 labels)) none) in
+      let both = puts-items o at 83 (block (madeFirst first (part 47 6 labels) (part 0 46 labels) section (getD labels 46 0) count) ∷ []) p (block (madeSecond second (part 0 46 labels)) ∷ []) q one (omega arith)
+      (subst (λ (l : List ℕ). Puts o at (encode (block l ∷ [])) p) x′ a) (subst (λ (l : List ℕ). Puts p (at + 83) (encode (block l ∷ [])) q) y′ b) in
+      puts-items o at 166 (_ ∷ _ ∷ []) q (mark ∷ []) s two (omega arith) both (puts-mark q (at + 166) s c)
 
-  pub puts-first : (name set e : List ℕ) (section sequence count : ℕ) (l p : List ℕ) → l ≡ madeFirst name set e section sequence count
-      → Puts o at (encode (block l ∷ [])) p → Puts o at (encode (block (madeFirst name set e section sequence count) ∷ [])) p
-  puts-first name set e section sequence count l p h a = subst (λ (s : List ℕ). Puts o at (encode (block s ∷ [])) p) h a
+  -- a mark, and what stands behind it
+  pub puts-behind : (ys : List Item) (p q : List ℕ) → at + 172 ≤ length o → Puts o at (three 0) p → Puts p (at + 3) (encode ys) q → Puts o at (encode (mark ∷ ys)) q
+  puts-behind ys p q r a b = puts-items o at 3 (mark ∷ []) p ys q (length-mark [] 0 none) (omega arith) (puts-mark o at p a) b
 
-  pub puts-second : (name e l p q : List ℕ) → at + 86 ≤ length o → l ≡ madeSecond name e → Puts o at (encode (block l ∷ [])) p
-      → Puts p (at + 83) (encode (mark ∷ [])) q → Puts o at (encode (block (madeSecond name e) ∷ mark ∷ [])) q
-  puts-second name e l p q r h a b =
-      puts-items o at 83 (block (madeSecond name e) ∷ []) p (mark ∷ []) q (length-label _ [] 0 (length-second name e) none) (omega arith)
-      (subst (λ (s : List ℕ). Puts o at (encode (block s ∷ [])) p) h a) b
+  -- the end of a section and its reel, and the beginning of the next
+  pub puts-change : (labels : List ℕ) (section count : ℕ) (name l p q s t : List ℕ) → at + 430 ≤ length o → l ≡ madeVolume name
+      → Puts o at (encode (mark ∷ pairOf EOV1 EOV2 labels section count)) p → Puts p (at + 172) (encode (mark ∷ reelEnd ∷ [])) q
+      → Puts q (at + 178) (encode (block l ∷ [])) s → Puts s (at + 261) (encode (pairOf HDR1 HDR2 labels (section + 1) 0)) t
+      → Puts o at (encode (volumeEnd (setIn labels) (entryIn labels) section (sequenceIn labels) count ++ (block (madeVolume name) ∷ headers (setIn labels) (entryIn labels) (suc section) (sequenceIn labels)))) t
+  unfolding volumeEnd headers
+  puts-change labels section count name l p q s t r h a b c d =
+      let set : List ℕ = setIn labels in
+      let e : List ℕ = entryIn labels in
+      let n : ℕ = sequenceIn labels in
+      let trailers : length (encode (mark ∷ pairOf EOV1 EOV2 labels section count)) ≡ 172
+      = length-trailer EOV1 set e section n count _ 86 (length-second-mark EOV2 e [] 0 none) in
+      let ended : Puts o at (encode (volumeEnd set e section n count)) q = puts-items o at 172 (_ ∷ _ ∷ _ ∷ _ ∷ []) p (mark ∷ reelEnd ∷ []) q trailers (omega arith) a b in
+      let named : Puts q (at + 178) (encode (block (madeVolume name) ∷ [])) s = subst (λ (m : List ℕ). Puts q (at + 178) (encode (block m ∷ [])) s) h c in
+      let head : Puts s (at + 178 + 83) (encode (headers set e (suc section) n)) t
+      = subst (λ (k : ℕ). Puts s k (encode (headers set e (suc section) n)) t) (sym (add-assoc at 178 83))
+      (subst (λ (k : ℕ). Puts s (at + 261) (encode (pairOf HDR1 HDR2 labels k 0)) t) (add-one section) d) in
+      let room : at + 178 + 83 ≤ length q = omega (arith, a .kept, b .kept) in
+      let begun : Puts q (at + 178) (encode (block (madeVolume name) ∷ headers set e (suc section) n)) t
+      = puts-items q (at + 178) 83 (block (madeVolume name) ∷ []) s (headers set e (suc section) n) t (length-first-reel name) room named head in
+      puts-items o at 178 (volumeEnd set e section n count) q (block (madeVolume name) ∷ headers set e (suc section) n) t (length-volume-end set e section n count) (omega arith) ended begun
 
-  pub puts-headers : (set e : List ℕ) (section sequence : ℕ) (p q : List ℕ) → at + 169 ≤ length o
-      → Puts o at (encode (block (madeFirst HDR1 set e section sequence 0) ∷ [])) p → Puts p (at + 83) (encode (block (madeSecond HDR2 e) ∷ mark ∷ [])) q
-      → Puts o at (encode (headers set e section sequence)) q
-  unfolding headers
-  puts-headers set e section sequence p q r a b =
-      puts-items o at 83 (_ ∷ []) p (_ ∷ _ ∷ []) q (length-label _ [] 0 (length-first HDR1 set e section sequence 0) none) (omega arith) a b
-
-  pub puts-trailer : (l p q : List ℕ) → at + 86 ≤ length o → Puts o at (encode (mark ∷ [])) p → Puts p (at + 3) (encode (block l ∷ [])) q
-      → Puts o at (encode (mark ∷ block l ∷ [])) q
-  puts-trailer l p q r a b = puts-items o at 3 (mark ∷ []) p (block l ∷ []) q (length-mark [] 0 none) (omega arith) a b
-
-  pub puts-file-end : (set e : List ℕ) (section sequence count : ℕ) (p q : List ℕ) → at + 172 ≤ length o
-      → Puts o at (encode (mark ∷ block (madeFirst EOF1 set e section sequence count) ∷ [])) p
-      → Puts p (at + 86) (encode (block (madeSecond EOF2 e) ∷ mark ∷ [])) q → Puts o at (encode (fileEnd set e section sequence count)) q
-  unfolding fileEnd
-  puts-file-end set e section sequence count p q r a b =
-      puts-items o at 86 (_ ∷ _ ∷ []) p (_ ∷ _ ∷ []) q (length-trailer EOF1 set e section sequence count [] 0 none) (omega arith) a b
-
-  pub puts-volume-end : (set e : List ℕ) (section sequence count : ℕ) (p q s : List ℕ) → at + 178 ≤ length o
-      → Puts o at (encode (mark ∷ block (madeFirst EOV1 set e section sequence count) ∷ [])) p
-      → Puts p (at + 86) (encode (block (madeSecond EOV2 e) ∷ mark ∷ [])) q → Puts q (at + 172) (encode (mark ∷ reelEnd ∷ [])) s
-      → Puts o at (encode (volumeEnd set e section sequence count)) s
-  unfolding volumeEnd
-  puts-volume-end set e section sequence count p q s r a b c =
-      let both : Puts o at (encode (mark ∷ block (madeFirst EOV1 set e section sequence count) ∷ block (madeSecond EOV2 e) ∷ mark ∷ [])) q
-      = puts-items o at 86 (_ ∷ _ ∷ []) p (_ ∷ _ ∷ []) q (length-trailer EOV1 set e section sequence count [] 0 none) (omega arith) a b in
-      puts-items o at 172 (_ ∷ _ ∷ _ ∷ _ ∷ []) q (_ ∷ _ ∷ []) s
-      (length-trailer EOV1 set e section sequence count _ 86 (length-second-mark EOV2 e [] 0 none)) (omega arith) both c
-
-  pub puts-next-reel : (set e : List ℕ) (section sequence : ℕ) (name p q : List ℕ) → at + 252 ≤ length o
-      → Puts o at (encode (block (madeVolume name) ∷ [])) p → Puts p (at + 83) (encode (headers set e section sequence)) q
-      → Puts o at (encode (block (madeVolume name) ∷ headers set e section sequence)) q
-  puts-next-reel set e section sequence name p q r a b =
-      puts-items o at 83 (_ ∷ []) p (headers set e section sequence) q (length-first-reel name) (omega arith) a b
-
-  pub puts-change : (set e : List ℕ) (section sequence count : ℕ) (name p q : List ℕ) → at + 430 ≤ length o
-      → Puts o at (encode (volumeEnd set e section sequence count)) p → Puts p (at + 178) (encode (block (madeVolume name) ∷ headers set e (section + 1) sequence)) q
-      → Puts o at (encode (volumeEnd set e section sequence count ++ (block (madeVolume name) ∷ headers set e (suc section) sequence))) q
-  puts-change set e section sequence count name p q r a b =
-      puts-items o at 178 (volumeEnd set e section sequence count) p (block (madeVolume name) ∷ headers set e (suc section) sequence) q
-      (length-volume-end set e section sequence count) (omega arith) a
-      (subst (λ (n : ℕ). Puts p (at + 178) (encode (block (madeVolume name) ∷ headers set e n sequence)) q) (add-one section) b)
-
-pub puts-head : (o : List ℕ) (name p q : List ℕ) → 88 ≤ length o → p ≡ putAt o 0 head → Puts p 5 (encode (block (madeVolume name) ∷ [])) q
-    → Puts o 0 (head ++ encode (block (madeVolume name) ∷ [])) q
-puts-head o name p q r e b =
+-- the head of an image, and the first volume label
+pub puts-head : (o : List ℕ) (name l p q : List ℕ) → 88 ≤ length o → l ≡ madeVolume name → p ≡ putAt o 0 head → Puts p 5 (encode (block l ∷ [])) q → Puts o 0 (headOf name) q
+unfolding headOf
+puts-head o name l p q r h e b =
     let five : length head ≡ 5 = refl in
-    puts-puts o 0 5 head p (encode (block (madeVolume name) ∷ [])) q five (omega arith) (puts-copy o 0 head p (omega arith) e) b
+    puts-puts o 0 5 head p (encode (block (madeVolume name) ∷ [])) q five (omega arith) (puts-copy o 0 head p (omega arith) e)
+    (subst (λ (m : List ℕ). Puts p 5 (encode (block m ∷ [])) q) h b)
 
-pub ruleset together =
-    (puts-room, puts-length, puts-reel-end, puts-volume, puts-first, puts-second, puts-headers, puts-trailer, puts-file-end, puts-volume-end, puts-next-reel, puts-change, puts-head, needs)
+pub head-kept : (o p q bs : List ℕ) → 88 ≤ length o → p ≡ putAt o 0 head → Puts p 5 bs q → length q ≡ length o
+head-kept o p q bs r e b = let five : length head ≡ 5 = refl in b .kept ∙ puts-copy o 0 head p (omega arith) e .kept
+
+pub head-room : (o p : List ℕ) → 88 ≤ length o → p ≡ putAt o 0 head → 5 + 83 ≤ length p
+head-room o p r e = let five : length head ≡ 5 = refl in omega (arith, puts-copy o 0 head p (omega arith) e .kept)
+
+pub ruleset together = (puts-room, puts-kept, puts-reel-end, puts-pair, puts-behind, puts-change, puts-head, head-kept, head-room, needs)

@@ -4,6 +4,8 @@ pub mod Passes
 pub mod Written
 pub mod Dues
 pub mod Pens
+pub mod Blocks
+pub mod Units
 pub mod Packs
 pub mod Pieces
 pub mod Records
@@ -14,4 +16,6 @@ pub mod Splits
 pub mod Filing
 pub mod FromSheet
 pub mod FromImage
+pub mod Rows
+pub mod Origins
 pub mod Answering

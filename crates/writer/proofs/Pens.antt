@@ -12,16 +12,18 @@ use lib.ListN.{length, take, drop, getD, length-drop, drop-of-length-le}
 use lib.Seq.{drop-drop, drop-cons}
 use Rattle.base.specs.If.{ifB, if-true, if-false}
 use Rattle.base.specs.Part.{part}
+use Rattle.base.proofs.Parts.{part-part}
 use Rattle.image.specs.Item.{Item, block, three, encode}
 use Rattle.label.specs.Made.{madeVolume}
 use Rattle.writing.specs.Lay.{Reel, Laid, laid, short, put, headers, volumeEnd, Next, rest}
 use Rattle.writing.proofs.Packing.{by-test}
 use Rattle.sheet.specs.Flat.{inParts}
 use Rattle.sheet.proofs.Cutting.{parts-some}
-use Rattle.writer.proofs.Items.{length-three, length-block, length-change}
+use Rattle.writer.proofs.Items.{length-three, length-block, length-change, puts-kept}
 use Rattle.writer.specs.declared.pen.Pen.{Pen}
-use Rattle.writer.specs.Pass.{overLong, behind, Puts, Reels, reelsFrom, reelsAt, Job, inkAt, lacks, inked, Outcome, outcome, restOf, ends, Fits, Sound}
-use Rattle.writer.specs.Pens.{Ready, Closable, Closes, Changes, Opens, opened, nextReel}
+use Rattle.writer.specs.Pass.{overLong, behind, Puts, Reels, reelsFrom, reelsAt, Job, entryIn, sequenceIn, setIn, jobOf, inkAt, lacks, inked, Outcome, outcome, restOf, ends, Fits, Sound}
+use Rattle.writer.specs.Pens.{Ready, Closable, Closes, Changes, Opens, opened}
+use Rattle.writer.proofs.Written.{ink-puts}
 use Rattle.writer.proofs.Passes.{ink-none, ink-length, outcome-close, outcome-open, outcome-items, fits-unit, fits-items}
 
 -- ---- how a pass ends from a pen that is not short
@@ -75,7 +77,7 @@ module _ (lay : Bool) (p : Pen) (o : List ℕ) (c : Closable lay p (length o)) w
   word-room : p .on ≡ true → lay ≡ true → p .at + length (three (p .used)) ≤ length o
   word-room h l = let r = c .room l h in omega (arith, length-three (p .used))
 
-  pub closes-kept : (q : List ℕ) → p .on ≡ true → q ≡ inkAt lay o (p .at) (three (p .used)) → length q ≡ length o
+  closes-kept : (q : List ℕ) → p .on ≡ true → q ≡ inkAt lay o (p .at) (three (p .used)) → length q ≡ length o
   closes-kept q h e = ap length e ∙ ink-length lay o (p .at) (three (p .used)) (word-room h)
 
   closes-same : (q : List ℕ) → p .on ≡ true → q ≡ inkAt lay o (p .at) (three (p .used)) → (j : Job) (bs : List (List ℕ)) (next : Next)
@@ -90,7 +92,7 @@ module _ (lay : Bool) (p : Pen) (o : List ℕ) (c : Closable lay p (length o)) w
       ∙ outcome-close lay (p .at) (p .used) 0 o (restOf j p bs next) (λ l. c .room l h)
       ∙ sym (ends-given lay j p o [] bs next true s h))
 
-  pub closes-on : (q : List ℕ) → p .on ≡ true → q ≡ inkAt lay o (p .at) (three (p .used)) → Closes lay p o q (closed p)
+  closes-on : (q : List ℕ) → p .on ≡ true → q ≡ inkAt lay o (p .at) (three (p .used)) → Closes lay p o q (closed p)
   unfolding behind
   closes-on q h e =
       record {
@@ -118,7 +120,13 @@ module _ (lay : Bool) (p : Pen) (o : List ℕ) (c : Closable lay p (length o)) w
         same = closes-same q h e;
       }
 
-pub ruleset closing = (close-small, close-room, close-word-fits, close-fits, closes-none, closes-kept, closes-on, needs)
+  pub closes-laid : (q : List ℕ) → p .on ≡ true → lay ≡ true → Puts o (p .at) (three (p .used)) q → Closes lay p o q (closed p)
+  closes-laid q h l w = closes-on q h (ink-puts lay o (p .at) (three (p .used)) q l w)
+
+  pub closes-measured : p .on ≡ true → lay ≡ false → Closes lay p o o (closed p)
+  closes-measured h l = closes-on o h (sym (ink-none lay o (p .at) (three (p .used)) l))
+
+pub ruleset closing = (close-small, close-room, close-word-fits, close-fits, closes-none, closes-laid, closes-measured, puts-kept, needs)
 
 -- ---- the reels that are left
 
@@ -158,7 +166,8 @@ abbrev roomNext : Job → Pen → ℕ
 roomNext j p = getD (j .rooms) (p .next) 0
 
 abbrev next-reel : Job → Pen → Pen
-next-reel j p = nextReel (roomNext j p) p
+next-reel j p =
+    record { at = p .at + 430; used = 0; room = roomNext j p; next = p .next + 1; section = p .section + 1; count = 0; on = false; short = false }
 
 abbrev resting : Job → Pen → ℕ → ℕ → List Reel → List (List ℕ) → Next → Laid
 resting j p count room reels bs next = rest (j .set) (j .entry) (j .sequence) (suc (p .section)) count room reels bs next
@@ -266,25 +275,19 @@ module _ (lay : Bool) (j : Job) (p : Pen) (o : List ℕ) (ready : Ready lay j p 
               ∙ sym (ends-given lay j p o [] (y ∷ ys) next false given shut);
         }
 
-    module _ (room : ℕ) (z : room ≡ roomNext j p) where
-      pub changes-none : (v : Pen) → lay ≡ false → v ≡ nextReel room p → Changes lay j p o o v
-      changes-none v l e =
-          subst (Changes lay j p o o) (sym (e ∙ ap (λ (k : ℕ). nextReel k p) z)) (changed-by o (sym (ink-none lay o (p .at) (encode (changed j p)) l)))
+    pub changes-measured : lay ≡ false → Changes lay j p o o (next-reel j p)
+    changes-measured l = changed-by o (sym (ink-none lay o (p .at) (encode (changed j p)) l))
 
-      pub changes-laid : (q name : List ℕ) (u : Pen) → lay ≡ true → u ≡ nextReel room p → name ≡ part (6 * p .next) 6 (j .names)
-          → Puts o (p .at) (encode (volumeEnd (j .set) (j .entry) (p .section) (j .sequence) (p .count) ++ (block (madeVolume name) ∷ headers (j .set) (j .entry) (suc (p .section)) (j .sequence)))) q
-          → Changes lay j p o q u
-      unfolding inkAt
-      changes-laid q name u l g e w =
-          let v : Puts o (p .at) (encode (changed j p)) q
-          = subst (λ (m : List ℕ). Puts o (p .at) (encode (volumeEnd (j .set) (j .entry) (p .section) (j .sequence) (p .count) ++ (block (madeVolume m) ∷ headers (j .set) (j .entry) (suc (p .section)) (j .sequence)))) q) e w in
-          subst (Changes lay j p o q) (sym (g ∙ ap (λ (k : ℕ). nextReel k p) z)) (changed-by q (v .is ∙ sym (if-true _ _ _ l)))
+    changes-puts : (q name : List ℕ) → lay ≡ true → name ≡ part (6 * p .next) 6 (j .names)
+        → Puts o (p .at) (encode (volumeEnd (j .set) (j .entry) (p .section) (j .sequence) (p .count) ++ (block (madeVolume name) ∷ headers (j .set) (j .entry) (suc (p .section)) (j .sequence)))) q
+        → Changes lay j p o q (next-reel j p)
+    changes-puts q name l e w =
+        let v : Puts o (p .at) (encode (changed j p)) q
+        = subst (λ (m : List ℕ). Puts o (p .at) (encode (volumeEnd (j .set) (j .entry) (p .section) (j .sequence) (p .count) ++ (block (madeVolume m) ∷ headers (j .set) (j .entry) (suc (p .section)) (j .sequence)))) q) e w in
+        changed-by q (ink-puts lay o (p .at) (encode (changed j p)) q l v)
 
     pub changes-room : lay ≡ true → p .at + 430 ≤ length o
     changes-room l = omega (arith, items-room l .0, length-changed j p)
-
-    pub changes-kept : (q bs : List ℕ) → Puts o (p .at) bs q → length q ≡ length o
-    changes-kept q bs w = w .kept
 
   pub section-small : p .section < 1000
   section-small = omega (arith, sound .sections, sound .within, sound .reels .few)
@@ -295,15 +298,21 @@ module _ (lay : Bool) (j : Job) (p : Pen) (o : List ℕ) (ready : Ready lay j p 
   pub place-small : p .at ≤ 1000000000000000
   place-small = omega (arith, sound .place, sound .within, sound .reels .few, sound .turn)
 
-pub ruleset changing = (changes-short, changes-none, changes-laid, changes-room, changes-kept, section-small, next-small, place-small, needs)
+-- the name of the next reel, as the row of labels has it
+pub changes-laid : (lay : Bool) (labels rooms : List ℕ) (p : Pen) (o : List ℕ) → Ready lay (jobOf labels rooms) p o → p .on ≡ false → p .room ≡ 0 → p .next < length rooms
+    → (q name : List ℕ) → lay ≡ true → name ≡ part (53 + 6 * p .next) 6 labels
+    → Puts o (p .at) (encode (volumeEnd (setIn labels) (entryIn labels) (p .section) (sequenceIn labels) (p .count) ++ (block (madeVolume name) ∷ headers (setIn labels) (entryIn labels) (suc (p .section)) (sequenceIn labels)))) q
+    → Changes lay (jobOf labels rooms) p o q (next-reel (jobOf labels rooms) p)
+changes-laid lay labels rooms p o ready shut none n q name l e w =
+    changes-puts lay (jobOf labels rooms) p o ready shut none n q name l (e ∙ sym (part-part 53 (6 * p .next) 6 (6 * length rooms) labels (omega arith))) w
+
+pub ruleset changing = (changes-short, changes-measured, changes-laid, changes-room, puts-kept, section-small, next-small, place-small, needs)
 
 -- ---- the next block
 
 -- this reel has room
-pub changes-here : (lay : Bool) (j : Job) (p : Pen) (o : List ℕ) → Sound j p → p .on ≡ false → (p .room ≡ 0 → ⊥) → Changes lay j p o o p
+changes-here : (lay : Bool) (j : Job) (p : Pen) (o : List ℕ) → Sound j p → p .on ≡ false → (p .room ≡ 0 → ⊥) → Changes lay j p o o p
 changes-here lay j p o s h n = record { sound = s; kept = refl; untouched = λ _. refl; shut = h; room = λ _. omega arith; same = λ y ys next. refl }
-
-pub ruleset reeling = (changes-here, needs)
 
 module _ (lay : Bool) (j : Job) (p : Pen) (o : List ℕ) (ready : Ready lay j p o) where
   pub closable : Closable lay p (length o)
@@ -343,7 +352,7 @@ module _ (lay : Bool) (j : Job) (p : Pen) (o : List ℕ) (ready : Ready lay j p 
               };
         }
 
-    pub turned-by : (z : List ℕ) (d : Pen) → Changes lay j c q z d → Changes lay j p o z d
+    turned-by : (z : List ℕ) (d : Pen) → Changes lay j c q z d → Changes lay j p o z d
     turned-by z d y =
         record {
           sound = y .sound;
@@ -354,14 +363,11 @@ module _ (lay : Bool) (j : Job) (p : Pen) (o : List ℕ) (ready : Ready lay j p 
           same = λ b bs next. y .same b bs next ∙ x .same j (b ∷ bs) next;
         }
 
-    pub turned-kept : (z : List ℕ) (d : Pen) → Changes lay j c q z d → length z ≡ length o
-    turned-kept z d y = y .kept ∙ x .kept
-
   module _ (z : List ℕ) (d : Pen) (y : Changes lay j p o z d) where
     pub opens-kept : length z ≡ length o
     opens-kept = y .kept
 
-    pub opens-short : d .short ≡ true → Opens lay j p o z d
+    opens-short : d .short ≡ true → Opens lay j p o z d
     opens-short s =
         record {
           sound = y .sound;
@@ -376,10 +382,10 @@ module _ (lay : Bool) (j : Job) (p : Pen) (o : List ℕ) (ready : Ready lay j p 
               ∙ y .same b bs next;
         }
 
-    pub opens-room : d .short ≡ false → 1 ≤ d .room
+    opens-room : d .short ≡ false → 1 ≤ d .room
     opens-room s = y .room s
 
-    pub opens-few : d .count < 1000000
+    opens-few : d .count < 1000000
     opens-few = omega (arith, y .sound .blocks)
 
     rest-open : (b : List ℕ) (bs : List (List ℕ)) (next : Next) → d .short ≡ false → put (block b ∷ []) (restOf j (opened d) bs next) ≡ restOf j d (b ∷ bs) next
@@ -440,6 +446,33 @@ module _ (lay : Bool) (j : Job) (p : Pen) (o : List ℕ) (ready : Ready lay j p 
               ∙ ends-ahead b bs next s;
         })
 
-pub ruleset turning = (closable, closed-shut, closed-ready, turned-by, turned-kept, needs)
+  module _ (q : List ℕ) (c : Pen) (x : Closes lay p o q c) where
+    pub here-kept : length q ≡ length o
+    here-kept = x .kept
 
-pub ruleset opening = (opens-kept, opens-short, opens-room, opens-few, opens-on, needs)
+    pub here-few : c .count < 1000000
+    here-few = omega (arith, x .sound j (ready .sound) .blocks)
+
+    -- the block is opened on this reel
+    pub opens-here : (r : Pen) → (c .room ≡ 0 → ⊥) → r ≡ opened c → Opens lay j p o q r
+    opens-here r n e =
+        opens-on q c (turned-by q c x q c (changes-here lay j c q (x .sound j (ready .sound)) (x .shut) n)) r (x .short ∙ ready .given) e
+
+    module _ (z : List ℕ) (d : Pen) (y : Changes lay j c q z d) where
+      pub next-kept : length z ≡ length o
+      next-kept = y .kept ∙ x .kept
+
+      pub next-short : d .short ≡ true → Opens lay j p o z d
+      next-short s = opens-short z d (turned-by q c x z d y) s
+
+      pub next-room : d .short ≡ false → 1 ≤ d .room
+      next-room s = y .room s
+
+      pub next-few : d .count < 1000000
+      next-few = opens-few z d (turned-by q c x z d y)
+
+      -- or on the next
+      pub opens-next : (r : Pen) → d .short ≡ false → r ≡ opened d → Opens lay j p o z r
+      opens-next r s e = opens-on z d (turned-by q c x z d y) r s e
+
+pub ruleset opening = (closable, closed-shut, closed-ready, here-kept, here-few, opens-here, next-kept, next-short, next-room, next-few, opens-next, needs)

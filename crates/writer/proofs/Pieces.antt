@@ -10,7 +10,10 @@ use Rattle.writing.specs.Lay.{Next}
 use Rattle.writer.specs.declared.pack.Flow.{Flow}
 use Rattle.writer.specs.Pass.{Job, Outcome, Fits, Sound}
 use Rattle.writer.specs.Packs.{flowed, Good, Settled, Packable, Packed}
-use Rattle.writer.specs.Segments.{reset}
+
+-- a flow at the beginning of the next piece
+abbrev pub reset : Flow → Flow
+reset r = record { pen = r .pen; left = r .left; seg = r .seg; from = 0; begun = r .begun; inside = r .inside; on = true }
 
 -- what follows the record, for which the buffer has room
 pub record Following (f b : ℕ) (j : Job) (zs : List ℕ) (s : Flow) (o : List ℕ) : Type 0 where

@@ -13,7 +13,7 @@ use lib.ListN.{length, take, drop, length-append, drop-of-length-le}
 use lib.Seq.{take-all}
 use Rattle.base.specs.If.{if-true, if-false, if-case}
 use Rattle.base.specs.Part.{part}
-use Rattle.base.proofs.Parts.{length-part}
+use Rattle.base.proofs.Parts.{length-part, part-within}
 use Rattle.block.specs.Unit.{wordOf}
 use Rattle.block.proofs.Wholes.{word-segmented}
 use Rattle.writing.specs.Pack.{Left, going, startOf, enters, taken, indicatorOf, controlWord, blocksLeft}
@@ -21,7 +21,7 @@ use Rattle.writing.specs.Lay.{rest}
 use Rattle.writing.specs.Lay.{Next}
 use Rattle.writing.proofs.Packing.{by-test, entered}
 use Rattle.writing.proofs.Units.{length-control, indicator-whole}
-use Rattle.writer.proofs.Written.{part-cut, word-small}
+use Rattle.writer.proofs.Written.{word-small}
 use Rattle.writer.specs.declared.pen.Pen.{Pen}
 use Rattle.writer.specs.declared.pack.Flow.{Flow}
 use Rattle.writer.specs.declared.record.Quick.{Quick}
@@ -30,9 +30,10 @@ use Rattle.writer.specs.Pens.{Unitable, Ready, Closable, Closes, Opens, 
 use Rattle.writer.specs.Packs.{entersOn, Wanting, Blocked, more, flowed, Good, Packable, Packed}
 use Rattle.writer.specs.Records.{mostOf, GoesIn, GoesNext, Wholable, Wholed, Turned, Recordable, Recorded, Somewhere, Whole, QuickBlock}
 use Rattle.writer.proofs.Passes.{ink-none, ink-length}
-use Rattle.writer.proofs.Pens.{closable, changes-here, turned-by, opens-on}
+use Rattle.writer.proofs.Pens.{closable, opens-here}
 use Rattle.writer.proofs.Dues.{enter-fill, enter-left, some-fill, some-left, over-fill, over-left}
-use Rattle.writer.proofs.Packs.{penned-on, penned-short, room-unit, penned-unit, more-sound, blocked-here, wanting-ready, blocked-next, flowed-in, flowed-out}
+use Rattle.writer.proofs.Blocks.{penned-on, penned-short, room-unit, penned-unit, more-sound, blocked-here, wanting-ready, blocked-next}
+use Rattle.writer.proofs.Packs.{flowed-in, flowed-out}
 
 -- ---- which records go whole
 
@@ -295,8 +296,7 @@ module _ (lay : Bool) (p : Pen) (o q : List ℕ) (c : Pen) (x : Closes lay p o q
         given = ap (λ (v : Pen). v .short) e;
         opens =
             λ j y.
-            opens-on lay j p o y q c
-            (turned-by lay j p o y q c x q c (changes-here lay j c q (x .sound j (y .sound)) (x .shut) some)) r (x .short ∙ y .given) e;
+            opens-here lay j p o y q c x r some e;
       }
 
 pub ruleset turnings = (turned-room, turned-few, turned-kept, turned, needs)
@@ -373,7 +373,7 @@ module _ (lay : Bool) (f b : ℕ) (j : Job) (bytes : List ℕ) (from n : ℕ) (p
   first = record { pen = p; left = n; seg = 0; from = 0; begun = 0; inside = false; on = true }
 
   is-part : piece ≡ part from n bytes
-  is-part = part-cut from n bytes
+  is-part = part-within from n bytes
 
   piece-length : length piece ≡ n
   piece-length = ap length is-part ∙ length-part from n bytes (k .inside)

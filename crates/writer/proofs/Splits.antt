@@ -12,6 +12,7 @@ use lib.Dec.{eqb}
 use lib.ListN.{length, take, drop, length-append}
 use Rattle.base.specs.If.{if-case}
 use Rattle.base.specs.Part.{part}
+use Rattle.base.proofs.Parts.{part-within}
 use Rattle.content.specs.Walk.{isInside, unitNext, unitFrom, firstSegment, nextSegment, restAt}
 use Rattle.content.specs.Measure.{isEnded, bytesBehind}
 use Rattle.content.specs.declared.Walk.{Walk}
@@ -30,13 +31,12 @@ use Rattle.writer.specs.declared.pack.Flow.{Flow}
 use Rattle.writer.specs.declared.source.Cursor.{Cursor}
 use Rattle.writer.specs.declared.split.Segment.{Segment}
 use Rattle.writer.specs.Source.{walkOf, splitBytes, SplitHere}
-use Rattle.writer.specs.Segments.{behindOf, GoesOn, Segmented, reset}
+use Rattle.writer.specs.Segments.{behindOf, GoesOn, Segmented}
 use Rattle.writer.specs.Pass.{Job, Outcome, Fits, between, penned}
 use Rattle.writer.specs.Packs.{flowed, Packable, Packed}
 use Rattle.writer.specs.Records.{Splittable, Recorded}
-use Rattle.writer.proofs.Written.{part-cut}
 use Rattle.writer.proofs.Packs.{flowed-out}
-use Rattle.writer.proofs.Pieces.{Splitting, pieces-in, pieces-same, pieces-out}
+use Rattle.writer.proofs.Pieces.{reset, Splitting, pieces-in, pieces-same, pieces-out}
 use Rattle.writer.proofs.Records.{flow-over, flow-short}
 
 -- ---- the segments
@@ -214,7 +214,7 @@ module _ (lay : Bool) (f b : ℕ) (j : Job) (bytes : List ℕ) (c : Cursor) (p :
   rest = x .segment .rest
 
   all : x .left ≡ piece ++ rest
-  all = x .segment .is ∙ ap (λ (l : List ℕ). l ++ rest) (sym (part-cut (g .from) (g .len) bytes))
+  all = x .segment .is ∙ ap (λ (l : List ℕ). l ++ rest) (sym (part-within (g .from) (g .len) bytes))
 
   splitting : Splitting lay f b j (piece ++ rest) s q
   splitting = subst (λ (l : List ℕ). Splitting lay f b j l s q) all (x .splitting)
@@ -283,11 +283,10 @@ module _ (lay : Bool) (f b : ℕ) (j : Job) (bytes : List ℕ) (c : Cursor) (p :
         pub splits-goes : GoesOn bytes (behindOf c g)
         splits-goes = x .segment .goes some
 
-        pub splits-more : (r : Segment) (u : Flow) → u ≡ reset t → Segmented bytes c (bytesBehind bytes (behindOf c g)) r → Splits lay f b j bytes c p o r u z
-        splits-more r u m k =
+        pub splits-more : (r : Segment) → Segmented bytes c (bytesBehind bytes (behindOf c g)) r → Splits lay f b j bytes c p o r (reset t) z
+        splits-more r k =
             let is : rest ≡ bytesBehind bytes (behindOf c g) = x .segment .same some in
-            subst (λ (v : Flow). Splits lay f b j bytes c p o r v z) (sym m)
-            (record {
+            record {
               left = bytesBehind bytes (behindOf c g);
               segment = k;
               splitting = subst (λ (l : List ℕ). Splitting lay f b j l (reset t) z) is after;
@@ -295,7 +294,7 @@ module _ (lay : Bool) (f b : ℕ) (j : Job) (bytes : List ℕ) (c : Cursor) (p :
               kept = splits-kept-on;
               untouched = untouched;
               same = λ xs next room. ap (λ (l : List ℕ). flowed lay f b j (reset t) z l xs next) (sym is) ∙ same-on xs next room;
-            })
+            }
 
         pub splits-fall : (r : Segment) → Segmented bytes c (bytesBehind bytes (behindOf c g)) r → g .at < r .at → length bytes - r .at < length bytes - g .at
         splits-fall r k l = omega (arith, k .inside)

@@ -14,7 +14,7 @@ use Rattle.base.specs.If.{if-true, if-false, if-case}
 use Rattle.base.specs.Part.{part, putAt, putIn}
 use Rattle.base.specs.Digits.{digits}
 use Rattle.base.proofs.Numbers.{length-digits}
-use Rattle.base.proofs.Parts.{put-none, put-put, length-part, length-put as put-length}
+use Rattle.base.proofs.Parts.{put-none, put-put, length-part, part-within, length-put as put-length}
 use Rattle.image.specs.Item.{three}
 use Rattle.base.proofs.Put.{put-first}
 use Rattle.block.specs.Unit.{wordOf}
@@ -23,11 +23,6 @@ use Rattle.writing.specs.Pack.{controlWord}
 use Rattle.writing.proofs.Units.{control-F, control-D, length-control}
 use Rattle.writer.specs.Pass.{Puts, inkAt}
 use Rattle.writer.specs.Pens.{Unitable}
-
--- a part of a slice, as the code takes it
-pub part-cut : (from n : ℕ) (bytes : List ℕ) → take (from + n - from) (drop from bytes) ≡ part from n bytes
-unfolding part
-part-cut from n bytes = let same : from + n - from ≡ n = omega arith in ap (λ (k : ℕ). take k (drop from bytes)) same
 
 pub ink-put : (lay : Bool) (o : List ℕ) (at : ℕ) (bs q : List ℕ) → lay ≡ true → q ≡ putAt o at bs → q ≡ inkAt lay o at bs
 unfolding inkAt
@@ -51,14 +46,6 @@ ink-not lay o at bs l = sym (if-false _ _ _ l)
 pub ink-puts : (lay : Bool) (o : List ℕ) (at : ℕ) (bs q : List ℕ) → lay ≡ true → Puts o at bs q → q ≡ inkAt lay o at bs
 unfolding inkAt
 ink-puts lay o at bs q l p = p .is ∙ sym (if-true _ _ _ l)
-
-pub room-laid : (lay : Bool) (n size : ℕ) → (lay ≡ true → n ≤ size) → lay ≡ true → n ≤ size
-room-laid lay n size h l = h l
-
-pub puts-kept : (o : List ℕ) (at : ℕ) (bs q : List ℕ) → Puts o at bs q → length q ≡ length o
-puts-kept o at bs q p = p .kept
-
-pub ruleset inks = (ink-put-in, ink-in-kept, ink-puts, ink-not, room-laid, puts-kept, needs)
 
 -- ---- a control word
 
@@ -122,7 +109,7 @@ module _ (f i n : ℕ) (o : List ℕ) (at w : ℕ) (word : w ≡ wordOf f) (byte
     unit-word-room = omega arith
 
     long : length s ≡ n
-    long = ap length (part-cut from n bytes) ∙ length-part from n bytes inside
+    long = ap length (part-within from n bytes) ∙ length-part from n bytes inside
 
     module _ (q : List ℕ) (x : q ≡ putAt o at (controlWord f i n)) where
       kept : length q ≡ length o
@@ -138,7 +125,7 @@ module _ (f i n : ℕ) (o : List ℕ) (at w : ℕ) (word : w ≡ wordOf f) (byte
           ∙ ap (λ (l : List ℕ). putAt l (at + w) s) x
           ∙ ap (λ (k : ℕ). putAt (putAt o at (controlWord f i n)) (at + k) s) four
           ∙ put-put o at (controlWord f i n) s (omega (arith, length-control f i n))
-          ∙ ap (λ (l : List ℕ). putAt o at (controlWord f i n ++ l)) (part-cut from n bytes)
+          ∙ ap (λ (l : List ℕ). putAt o at (controlWord f i n ++ l)) (part-within from n bytes)
 
 pub ruleset units = (unit-word-room, unit-put, needs)
 

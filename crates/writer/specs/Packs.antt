@@ -2,7 +2,7 @@
 use mathlib.Core.Path.{_≡_}
 use mathlib.Core.Bool.{Bool, true, false}
 use mathlib.Core.List.{List, _++_}
-use Prim.Native.Nat.{ℕ, _+_, _-_, _≤_, _<_, min}
+use Prim.Native.Nat.{ℕ, _+_, _-_, _*_, _≤_, _<_, min}
 use lib.Dec.{ltb}
 use lib.ListN.{length, drop}
 use Rattle.base.specs.If.{ifB}
@@ -104,29 +104,6 @@ pub record Goes (lay : Bool) (f b : ℕ) (j : Job) (piece : List ℕ) (s : Flow)
   pub same : (zs : List ℕ) (xs : List (List ℕ)) (next : Next) → s .left + s .from ≡ length piece + length zs → Room f b xs
       → flowed lay f b j r q (drop (r .from) piece ++ zs) xs next ≡ flowed lay f b j s o (drop (s .from) piece ++ zs) xs next
 
--- the numbers of a flow within a unit
-pub record Unit (f b : ℕ) (s : Flow) : Type 0 where
-  pub inside : s .inside ≡ true
-  pub on : s .pen .on ≡ true
-  pub seg : s .seg ≤ s .left
-  pub done : s .seg ≡ 0 → s .left ≡ 0
-  pub split : (s .seg ≡ s .left → ⊥) → f ≡ 83
-  pub sized : (s .seg ≡ s .left → ⊥) → 6 ≤ b
-  pub fits : s .pen .used + s .seg ≤ b
-
--- from flow s between units to flow r within one; or a reel is lacking
-pub record Begun (lay : Bool) (f b : ℕ) (j : Job) (s : Flow) (o q : List ℕ) (r : Flow) : Type 0 where
-  pub sound : Sound j (r .pen)
-  pub kept : length q ≡ length o
-  pub untouched : lay ≡ false → q ≡ o
-  pub left : r .left ≡ s .left
-  pub from : r .from ≡ s .from
-  pub on : r .pen .short ≡ false → r .on ≡ true
-  pub off : r .pen .short ≡ true → r .on ≡ false
-  pub unit : r .pen .short ≡ false → Unit f b r
-  pub same : (x : List ℕ) (xs : List (List ℕ)) (next : Next) → length x ≡ s .left → Room f b xs
-      → flowed lay f b j r q x xs next ≡ flowed lay f b j s o x xs next
-
 -- a step whose code does not know the file: it goes, for whatever file
 pub record Steps (lay : Bool) (piece : List ℕ) (s : Flow) (o q : List ℕ) (r : Flow) : Type 0 where
   pub kept : length q ≡ length o
@@ -194,30 +171,18 @@ pub record Spelled (lay : Bool) (piece : List ℕ) (s : Flow) (o q : List ℕ) (
   pub is : r ≡ spelled (length piece) s
   pub laid : q ≡ inkAt lay o (s .pen .at + 3 + s .pen .used) (part (s .from) (manyOf (length piece) s) piece)
 
--- a flow behind some bytes of a unit
-pub record Endable (lay : Bool) (s : Flow) (size : ℕ) : Type 0 where
-  pub inside : s .inside ≡ true
-  pub closable : Closable lay (s .pen) size
-
--- where the unit ends, and the record goes on, its block is closed
-pub record Ended (lay : Bool) (s : Flow) (o q : List ℕ) (r : Flow) : Type 0 where
-  pub kept : length q ≡ length o
-  pub from : r .from ≡ s .from
-  pub on : r .on ≡ s .on
-  pub short : r .pen .short ≡ s .pen .short
-  pub settled : Settled r
-  pub out : r .inside ≡ false → 0 < r .left
-  pub goes : (f b : ℕ) (j : Job) (piece : List ℕ) → Flowing lay f b j piece s o → Goes lay f b j piece s o q r
+-- how many turns a flow still takes in a piece of n bytes, at most: for each byte one within a unit, one that begins a unit, and one that opens a block
+unfoldable pub turnsIn : ℕ → ℕ → ℕ → Flow → ℕ
+turnsIn f b n s = 3 * (n - s .from) + ifB (s .inside) 0 (ifB (entersOn f b (s .pen .on) (s .pen .used) (s .left)) 1 2)
 
 -- a turn; the piece is over where r is off
 pub record Turns (lay : Bool) (f b : ℕ) (j : Job) (piece : List ℕ) (s : Flow) (o q : List ℕ) (r : Flow) : Type 0 where
   pub goes : Goes lay f b j piece s o q r
   pub given : r .on ≡ true → r .pen .short ≡ false
   pub settled : r .pen .short ≡ false → Settled r
-  pub falls : r .on ≡ true → s .from < r .from
-  pub more : r .on ≡ true → r .from < length piece
+  pub falls : r .on ≡ true → turnsIn f b (length piece) r < turnsIn f b (length piece) s
   pub over : r .on ≡ false → r .pen .short ≡ false → r .from ≡ length piece
-  pub out : r .pen .short ≡ false → r .inside ≡ false → 0 < r .left
+  pub out : r .on ≡ false → r .pen .short ≡ false → r .inside ≡ false → 0 < r .left
 
 pub record Packable (lay : Bool) (f b : ℕ) (j : Job) (piece : List ℕ) (s : Flow) (o : List ℕ) : Type 0 where
   pub flowing : Flowing lay f b j piece s o

@@ -69,8 +69,3 @@ pub record Opens (lay : Bool) (j : Job) (p : Pen) (o q : List ℕ) (r : Pen) : T
 abbrev pub opened : Pen → Pen
 opened p =
     record { at = p .at; used = 0; room = p .room - 1; next = p .next; section = p .section; count = p .count + 1; on = true; short = false }
-
--- pen p on the next reel, with that room
-abbrev pub nextReel : ℕ → Pen → Pen
-nextReel room p =
-    record { at = p .at + 430; used = 0; room = room; next = p .next + 1; section = p .section + 1; count = 0; on = false; short = false }

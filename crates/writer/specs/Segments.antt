@@ -30,7 +30,3 @@ pub record Segmented (bytes : List ℕ) (c : Cursor) (x : List ℕ) (g : Segment
   pub inside : g .at ≤ length bytes
   pub goes : 0 < length rest → GoesOn bytes (behindOf c g)
   pub same : 0 < length rest → rest ≡ bytesBehind bytes (behindOf c g)
-
--- a flow at the beginning of the next segment
-abbrev pub reset : Flow → Flow
-reset r = record { pen = r .pen; left = r .left; seg = r .seg; from = 0; begun = r .begun; inside = r .inside; on = true }

@@ -5,16 +5,17 @@ use mathlib.Core.Bool.{Bool, true, false}
 use mathlib.Core.List.{List, [], _∷_, _++_}
 use Prim.Native.Nat.{ℕ, suc, _+_, _*_, _≤_, _<_}
 use lib.Dec.{ltb}
-use lib.ListN.{length, drop}
+use lib.ListN.{length, drop, getD}
 use Rattle.base.specs.If.{ifB}
+use Rattle.base.specs.Part.{part}
 use Rattle.base.specs.Sum.{sum}
 use Rattle.image.specs.Item.{block, mark, reelEnd, encode}
 use Rattle.image.specs.Framing.{head}
 use Rattle.label.specs.Made.{madeVolume}
-use Rattle.volume.specs.Meaning.{File, Meaning, content}
+use Rattle.volume.specs.Meaning.{File, Meaning, fieldsFrom, content}
 use Rattle.sheet.specs.Legal.{Sheet, legalFiles, legalNames, legalQuota}
 use Rattle.sheet.specs.Flat.{inParts, filesFrom}
-use Rattle.content.specs.File.{nextFile, fileBehind}
+use Rattle.content.specs.File.{fileBehind}
 use Rattle.content.specs.Walked.{Filed as Met}
 use Rattle.content.specs.declared.Walk.{Walk}
 use Rattle.content.specs.declared.FileAt.{FileAt}
@@ -26,7 +27,7 @@ use Rattle.writer.specs.declared.source.Cursor.{Cursor}
 use Rattle.writer.specs.declared.body.Body.{Body}
 use Rattle.writer.specs.declared.set.Place.{Place}
 use Rattle.writer.specs.declared.set.Filing.{Filing}
-use Rattle.writer.specs.Pass.{reelsAt, Reels, laidFrom, imageFrom, Fits, Between}
+use Rattle.writer.specs.Pass.{entryIn, sequenceIn, setIn, namesIn, reelsAt, Reels, laidFrom, imageFrom, Fits, Between}
 
 -- where files come from: the entries and counts of a sheet, or an image
 pub data Origin : Type 0 where
@@ -74,28 +75,46 @@ listedAt byte count stop = record { at = byte; left = count; stop = stop; offset
 abbrev pub walkAt : Walk → Cursor
 walkAt w = record { at = w .at; left = w .left; stop = 0; offset = w .offset; size = w .size; format = w .format; image = true }
 
--- where the laying of files is behind the file of that number of a sheet, of n files
-unfoldable pub behindListed : FileAt → ℕ → ℕ → ℕ → Body → Filing
-behindListed f i stop n x =
-    record {
-      on = ifB (x .pen .short) false (ltb (i + 1) n);
-      place = record { nth = i + 1; first = stop; byte = x .end; file = f };
-      pen = x .pen;
-    }
+-- the cursor at the first record of the file at a place; of a sheet it ends within its n lengths
+unfoldable pub cursorAt : Bool → List ℕ → Place → Cursor
+cursorAt image counts g = ifB image (walkAt (g .file .walk)) (listedAt (g .byte) (getD counts (g .nth) 0) (g .first + getD counts (g .nth) 0))
 
--- unless a reel is lacking, the next file of an image is found from where the records of this one end
-pub record Over (bytes : List ℕ) (f : FileAt) (x : Body) : Type 0 where
-  pub within : x .pen .short ≡ false → x .end ≤ length bytes
-  pub next : x .pen .short ≡ false → fileBehind bytes f (x .end) ≡ nextFile bytes f
+pub record Countable (image : Bool) (counts : List ℕ) (n : ℕ) (g : Place) : Type 0 where
+  pub nth : image ≡ false → g .nth < length counts
+  pub stop : image ≡ false → g .first + getD counts (g .nth) 0 ≤ n
 
--- the file that follows one of an image: none where a reel is lacking
-unfoldable pub followed : List ℕ → FileAt → Pen → NextFile
-followed bytes f p = ifB (p .short) Nowhere (nextFile bytes f)
+-- the entry of the file at a place, which stands within so many bytes
+unfoldable pub entryAt : Bool → List ℕ → List ℕ → Place → List ℕ
+entryAt image files bytes g = ifB image (fieldsFrom (part (g .file .first) 80 bytes) (part (g .file .second) 80 bytes)) (part (46 * g .nth) 46 files)
 
--- where the laying of files is behind the file of that number of an image, by the one that follows
-unfoldable pub behindRead : FileAt → ℕ → Pen → NextFile → Filing
-behindRead f i p (At h) = record { on = true; place = record { nth = i + 1; first = 0; byte = 0; file = h }; pen = p }
-behindRead f i p Nowhere = record { on = false; place = record { nth = i + 1; first = 0; byte = 0; file = f }; pen = p }
+pub record Enterable (image : Bool) (entries size : ℕ) (g : Place) : Type 0 where
+  pub few : g .nth < 64
+  pub listed : image ≡ false → 46 * g .nth + 46 ≤ entries
+  pub first : image ≡ true → g .file .first + 80 ≤ size
+  pub second : image ≡ true → g .file .second + 80 ≤ size
+
+-- a row with that entry and number, and otherwise as before
+pub record Entered (labels e : List ℕ) (n : ℕ) (r : List ℕ) : Type 0 where
+  pub entry : entryIn r ≡ e
+  pub sequence : sequenceIn r ≡ n
+  pub others : drop 47 r ≡ drop 47 labels
+
+-- the place behind a file, with the next of an image
+abbrev pub passed : Place → ℕ → Body → FileAt → Place
+passed g stop x f = record { nth = g .nth + 1; first = stop; byte = x .end; file = f }
+
+-- where the laying of files is there
+abbrev pub filingAt : Bool → Place → ℕ → Body → FileAt → Filing
+filingAt on g stop x f = record { on = on; place = passed g stop x f; pen = x .pen }
+
+unfoldable pub followedBy : Place → ℕ → Body → NextFile → Filing
+followedBy g stop x (At h) = filingAt true g stop x h
+followedBy g stop x Nowhere = filingAt false g stop x (g .file)
+
+unfoldable pub behindFile : Bool → List ℕ → List ℕ → Place → ℕ → Body → Filing
+behindFile image counts bytes g stop x =
+    ifB (x .pen .short) (filingAt false g stop x (g .file))
+    (ifB image (followedBy g stop x (fileBehind bytes (g .file) (x .end))) (filingAt (ltb (g .nth + 1) (length counts)) g stop x (g .file)))
 
 -- ---- all files
 
@@ -111,6 +130,11 @@ pub record Task : Type 0 where
 abbrev pub task : Origin → List ℕ → List ℕ → List ℕ → List ℕ → List ℕ → Task
 task from set lengths bytes rooms names =
     record { from = from; set = set; lengths = lengths; bytes = bytes; rooms = rooms; names = names }
+
+-- as the code holds it
+abbrev pub taskOf : Bool → List ℕ → List ℕ → List ℕ → List ℕ → List ℕ → List ℕ → Task
+taskOf image files counts lengths bytes labels rooms =
+    task (originOf image files counts) (setIn labels) lengths bytes rooms (namesIn (length rooms) labels)
 
 abbrev pub PlacedIn : Task → Place → Type 0
 PlacedIn t g = Placed (t .from) (t .set) (t .lengths) (t .bytes) g
@@ -209,3 +233,4 @@ pub record Ordered (from : Origin) (set lengths bytes : List ℕ) (g : Place) (q
   pub some : g .nth < totalOf from bytes
   pub room : legalQuota quota ≡ true
   pub named : legalNames (inParts 6 names) ≡ true
+  pub six : length set ≡ 6

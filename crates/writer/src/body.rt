@@ -1,10 +1,11 @@
 // The records of a file packed into blocks, one after the other, wherever they come from.
 ghost use mathlib.Core.Path.{_≡_};
 ghost use Rattle.block.specs.Unit.{wordOf};
-ghost use Rattle.writer.specs.Pass.{job};
+ghost use Rattle.writer.specs.Pass.{jobOf};
 ghost use Rattle.writer.specs.Source.{movedTo, foundBytes};
 ghost use Rattle.writer.specs.Records.{mostOf, Recorded};
 ghost use Rattle.writer.specs.Bodies.{Takable, Bodied, BodyPut};
+use crate::item::Labels;
 use crate::pen::Pen;
 use crate::record::most_of;
 use crate::record::put_record;
@@ -47,36 +48,19 @@ fn put_found(
     bytes: &[u8],
     c: Cursor,
     r: Found,
-    set: &[u8],
-    entry: &[u8],
-    sequence: u32,
+    labels: &Labels,
     rooms: &[u64],
-    names: &[u8],
     p: Pen,
     out: &mut [u8],
     lay: bool,
 ) -> Pen
     requires { ⌜ w ≡ wordOf f ⌝ }
     requires { ⌜ most ≡ mostOf f ⌝ }
-    requires { ⌜ Takable lay f b (job (now set) (now entry) sequence (now rooms) (now names)) (now bytes) c r p (now out) ⌝ }
-    ensures { λ v. ⌜ Recorded lay f b (job (now (set .entry)) (now (entry .entry)) sequence (now (rooms .entry)) (now (names .entry))) (foundBytes (now (bytes .entry)) c r) p (now (out .entry)) (now (out .exit)) v ⌝ }
+    requires { ⌜ Takable lay f b (jobOf (now labels) (now rooms)) (now bytes) c r p (now out) ⌝ }
+    ensures { λ v. ⌜ Recorded lay f b (jobOf (now (labels .entry)) (now (rooms .entry))) (foundBytes (now (bytes .entry)) c r) p (now (out .entry)) (now (out .exit)) v ⌝ }
 {
     if r.kind == SPLIT {
-        return put_split(
-            f,
-            b,
-            bytes,
-            c,
-            r.len,
-            set,
-            entry,
-            sequence,
-            rooms,
-            names,
-            p,
-            out,
-            lay,
-        );
+        return put_split(f, b, bytes, c, r.len, labels, rooms, p, out, lay);
     }
     put_record(
         f,
@@ -86,11 +70,8 @@ fn put_found(
         bytes,
         r.from,
         r.len,
-        set,
-        entry,
-        sequence,
+        labels,
         rooms,
-        names,
         p,
         out,
         lay,
@@ -104,17 +85,14 @@ pub(crate) fn put_records(
     lengths: &[u64],
     bytes: &[u8],
     first: Cursor,
-    set: &[u8],
-    entry: &[u8],
-    sequence: u32,
+    labels: &Labels,
     rooms: &[u64],
-    names: &[u8],
     p: Pen,
     out: &mut [u8],
     lay: bool,
 ) -> Body
-    requires { ⌜ Bodied lay f b (job (now set) (now entry) sequence (now rooms) (now names)) (now lengths) (now bytes) first p (now out) ⌝ }
-    ensures { λ r. ⌜ BodyPut lay f b (job (now (set .entry)) (now (entry .entry)) sequence (now (rooms .entry)) (now (names .entry))) (now (lengths .entry)) (now (bytes .entry)) first p (now (out .entry)) (now (out .exit)) r ⌝ }
+    requires { ⌜ Bodied lay f b (jobOf (now labels) (now rooms)) (now lengths) (now bytes) first p (now out) ⌝ }
+    ensures { λ r. ⌜ BodyPut lay f b (jobOf (now (labels .entry)) (now (rooms .entry))) (now (lengths .entry)) (now (bytes .entry)) first p (now (out .entry)) (now (out .exit)) r ⌝ }
 {
     let w = word_of(f);
     let most = most_of(f);
@@ -128,23 +106,7 @@ pub(crate) fn put_records(
                 end: stop_of(lengths, bytes, c),
             };
         }
-        pen = put_found(
-            f,
-            b,
-            w,
-            most,
-            bytes,
-            c,
-            r,
-            set,
-            entry,
-            sequence,
-            rooms,
-            names,
-            pen,
-            out,
-            lay,
-        );
+        pen = put_found(f, b, w, most, bytes, c, r, labels, rooms, pen, out, lay);
         if pen.short {
             return Body { pen, end: 0 };
         }

@@ -1,20 +1,17 @@
 // A file laid down on reels: its header labels, its records in blocks, and its trailer labels. It knows nothing of the files before and behind.
 ghost use mathlib.Core.Path.{_≡_};
-ghost use mathlib.Core.Bool.{true};
-ghost use Prim.Native.Nat.{_+_, _≤_};
 ghost use lib.ListN.{length};
-ghost use Rattle.image.specs.Item.{encode};
-ghost use Rattle.sheet.specs.Legal.{formatFrom, blockLengthFrom};
-ghost use Rattle.writing.specs.Lay.{headers, fileEnd};
-ghost use Rattle.writer.specs.Pass.{inkAt, job};
-ghost use Rattle.writer.specs.Files.{Beginnable, Begins, Endable, Ends, Tailable, Tailed, FileReady, FilePut};
-ghost use Rattle.writer.specs.Bodies.{Bodied, BodyPut};
+ghost use Rattle.sheet.specs.Legal.{blockLengthFrom};
+ghost use Rattle.writer.specs.Pass.{entryIn, sequenceIn, setIn, jobOf};
+ghost use Rattle.writer.specs.Files.{Beginnable, Begins, Tailable, Tailed, FileReady, FilePut};
 use crate::body::Body;
 use crate::body::put_records;
+use crate::item::ENTRY;
 use crate::item::FILE_END;
 use crate::item::HEADERS;
-use crate::item::put_file_end;
-use crate::item::put_headers;
+use crate::item::Labels;
+use crate::item::put_pair;
+use crate::item::put_trailers;
 use crate::pen::Pen;
 use crate::pen::close;
 use crate::source::Cursor;
@@ -23,42 +20,12 @@ use charset::Number;
 use charset::number_in;
 use sheet::format_in;
 
-// Writes the header labels of a file's first section, where the pass lays.
-fn lay_headers(out: &mut [u8], at: usize, set: &[u8], entry: &[u8], sequence: u32, lay: bool)
-    requires { ⌜ (lay ≡ true → at + 169 ≤ length (now out)) ⌝ }
-    ensures { λ _. ⌜ now (out .exit) ≡ inkAt lay (now (out .entry)) at (encode (headers (now (set .entry)) (now (entry .entry)) 1 sequence)) ⌝ }
-{
-    if lay {
-        put_headers(out, at, set, entry, 1, sequence);
-    }
-}
-
-// Writes the trailer labels of a file's last section, where the pass lays.
-fn lay_file_end(
-    out: &mut [u8],
-    at: usize,
-    set: &[u8],
-    entry: &[u8],
-    section: u32,
-    sequence: u32,
-    count: u32,
-    lay: bool,
-)
-    requires { ⌜ (lay ≡ true → at + 172 ≤ length (now out)) ⌝ }
-    ensures { λ _. ⌜ now (out .exit) ≡ inkAt lay (now (out .entry)) at (encode (fileEnd (now (set .entry)) (now (entry .entry)) section sequence count)) ⌝ }
-{
-    if lay {
-        put_file_end(out, at, set, entry, section, sequence, count);
-    }
-}
-
 // Begins a file on the reel of a pen.
-fn begin_file(set: &[u8], entry: &[u8], sequence: u32, p: Pen, out: &mut [u8], lay: bool) -> Pen
+fn begin_file(labels: &Labels, p: Pen, out: &mut [u8], lay: bool) -> Pen
     requires { ⌜ Beginnable lay p (length (now out)) ⌝ }
-    ensures { λ r. ⌜ Begins lay (now (set .entry)) (now (entry .entry)) sequence p (now (out .entry)) (now (out .exit)) r ⌝ }
+    ensures { λ r. ⌜ Begins lay (setIn (now (labels .entry))) (entryIn (now (labels .entry))) (sequenceIn (now (labels .entry))) p (now (out .entry)) (now (out .exit)) r ⌝ }
 {
-    lay_headers(out, p.at, set, entry, sequence, lay);
-    Pen {
+    let r = Pen {
         at: p.at + HEADERS,
         used: 0,
         room: p.room,
@@ -67,17 +34,24 @@ fn begin_file(set: &[u8], entry: &[u8], sequence: u32, p: Pen, out: &mut [u8], l
         count: 0,
         on: false,
         short: false,
+    };
+    if lay {
+        put_pair(out, p.at, b"HDR1", b"HDR2", labels, 1, 0);
     }
+    r
 }
 
-// Ends a file whose records are packed: the open block is closed, and the trailer labels follow.
-fn end_file(set: &[u8], entry: &[u8], sequence: u32, p: Pen, out: &mut [u8], lay: bool) -> Pen
-    requires { ⌜ Endable lay p (length (now out)) ⌝ }
-    ensures { λ r. ⌜ Ends lay (now (set .entry)) (now (entry .entry)) sequence p (now (out .entry)) (now (out .exit)) r ⌝ }
+// Ends a file whose records are packed, unless a reel is lacking: the open block is closed, and the trailer labels follow.
+fn put_end(labels: &Labels, x: Body, out: &mut [u8], lay: bool) -> Body
+    requires { ⌜ Tailable lay x (length (now out)) ⌝ }
+    ensures { λ r. ⌜ Tailed lay (setIn (now (labels .entry))) (entryIn (now (labels .entry))) (sequenceIn (now (labels .entry))) x (now (out .entry)) (now (out .exit)) r ⌝ }
 {
+    let p = x.pen;
+    if p.short {
+        return x;
+    }
     let c = close(p, out, lay);
-    lay_file_end(out, c.at, set, entry, c.section, sequence, c.count, lay);
-    Pen {
+    let pen = Pen {
         at: c.at + FILE_END,
         used: 0,
         room: c.room,
@@ -86,7 +60,12 @@ fn end_file(set: &[u8], entry: &[u8], sequence: u32, p: Pen, out: &mut [u8], lay
         count: c.count,
         on: false,
         short: false,
+    };
+    let r = Body { pen, end: x.end };
+    if lay {
+        put_trailers(out, c.at, b"EOF1", b"EOF2", labels, c.section, c.count);
     }
+    r
 }
 
 // The block length of a file's entry.
@@ -100,85 +79,24 @@ fn block_length_in(entry: &[u8]) -> usize
     }
 }
 
-// Packs the records of a file, whose entry says their format and the length of its blocks.
-fn put_body(
-    lengths: &[u64],
-    bytes: &[u8],
-    c: Cursor,
-    set: &[u8],
-    entry: &[u8],
-    sequence: u32,
-    rooms: &[u64],
-    names: &[u8],
-    p: Pen,
-    out: &mut [u8],
-    lay: bool,
-) -> Body
-    requires { ⌜ Bodied lay (formatFrom (now entry)) (blockLengthFrom (now entry)) (job (now set) (now entry) sequence (now rooms) (now names)) (now lengths) (now bytes) c p (now out) ⌝ }
-    ensures { λ r. ⌜ BodyPut lay (formatFrom (now (entry .entry))) (blockLengthFrom (now (entry .entry))) (job (now (set .entry)) (now (entry .entry)) sequence (now (rooms .entry)) (now (names .entry))) (now (lengths .entry)) (now (bytes .entry)) c p (now (out .entry)) (now (out .exit)) r ⌝ }
-{
-    let f = format_in(entry);
-    let b = block_length_in(entry);
-    put_records(
-        f,
-        b,
-        lengths,
-        bytes,
-        c,
-        set,
-        entry,
-        sequence,
-        rooms,
-        names,
-        p,
-        out,
-        lay,
-    )
-}
-
-// Ends a file behind its body, unless a reel is lacking.
-fn put_end(set: &[u8], entry: &[u8], sequence: u32, x: Body, out: &mut [u8], lay: bool) -> Body
-    requires { ⌜ Tailable lay x (length (now out)) ⌝ }
-    ensures { λ r. ⌜ Tailed lay (now (set .entry)) (now (entry .entry)) sequence x (now (out .entry)) (now (out .exit)) r ⌝ }
-{
-    let p = x.pen;
-    if p.short {
-        return x;
-    }
-    let pen = end_file(set, entry, sequence, p, out, lay);
-    Body { pen, end: x.end }
-}
-
-// Lays a file: its header labels, its blocks, and its trailer labels.
+// Lays a file: its header labels, its blocks, and its trailer labels. Its entry says the format of its records and the length of its blocks.
 pub(crate) fn put_file(
     lengths: &[u64],
     bytes: &[u8],
     c: Cursor,
-    set: &[u8],
-    entry: &[u8],
-    sequence: u32,
+    labels: &Labels,
     rooms: &[u64],
-    names: &[u8],
     p: Pen,
     out: &mut [u8],
     lay: bool,
 ) -> Body
-    requires { ⌜ FileReady lay (job (now set) (now entry) sequence (now rooms) (now names)) (now lengths) (now bytes) c p (now out) ⌝ }
-    ensures { λ r. ⌜ FilePut lay (job (now (set .entry)) (now (entry .entry)) sequence (now (rooms .entry)) (now (names .entry))) (now (lengths .entry)) (now (bytes .entry)) c p (now (out .entry)) (now (out .exit)) r ⌝ }
+    requires { ⌜ FileReady lay (jobOf (now labels) (now rooms)) (now lengths) (now bytes) c p (now out) ⌝ }
+    ensures { λ r. ⌜ FilePut lay (jobOf (now (labels .entry)) (now (rooms .entry))) (now (lengths .entry)) (now (bytes .entry)) c p (now (out .entry)) (now (out .exit)) r ⌝ }
 {
-    let h = begin_file(set, entry, sequence, p, out, lay);
-    let x = put_body(
-        lengths,
-        bytes,
-        c,
-        set,
-        entry,
-        sequence,
-        rooms,
-        names,
-        h,
-        out,
-        lay,
-    );
-    put_end(set, entry, sequence, x, out, lay)
+    let entry = part_of(labels, 0, ENTRY);
+    let f = format_in(entry);
+    let b = block_length_in(entry);
+    let h = begin_file(labels, p, out, lay);
+    let x = put_records(f, b, lengths, bytes, c, labels, rooms, h, out, lay);
+    put_end(labels, x, out, lay)
 }

@@ -32,47 +32,18 @@ pub(crate) fn copy_to(out: &mut [u8], at: usize, s: &[u8])
     }
 }
 
-// A length as three bytes, the high byte first.
-fn three_bytes(n: usize) -> [u8; 3]
-    requires { ⌜ n < overLong ⌝ }
-    ensures { λ r. ⌜ r ≡ three n ⌝ }
-{
-    [(n / 65536) as u8, (n / 256 % 256) as u8, (n % 256) as u8]
-}
-
-// Writes a length word.
+// Writes a length word, the high byte first.
 pub(crate) fn put_length(out: &mut [u8], at: usize, n: usize)
     requires { ⌜ n < overLong ⌝ }
     requires { ⌜ at + 3 ≤ length (now out) ⌝ }
     ensures { λ _. ⌜ Puts (now (out .entry)) at (three n) (now (out .exit)) ⌝ }
 {
-    let w = three_bytes(n);
+    let w = [(n / 65536) as u8, (n / 256 % 256) as u8, (n % 256) as u8];
     copy_to(out, at, &w);
 }
 
-// Writes bytes.
-pub(crate) fn lay_bytes(out: &mut [u8], at: usize, s: &[u8], lay: bool)
-    requires { ⌜ (lay ≡ true → at + length (now s) ≤ length (now out)) ⌝ }
-    ensures { λ _. ⌜ now (out .exit) ≡ inkAt lay (now (out .entry)) at (now (s .entry)) ⌝ }
-{
-    if lay {
-        put_in(out, at, s);
-    }
-}
-
-// Writes the length word of a block.
-pub(crate) fn lay_length(out: &mut [u8], at: usize, n: usize, lay: bool)
-    requires { ⌜ n < overLong ⌝ }
-    requires { ⌜ (lay ≡ true → at + 3 ≤ length (now out)) ⌝ }
-    ensures { λ _. ⌜ now (out .exit) ≡ inkAt lay (now (out .entry)) at (three n) ⌝ }
-{
-    if lay {
-        put_length(out, at, n);
-    }
-}
-
 // Writes the control word of a unit of k bytes with indicator i.
-fn put_word(out: &mut [u8], at: usize, f: u8, i: u8, k: usize)
+pub(crate) fn put_word(out: &mut [u8], at: usize, f: u8, i: u8, k: usize)
     requires { ⌜ i ≤ 3 ⌝ }
     requires { ⌜ k ≤ 99999 ⌝ }
     requires { ⌜ at + wordOf f ≤ length (now out) ⌝ }
@@ -88,18 +59,6 @@ fn put_word(out: &mut [u8], at: usize, f: u8, i: u8, k: usize)
     }
     out[at] = b'0' + i;
     copy_to(out, at + 1, &d);
-}
-
-// The same where the pass lays.
-pub(crate) fn lay_word(out: &mut [u8], at: usize, f: u8, i: u8, k: usize, lay: bool)
-    requires { ⌜ i ≤ 3 ⌝ }
-    requires { ⌜ k ≤ 99999 ⌝ }
-    requires { ⌜ (lay ≡ true → at + wordOf f ≤ length (now out)) ⌝ }
-    ensures { λ _. ⌜ now (out .exit) ≡ inkAt lay (now (out .entry)) at (controlWord f i k) ⌝ }
-{
-    if lay {
-        put_word(out, at, f, i, k);
-    }
 }
 
 // Writes a unit of n bytes, its control word before it.

@@ -15,22 +15,24 @@ mod unit; // unit.rt: the numbers of a unit
 ghost use mathlib.Core.Path.{_≡_};
 ghost use Rattle.output.specs.Output.{Answers, AnswersAt};
 ghost use Rattle.volume.specs.Run.{imageVerdict};
-ghost use Rattle.sheet.specs.Flat.{sheetNumber, sheetOf, reelsNumber};
-ghost use Rattle.content.specs.File.{firstFile};
-ghost use Rattle.content.specs.declared.NextFile.the-variants.{At};
+ghost use Rattle.sheet.specs.Flat.{reelsNumber};
 ghost use Rattle.writing.specs.Write.{flat, storedLaid, writeSheet, write as writing};
 ghost use Rattle.writing.specs.Rewrite.{sheetFrom, rewrite as rewriting};
-ghost use Rattle.writer.specs.Sets.{originOf, task, Writable, setLaid, sheetAt, Ordered};
+ghost use Rattle.writer.specs.Sets.{originOf, taskOf, Writable, setLaid, sheetAt, Ordered};
 use base::part_of;
 use content::FileAt;
 use content::NextFile;
 use content::Walk;
 use content::first_file;
+use item::Labels;
+use item::NAME;
+use item::NAMES;
+use item::SET;
+use item::with_part;
 use label::set_of;
 use output::Written;
 use output::done;
 use output::refusal;
-use pen::NAME;
 use set::LABEL;
 use set::Place;
 use set::lay_set;
@@ -44,30 +46,28 @@ const OVER_LONG: usize = 16777216;
 // Writes a set on reels with rooms, its files from the first on. A first pass finds its reels and its length before the first byte is written; the second
 // writes, and asks for no room.
 fn write_set(
-    set: &[u8],
     files: &[u8],
     counts: &[u64],
     lengths: &[u64],
     bytes: &[u8],
     image: bool,
     start: Place,
+    labels: Labels,
     rooms: &[u64],
-    names: &[u8],
     out: &mut [u8],
 ) -> Written
-    requires { ⌜ Writable (task (originOf image (now files) (now counts)) (now set) (now lengths) (now bytes) (now rooms) (now names)) start ⌝ }
-    ensures { λ r. ⌜ Answers (storedLaid (setLaid (task (originOf image (now (files .entry)) (now (counts .entry))) (now (set .entry)) (now (lengths .entry)) (now (bytes .entry)) (now (rooms .entry)) (now (names .entry))) start) (now (out .entry))) r (now (out .exit)) ⌝ }
+    requires { ⌜ Writable (taskOf image (now files) (now counts) (now lengths) (now bytes) labels (now rooms)) start ⌝ }
+    ensures { λ r. ⌜ Answers (storedLaid (setLaid (taskOf image (now (files .entry)) (now (counts .entry)) (now (lengths .entry)) (now (bytes .entry)) labels (now (rooms .entry))) start) (now (out .entry))) r (now (out .exit)) ⌝ }
 {
     let m = lay_set(
-        set,
         files,
         counts,
         lengths,
         bytes,
         image,
         start,
+        labels,
         rooms,
-        names,
         out,
         false,
     );
@@ -82,15 +82,14 @@ fn write_set(
         return refusal(10);
     }
     lay_set(
-        set,
         files,
         counts,
         lengths,
         bytes,
         image,
         start,
+        labels,
         rooms,
-        names,
         out,
         true,
     );
@@ -113,24 +112,26 @@ fn write_quota(
     requires { ⌜ Ordered (originOf image (now files) (now counts)) (now set) (now lengths) (now bytes) start quota (now names) ⌝ }
     ensures { λ r. ⌜ Answers (writeSheet (sheetAt (originOf image (now (files .entry)) (now (counts .entry))) (now (set .entry)) (now (lengths .entry)) (now (bytes .entry)) start quota (now (names .entry))) (now (out .entry))) r (now (out .exit)) ⌝ }
 {
+    let blank = [0u8; 149];
+    let titled = with_part(blank, SET, set);
+    let labels = with_part(titled, NAMES, names);
     let rooms = [quota; 16];
     let n = names.len() / NAME;
     write_set(
-        set,
         files,
         counts,
         lengths,
         bytes,
         image,
         start,
+        labels,
         &rooms[..n],
-        names,
         out,
     )
 }
 
-// Writes a legal sheet.
-fn write_legal(
+// Writes an order sheet into a lent buffer: 9, 11, 12, 14 or 10 with place 0, which change no byte of it, or 0 and the image's length.
+pub fn write(
     set: &[u8],
     files: &[u8],
     counts: &[u64],
@@ -140,9 +141,12 @@ fn write_legal(
     names: &[u8],
     out: &mut [u8],
 ) -> Written
-    requires { ⌜ sheetNumber (flat (now set) (now files) (now counts) (now lengths) (now bytes) quota (now names)) ≡ 0 ⌝ }
-    ensures { λ r. ⌜ Answers (writeSheet (sheetOf (flat (now (set .entry)) (now (files .entry)) (now (counts .entry)) (now (lengths .entry)) (now (bytes .entry)) quota (now (names .entry)))) (now (out .entry))) r (now (out .exit)) ⌝ }
+    ensures { λ r. ⌜ Answers (writing (flat (now (set .entry)) (now (files .entry)) (now (counts .entry)) (now (lengths .entry)) (now (bytes .entry)) quota (now (names .entry))) (now (out .entry))) r (now (out .exit)) ⌝ }
 {
+    let n = sheet_number(set, files, counts, lengths, bytes, quota, names);
+    if n != 0 {
+        return refusal(n);
+    }
     let walk = Walk {
         format: 0,
         size: 0,
@@ -174,55 +178,6 @@ fn write_legal(
     )
 }
 
-// Writes an order sheet into a lent buffer: 9, 11, 12, 14 or 10 with place 0, which change no byte of it, or 0 and the image's length.
-pub fn write(
-    set: &[u8],
-    files: &[u8],
-    counts: &[u64],
-    lengths: &[u64],
-    bytes: &[u8],
-    quota: u64,
-    names: &[u8],
-    out: &mut [u8],
-) -> Written
-    ensures { λ r. ⌜ Answers (writing (flat (now (set .entry)) (now (files .entry)) (now (counts .entry)) (now (lengths .entry)) (now (bytes .entry)) quota (now (names .entry))) (now (out .entry))) r (now (out .exit)) ⌝ }
-{
-    let n = sheet_number(set, files, counts, lengths, bytes, quota, names);
-    if n != 0 {
-        return refusal(n);
-    }
-    write_legal(set, files, counts, lengths, bytes, quota, names, out)
-}
-
-// Writes the set of an accepted image, whose first file stands there.
-fn rewrite_from(image: &[u8], f: FileAt, quota: u64, names: &[u8], out: &mut [u8]) -> Written
-    requires { ⌜ imageVerdict (now image) .number ≡ 0 ⌝ }
-    requires { ⌜ reelsNumber quota (now names) ≡ 0 ⌝ }
-    requires { ⌜ firstFile (now image) ≡ At f ⌝ }
-    ensures { λ r. ⌜ Answers (writeSheet (sheetFrom (now (image .entry)) quota (now (names .entry))) (now (out .entry))) r (now (out .exit)) ⌝ }
-{
-    let none = [0u64; 1];
-    let start = Place {
-        nth: 0,
-        first: 0,
-        byte: 0,
-        file: f,
-    };
-    let set = set_of(part_of(image, f.first, LABEL));
-    write_quota(
-        set,
-        set,
-        &none,
-        &none,
-        image,
-        true,
-        start,
-        quota,
-        names,
-        out,
-    )
-}
-
 // Writes the set of an accepted image, by its files.
 fn rewrite_accepted(image: &[u8], quota: u64, names: &[u8], out: &mut [u8]) -> Written
     requires { ⌜ imageVerdict (now image) .number ≡ 0 ⌝ }
@@ -231,7 +186,28 @@ fn rewrite_accepted(image: &[u8], quota: u64, names: &[u8], out: &mut [u8]) -> W
 {
     match first_file(image) {
         NextFile::Nowhere => refusal(11),
-        NextFile::At(f) => rewrite_from(image, f, quota, names, out),
+        NextFile::At(f) => {
+            let none = [0u64; 1];
+            let start = Place {
+                nth: 0,
+                first: 0,
+                byte: 0,
+                file: f,
+            };
+            let set = set_of(part_of(image, f.first, LABEL));
+            write_quota(
+                set,
+                set,
+                &none,
+                &none,
+                image,
+                true,
+                start,
+                quota,
+                names,
+                out,
+            )
+        }
     }
 }
 

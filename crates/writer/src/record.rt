@@ -5,9 +5,10 @@ ghost use Prim.Native.Nat.{_≤_, _<_};
 ghost use lib.ListN.{length};
 ghost use Rattle.base.specs.Part.{part};
 ghost use Rattle.block.specs.Unit.{wordOf};
-ghost use Rattle.writer.specs.Pass.{job};
+ghost use Rattle.writer.specs.Pass.{jobOf};
 ghost use Rattle.writer.specs.Pens.{Closable};
 ghost use Rattle.writer.specs.Records.{mostOf, GoesIn, GoesNext, Wholable, Wholed, Turned, Recordable, Recorded, Somewhere, QuickBlock};
+use crate::item::Labels;
 use crate::lay::WORD;
 use crate::lay::lay_unit;
 use crate::pack::Flow;
@@ -115,17 +116,14 @@ fn put_slow(
     bytes: &[u8],
     from: usize,
     n: usize,
-    set: &[u8],
-    entry: &[u8],
-    sequence: u32,
+    labels: &Labels,
     rooms: &[u64],
-    names: &[u8],
     p: Pen,
     out: &mut [u8],
     lay: bool,
 ) -> Pen
-    requires { ⌜ Recordable lay f b (job (now set) (now entry) sequence (now rooms) (now names)) (now bytes) from n p (now out) ⌝ }
-    ensures { λ r. ⌜ Recorded lay f b (job (now (set .entry)) (now (entry .entry)) sequence (now (rooms .entry)) (now (names .entry))) (part from n (now (bytes .entry))) p (now (out .entry)) (now (out .exit)) r ⌝ }
+    requires { ⌜ Recordable lay f b (jobOf (now labels) (now rooms)) (now bytes) from n p (now out) ⌝ }
+    ensures { λ r. ⌜ Recorded lay f b (jobOf (now (labels .entry)) (now (rooms .entry))) (part from n (now (bytes .entry))) p (now (out .entry)) (now (out .exit)) r ⌝ }
 {
     let end = from + n;
     let first = Flow {
@@ -137,19 +135,7 @@ fn put_slow(
         inside: false,
         on: true,
     };
-    let s = put_pieces(
-        f,
-        b,
-        &bytes[from..end],
-        set,
-        entry,
-        sequence,
-        rooms,
-        names,
-        first,
-        out,
-        lay,
-    );
+    let s = put_pieces(f, b, &bytes[from..end], labels, rooms, first, out, lay);
     s.pen
 }
 
@@ -190,38 +176,21 @@ pub(crate) fn put_record(
     bytes: &[u8],
     from: usize,
     n: usize,
-    set: &[u8],
-    entry: &[u8],
-    sequence: u32,
+    labels: &Labels,
     rooms: &[u64],
-    names: &[u8],
     p: Pen,
     out: &mut [u8],
     lay: bool,
 ) -> Pen
     requires { ⌜ w ≡ wordOf f ⌝ }
     requires { ⌜ most ≡ mostOf f ⌝ }
-    requires { ⌜ Recordable lay f b (job (now set) (now entry) sequence (now rooms) (now names)) (now bytes) from n p (now out) ⌝ }
-    ensures { λ r. ⌜ Recorded lay f b (job (now (set .entry)) (now (entry .entry)) sequence (now (rooms .entry)) (now (names .entry))) (part from n (now (bytes .entry))) p (now (out .entry)) (now (out .exit)) r ⌝ }
+    requires { ⌜ Recordable lay f b (jobOf (now labels) (now rooms)) (now bytes) from n p (now out) ⌝ }
+    ensures { λ r. ⌜ Recorded lay f b (jobOf (now (labels .entry)) (now (rooms .entry))) (part from n (now (bytes .entry))) p (now (out .entry)) (now (out .exit)) r ⌝ }
 {
     let t = quick_block(f, b, w, most, bytes, from, n, p, out, lay);
     if t.ok {
         let q = t.pen;
         return put_whole(f, w, bytes, from, n, q, out, lay);
     }
-    put_slow(
-        f,
-        b,
-        bytes,
-        from,
-        n,
-        set,
-        entry,
-        sequence,
-        rooms,
-        names,
-        p,
-        out,
-        lay,
-    )
+    put_slow(f, b, bytes, from, n, labels, rooms, p, out, lay)
 }

@@ -2,10 +2,11 @@
 ghost use mathlib.Core.Path.{_≡_};
 ghost use Prim.Native.Nat.{_<_};
 ghost use Rattle.content.specs.Measure.{bytesBehind};
-ghost use Rattle.writer.specs.Pass.{job};
+ghost use Rattle.writer.specs.Pass.{jobOf};
 ghost use Rattle.writer.specs.Records.{Splittable, Recorded};
 ghost use Rattle.writer.specs.Source.{splitBytes, SplitHere};
-ghost use Rattle.writer.specs.Segments.{behindOf, GoesOn, Segmented, reset};
+ghost use Rattle.writer.specs.Segments.{behindOf, GoesOn, Segmented};
+use crate::item::Labels;
 use crate::pack::Flow;
 use crate::pack::put_pieces;
 use crate::pen::Pen;
@@ -69,22 +70,6 @@ fn next_of(bytes: &[u8], c: Cursor, g: Segment) -> Segment
     }
 }
 
-// The flow at the beginning of the next segment.
-fn reset(t: Flow) -> Flow
-    ensures { λ r. ⌜ r ≡ reset t ⌝ }
-{
-    let pen = t.pen;
-    Flow {
-        pen,
-        left: t.left,
-        seg: t.seg,
-        from: 0,
-        begun: t.begun,
-        inside: t.inside,
-        on: true,
-    }
-}
-
 // Packs the record of n bytes that stands at a cursor in several segments.
 pub(crate) fn put_split(
     f: u8,
@@ -92,17 +77,14 @@ pub(crate) fn put_split(
     bytes: &[u8],
     c: Cursor,
     n: usize,
-    set: &[u8],
-    entry: &[u8],
-    sequence: u32,
+    labels: &Labels,
     rooms: &[u64],
-    names: &[u8],
     p: Pen,
     out: &mut [u8],
     lay: bool,
 ) -> Pen
-    requires { ⌜ Splittable lay f b (job (now set) (now entry) sequence (now rooms) (now names)) (now bytes) c n p (now out) ⌝ }
-    ensures { λ r. ⌜ Recorded lay f b (job (now (set .entry)) (now (entry .entry)) sequence (now (rooms .entry)) (now (names .entry))) (splitBytes (now (bytes .entry)) c) p (now (out .entry)) (now (out .exit)) r ⌝ }
+    requires { ⌜ Splittable lay f b (jobOf (now labels) (now rooms)) (now bytes) c n p (now out) ⌝ }
+    ensures { λ r. ⌜ Recorded lay f b (jobOf (now (labels .entry)) (now (rooms .entry))) (splitBytes (now (bytes .entry)) c) p (now (out .entry)) (now (out .exit)) r ⌝ }
 {
     let mut g = first_of(bytes, c, n);
     let mut s = Flow {
@@ -117,19 +99,7 @@ pub(crate) fn put_split(
     loop {
         let from = g.from;
         let end = from + g.len;
-        let t = put_pieces(
-            f,
-            b,
-            &bytes[from..end],
-            set,
-            entry,
-            sequence,
-            rooms,
-            names,
-            s,
-            out,
-            lay,
-        );
+        let t = put_pieces(f, b, &bytes[from..end], labels, rooms, s, out, lay);
         let pen = t.pen;
         if pen.short {
             return pen;
@@ -137,7 +107,15 @@ pub(crate) fn put_split(
         if t.left == 0 {
             return pen;
         }
-        s = reset(t);
+        s = Flow {
+            pen,
+            left: t.left,
+            seg: t.seg,
+            from: 0,
+            begun: t.begun,
+            inside: t.inside,
+            on: true,
+        };
         g = next_of(bytes, c, g);
     }
 }

@@ -14,8 +14,20 @@ refusal-requires c κs = search images
 enum-known-f : tie.Need-enum-known-f
 enum-known-f c = search images
 
-rewrite-from-requires : tie.Need-rewrite-from-requires
-rewrite-from-requires c κs = search images
+part-of-requires : tie.Need-part-of-requires
+part-of-requires c κs = search images
+
+set-of-requires : tie.Need-set-of-requires
+set-of-requires c κs = search images
+
+slice-aggregate-write-quota : tie.Need-slice-aggregate-write-quota
+slice-aggregate-write-quota c = search images
+
+slice-aggregate-write-quota-2 : tie.Need-slice-aggregate-write-quota-2
+slice-aggregate-write-quota-2 c = search images
+
+write-quota-requires : tie.Need-write-quota-requires
+write-quota-requires c κs = search images
 
 returns : tie.Need-returns
 returns c = search images
@@ -34,7 +46,11 @@ rewrite-accepted-spec =
     enum-told
     refusal-requires
     enum-known-f
-    rewrite-from-requires
+    part-of-requires
+    set-of-requires
+    slice-aggregate-write-quota
+    slice-aggregate-write-quota-2
+    write-quota-requires
     returns
     same-length
     returns-2)

@@ -11,8 +11,8 @@ refusal-requires c κs = search writes
 returns : tie.Need-returns
 returns c = search writes
 
-write-legal-requires : tie.Need-write-legal-requires
-write-legal-requires c κs = search writes
+write-quota-requires : tie.Need-write-quota-requires
+write-quota-requires c κs = search writes
 
 same-length : tie.Need-same-length
 same-length c = search writes
@@ -27,6 +27,6 @@ write-spec =
     sheet-number-requires
     refusal-requires
     returns
-    write-legal-requires
+    write-quota-requires
     same-length
     returns-2)

@@ -35,7 +35,7 @@ returns-3 c = search answering
 
 lay-set-requires-2 : tie.Need-lay-set-requires-2
 lay-set-requires-2 c κs =
-    measured-ready _ _ _ _ _ (c .before .before .before .before .before .before .lay-set .ensures) (c .before .before .before .if1 .left) (c .before .before .if2 .left) (search needs) (c .before .before .before .before .before .before .before .before .before .before .before .before .before .before .before .before .pre)
+    measured-ready _ _ _ _ _ (c .before .before .before .before .before .before .lay-set .ensures) (c .before .before .before .if1 .left) (c .before .before .if2 .left) (search needs) (c .before .before .before .before .before .before .before .before .before .before .before .before .before .before .pre)
 
 done-requires : tie.Need-done-requires
 done-requires c κs = search answering

@@ -13,7 +13,7 @@ returns c = search taking
 
 put-record-requires : tie.Need-put-record-requires
 put-record-requires c κs =
-    (c .before .before .before .before .before .before .before .before .before .pre .0, (c .before .before .before .before .before .before .before .before .before .pre .1 .0, take-whole _ _ _ _ _ _ _ _ _ (c .before .before .before .before .before .before .before .before .before .pre .1 .1) (c .before .if1 .left)))
+    (c .before .before .before .before .before .before .pre .0, (c .before .before .before .before .before .before .pre .1 .0, take-whole _ _ _ _ _ _ _ _ _ (c .before .before .before .before .before .before .pre .1 .1) (c .before .if1 .left)))
 
 same-length-2 : tie.Need-same-length-2
 same-length-2 c = search taking

@@ -1,16 +1,16 @@
 use Rattle.writer.proofs.Bodies.{writing, Writing, writing-good, writing-takable}
 use lib.ListN.{length}
-use Rattle.writer.specs.Pass.{job}
+use Rattle.writer.specs.Pass.{jobOf}
 use Rattle.writer.specs.Source.{recordsOf}
 use Rattle.writer.proofs.body.put_records.Statement.{statement}
 use Rattle.writer.proofs.body.put_records.Tie as tie
 
 abbrev Inv-loop : tie.InvT-loop
-Inv-loop f b lengths bytes set entry sequence rooms names out₀ lay w most pen₀ c₀ out pen c =
-    Writing lay f b (job set entry sequence rooms names) lengths bytes c₀ pen₀ out₀ out pen c
+Inv-loop f b lengths bytes labels rooms out₀ lay w most pen₀ c₀ out pen c =
+    Writing lay f b (jobOf labels rooms) lengths bytes c₀ pen₀ out₀ out pen c
 
 abbrev μ-loop : tie.MeasureT-loop
-μ-loop f b lengths bytes set entry sequence rooms names out₀ lay w most pen₀ c₀ out pen c = length (recordsOf lengths bytes c)
+μ-loop f b lengths bytes labels rooms out₀ lay w most pen₀ c₀ out pen c = length (recordsOf lengths bytes c)
 
 word-of-requires : tie.Need-word-of-requires Inv-loop μ-loop
 word-of-requires c κs = search writing

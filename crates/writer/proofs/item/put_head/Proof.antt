@@ -2,14 +2,20 @@ use Rattle.writer.proofs.Items.{together}
 use Rattle.writer.proofs.item.put_head.Statement.{statement}
 use Rattle.writer.proofs.item.put_head.Tie as tie
 
+volume-label-requires : tie.Need-volume-label-requires
+volume-label-requires c κs = search together
+
 slice-aggregate-copy-to : tie.Need-slice-aggregate-copy-to
 slice-aggregate-copy-to c = search together
 
 copy-to-requires : tie.Need-copy-to-requires
 copy-to-requires c κs = search together
 
-put-volume-requires : tie.Need-put-volume-requires
-put-volume-requires c κs = search together
+slice-aggregate-put-label : tie.Need-slice-aggregate-put-label
+slice-aggregate-put-label c = search together
+
+put-label-requires : tie.Need-put-label-requires
+put-label-requires c κs = search together
 
 same-length : tie.Need-same-length
 same-length c = search together
@@ -20,4 +26,11 @@ returns c = search together
 pub put-head-spec : {M : Type 1} → statement M
 put-head-spec =
     tie.close
-    (tie.spec slice-aggregate-copy-to copy-to-requires put-volume-requires same-length returns)
+    (tie.spec
+    volume-label-requires
+    slice-aggregate-copy-to
+    copy-to-requires
+    slice-aggregate-put-label
+    put-label-requires
+    same-length
+    returns)

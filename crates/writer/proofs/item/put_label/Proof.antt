@@ -1,21 +1,21 @@
-use Rattle.writer.proofs.Items.{labels}
+use Rattle.writer.proofs.Items.{labelItems}
 use Rattle.writer.proofs.item.put_label.Statement.{statement}
 use Rattle.writer.proofs.item.put_label.Tie as tie
 
 put-length-requires : tie.Need-put-length-requires
-put-length-requires c κs = search labels
+put-length-requires c κs = search labelItems
 
 add-copy-to : tie.Need-add-copy-to
-add-copy-to c = search labels
+add-copy-to c = search labelItems
 
 copy-to-requires : tie.Need-copy-to-requires
-copy-to-requires c κs = search labels
+copy-to-requires c κs = search labelItems
 
 same-length : tie.Need-same-length
-same-length c = search labels
+same-length c = search labelItems
 
 returns : tie.Need-returns
-returns c = search labels
+returns c = search labelItems
 
 pub put-label-spec : {M : Type 1} → statement M
 put-label-spec =

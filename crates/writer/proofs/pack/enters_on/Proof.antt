@@ -1,4 +1,4 @@
-use Rattle.writer.proofs.Packs.{entering}
+use Rattle.writer.proofs.Blocks.{entering}
 use Rattle.writer.proofs.pack.enters_on.Statement.{statement}
 use Rattle.writer.proofs.pack.enters_on.Tie as tie
 

@@ -1,21 +1,9 @@
-use Rattle.writer.proofs.Packs.{heading}
+use Rattle.writer.proofs.Units.{heading}
 use Rattle.writer.proofs.pack.put_head.Statement.{statement}
 use Rattle.writer.proofs.pack.put_head.Tie as tie
 
 taken-requires : tie.Need-taken-requires
 taken-requires c κs = search heading
-
-indicator-requires : tie.Need-indicator-requires
-indicator-requires c κs = search heading
-
-add-lay-word : tie.Need-add-lay-word
-add-lay-word c = search heading
-
-add-lay-word-2 : tie.Need-add-lay-word-2
-add-lay-word-2 c = search heading
-
-lay-word-requires : tie.Need-lay-word-requires
-lay-word-requires c κs = search heading
 
 word-of-requires : tie.Need-word-of-requires
 word-of-requires c κs = search heading
@@ -23,22 +11,38 @@ word-of-requires c κs = search heading
 more-requires : tie.Need-more-requires
 more-requires c κs = search heading
 
+indicator-requires : tie.Need-indicator-requires
+indicator-requires c κs = search heading
+
+add-put-word : tie.Need-add-put-word
+add-put-word c = search heading
+
+add-put-word-2 : tie.Need-add-put-word-2
+add-put-word-2 c = search heading
+
+put-word-requires : tie.Need-put-word-requires
+put-word-requires c κs = search heading
+
 same-length : tie.Need-same-length
 same-length c = search heading
 
 returns : tie.Need-returns
 returns c = search heading
 
+returns-2 : tie.Need-returns-2
+returns-2 c = search heading
+
 pub put-head-spec : {M : Type 1} → statement M
 put-head-spec =
     tie.close
     (tie.spec
     taken-requires
-    indicator-requires
-    add-lay-word
-    add-lay-word-2
-    lay-word-requires
     word-of-requires
     more-requires
+    indicator-requires
+    add-put-word
+    add-put-word-2
+    put-word-requires
     same-length
-    returns)
+    returns
+    returns-2)

@@ -1,14 +1,14 @@
 use Rattle.writer.proofs.Packs.{packing, Packing, turnsLeft}
 use lib.ListN.{length}
-use Rattle.writer.specs.Pass.{job}
+use Rattle.writer.specs.Pass.{jobOf}
 use Rattle.writer.proofs.pack.put_pieces.Statement.{statement}
 use Rattle.writer.proofs.pack.put_pieces.Tie as tie
 
 abbrev Inv-loop : tie.InvT-loop
-Inv-loop f b piece set entry sequence rooms names out₀ lay s₀ out s = Packing lay f b (job set entry sequence rooms names) piece s₀ out₀ out s
+Inv-loop f b piece labels rooms out₀ lay s₀ out s = Packing lay f b (jobOf labels rooms) piece s₀ out₀ out s
 
 abbrev μ-loop : tie.MeasureT-loop
-μ-loop f b piece set entry sequence rooms names out₀ lay s₀ out s = turnsLeft (length piece) s
+μ-loop f b piece labels rooms out₀ lay s₀ out s = turnsLeft f b (length piece) s
 
 loop-holds : tie.Need-loop-holds Inv-loop μ-loop
 loop-holds c = search packing

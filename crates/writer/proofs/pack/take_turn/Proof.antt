@@ -1,4 +1,4 @@
-use Rattle.writer.proofs.Packs.{turning, turn-out}
+use Rattle.writer.proofs.Packs.{turning}
 use Rattle.writer.proofs.pack.take_turn.Statement.{statement}
 use Rattle.writer.proofs.pack.take_turn.Tie as tie
 
@@ -11,8 +11,11 @@ same-length c = search turning
 returns : tie.Need-returns
 returns c = search turning
 
-begin-unit-requires : tie.Need-begin-unit-requires
-begin-unit-requires c κs = search turning
+enters-on-requires : tie.Need-enters-on-requires
+enters-on-requires c κs = search turning
+
+put-head-requires : tie.Need-put-head-requires
+put-head-requires c κs = search turning
 
 same-length-2 : tie.Need-same-length-2
 same-length-2 c = search turning
@@ -20,14 +23,14 @@ same-length-2 c = search turning
 returns-2 : tie.Need-returns-2
 returns-2 c = search turning
 
-put-part-requires-2 : tie.Need-put-part-requires-2
-put-part-requires-2 c κs = search turning
+next-block-requires : tie.Need-next-block-requires
+next-block-requires c κs = search turning
 
 same-length-3 : tie.Need-same-length-3
 same-length-3 c = search turning
 
 returns-3 : tie.Need-returns-3
-returns-3 c = search (turn-out _ _ _ _ _ _ _ (c .before .before .before .before .before .before .before .before .before .before .before .before .before .before .before .before .before .pre))
+returns-3 c = search turning
 
 pub take-turn-spec : {M : Type 1} → statement M
 take-turn-spec =
@@ -36,9 +39,10 @@ take-turn-spec =
     put-part-requires
     same-length
     returns
-    begin-unit-requires
+    enters-on-requires
+    put-head-requires
     same-length-2
     returns-2
-    put-part-requires-2
+    next-block-requires
     same-length-3
     returns-3)

@@ -13,18 +13,18 @@ same-length c = search recording
 
 returns : tie.Need-returns
 returns c =
-    record-whole _ _ _ _ _ _ _ _ _ (c .before .before .before .before .before .before .before .before .before .before .before .before .before .before .before .before .pre .1 .1) _ _ (c .before .before .before .before .before .before .before .before .quick-block .ensures) _ _ (c .before .before .before .before .before .if1 .taken) (c .before .before .put-whole .ensures)
+    record-whole _ _ _ _ _ _ _ _ _ (c .before .before .before .before .before .before .before .before .before .before .before .before .before .pre .1 .1) _ _ (c .before .before .before .before .before .before .before .before .quick-block .ensures) _ _ (c .before .before .before .before .before .if1 .taken) (c .before .before .put-whole .ensures)
 
 put-slow-requires : tie.Need-put-slow-requires
 put-slow-requires c κs =
-    record-again _ _ _ _ _ _ _ _ _ (c .before .before .before .before .before .before .before .before .before .before .before .before .pre .1 .1) _ _ (c .before .before .before .before .quick-block .ensures) (c .before .if1 .left)
+    record-again _ _ _ _ _ _ _ _ _ (c .before .before .before .before .before .before .before .before .before .pre .1 .1) _ _ (c .before .before .before .before .quick-block .ensures) (c .before .if1 .left)
 
 same-length-2 : tie.Need-same-length-2
 same-length-2 c = search recording
 
 returns-2 : tie.Need-returns-2
 returns-2 c =
-    record-slow _ _ _ _ _ _ _ _ _ (c .before .before .before .before .before .before .before .before .before .before .before .before .before .before .before .pre .1 .1) _ _ (c .before .before .before .before .before .before .before .quick-block .ensures) _ _ (c .before .before .before .before .if1 .left) (c .before .before .put-slow .ensures)
+    record-slow _ _ _ _ _ _ _ _ _ (c .before .before .before .before .before .before .before .before .before .before .before .before .pre .1 .1) _ _ (c .before .before .before .before .before .before .before .quick-block .ensures) _ _ (c .before .before .before .before .if1 .left) (c .before .before .put-slow .ensures)
 
 pub put-record-spec : {M : Type 1} → statement M
 put-record-spec =

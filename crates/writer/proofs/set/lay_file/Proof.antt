@@ -1,26 +1,33 @@
-use Rattle.writer.proofs.Filing.{origins}
+use Rattle.writer.proofs.Origins.{placing, place-filed}
 use Rattle.writer.proofs.set.lay_file.Statement.{statement}
 use Rattle.writer.proofs.set.lay_file.Tie as tie
 
-lay-read-requires : tie.Need-lay-read-requires
-lay-read-requires c κs = search origins
+cursor-at-requires : tie.Need-cursor-at-requires
+cursor-at-requires c κs = search placing
+
+entered-requires : tie.Need-entered-requires
+entered-requires c κs = search placing
+
+put-file-requires : tie.Need-put-file-requires
+put-file-requires c κs = search placing
+
+behind-requires : tie.Need-behind-requires
+behind-requires c κs = search placing
 
 same-length : tie.Need-same-length
-same-length c = search origins
+same-length c = search placing
 
 returns : tie.Need-returns
-returns c = search origins
-
-lay-listed-requires : tie.Need-lay-listed-requires
-lay-listed-requires c κs = search origins
-
-same-length-2 : tie.Need-same-length-2
-same-length-2 c = search origins
-
-returns-2 : tie.Need-returns-2
-returns-2 c = search origins
+returns c =
+    place-filed _ _ _ _ _ _ _ _ _ _ _ (c .before .before .before .before .before .before .before .before .before .before .before .before .before .before .pre) _ (c .before .before .before .before .before .before .before .cursor-at .ensures) _ (c .before .before .before .before .before .before .entered .ensures) _ _ (c .before .before .before .put-file .ensures) _ (c .behind .ensures)
 
 pub lay-file-spec : {M : Type 1} → statement M
 lay-file-spec =
     tie.close
-    (tie.spec lay-read-requires same-length returns lay-listed-requires same-length-2 returns-2)
+    (tie.spec
+    cursor-at-requires
+    entered-requires
+    put-file-requires
+    behind-requires
+    same-length
+    returns)

@@ -1,15 +1,15 @@
 use Prim.Native.Nat.{_-_}
 use lib.ListN.{length}
-use Rattle.writer.specs.Pass.{job}
+use Rattle.writer.specs.Pass.{jobOf}
 use Rattle.writer.proofs.Splits.{splits, Splits, splits-goes, splits-more}
 use Rattle.writer.proofs.split.put_split.Statement.{statement}
 use Rattle.writer.proofs.split.put_split.Tie as tie
 
 abbrev Inv-loop : tie.InvT-loop
-Inv-loop f b bytes c n set entry sequence rooms names out₀ lay g₀ s₀ out g s = Splits lay f b (job set entry sequence rooms names) bytes c (s₀ .pen) out₀ g s out
+Inv-loop f b bytes c n labels rooms out₀ lay g₀ s₀ out g s = Splits lay f b (jobOf labels rooms) bytes c (s₀ .pen) out₀ g s out
 
 abbrev μ-loop : tie.MeasureT-loop
-μ-loop f b bytes c n set entry sequence rooms names out₀ lay g₀ s₀ out g s = length bytes - g .at
+μ-loop f b bytes c n labels rooms out₀ lay g₀ s₀ out g s = length bytes - g .at
 
 first-of-requires : tie.Need-first-of-requires Inv-loop μ-loop
 first-of-requires c κs = search splits
@@ -44,19 +44,16 @@ same-length-2 c = search splits
 returns-2 : tie.Need-returns-2 Inv-loop μ-loop
 returns-2 c = search splits
 
-reset-requires : tie.Need-reset-requires Inv-loop μ-loop
-reset-requires c κs = search splits
-
 next-of-requires : tie.Need-next-of-requires Inv-loop μ-loop
 next-of-requires c κs =
-    search (splits-goes _ _ _ _ _ _ _ _ _ _ _ (c .before .before .before .before .before .before .before .before .before .before .before .loop .inv) _ _ (c .before .before .before .before .before .before .before .put-pieces .ensures))
+    search (splits-goes _ _ _ _ _ _ _ _ _ _ _ (c .before .before .before .before .before .before .before .before .before .before .loop .inv) _ _ (c .before .before .before .before .before .before .put-pieces .ensures))
 
 loop-less : tie.Need-loop-less Inv-loop μ-loop
 loop-less c = search splits
 
 loop-again : tie.Need-loop-again Inv-loop μ-loop
 loop-again c =
-    search (splits-more _ _ _ _ _ _ _ _ _ _ _ (c .before .before .before .before .before .before .before .before .before .before .before .before .loop .inv) _ _ (c .before .before .before .before .before .before .before .before .put-pieces .ensures))
+    search (splits-more _ _ _ _ _ _ _ _ _ _ _ (c .before .before .before .before .before .before .before .before .before .before .before .loop .inv) _ _ (c .before .before .before .before .before .before .before .put-pieces .ensures))
 
 pub put-split-spec : {M : Type 1} → statement M
 put-split-spec =
@@ -75,7 +72,6 @@ put-split-spec =
     returns
     same-length-2
     returns-2
-    reset-requires
     next-of-requires
     loop-less
     loop-again)

@@ -1,0 +1,190 @@
+-- The file at a place, of a sheet or of an image: what each step of the code over it does. Assumes nothing.
+use mathlib.Core.Path.{_≡_, refl, sym, ap, _∙_, subst}
+use mathlib.Core.Bool.{Bool, true, false, false≢true}
+use mathlib.Core.List.{List}
+use Prim.Native.Nat.{ℕ, _+_, _*_, _^_, _≤_, _<_}
+use native.Mathlib.Omega.{arith}
+use borrow.Author.Needs.{needs}
+use mir.Val.{Fits as FitsIn}
+use mir.Syntax.{w64}
+use lib.Dec.{ltb}
+use lib.ListN.{length, getD}
+use Rattle.base.specs.If.{ifB, if-true, if-false}
+use Rattle.content.specs.File.{fileBehind}
+use Rattle.content.specs.declared.FileAt.{FileAt}
+use Rattle.content.specs.declared.NextFile.{NextFile}
+use Rattle.content.specs.declared.NextFile.the-variants.{At, Nowhere}
+use Rattle.writing.proofs.Packing.{by-test}
+use Rattle.writer.specs.declared.pen.Pen.{Pen}
+use Rattle.writer.specs.declared.source.Cursor.{Cursor}
+use Rattle.writer.specs.declared.body.Body.{Body}
+use Rattle.writer.specs.declared.set.Place.{Place}
+use Rattle.writer.specs.declared.set.Filing.{Filing}
+use Rattle.writer.specs.Pass.{Job, job, setIn, namesIn, jobOf}
+use Rattle.writer.specs.Files.{FileReady, FilePut}
+use Rattle.writer.specs.Sets.{Origin, listed, read, originOf, totalOf, listedAt, walkAt, cursorAt, Countable, entryAt, Enterable, Entered, filingAt, followedBy, behindFile, Task, task, taskOf, Fileable, OneFiled}
+use Rattle.writer.proofs.Rows.{row-ready, row-put}
+use Rattle.writer.proofs.FromSheet.{nth-small, stop-within, entry-within, entry-ready, listed-filed}
+use Rattle.writer.proofs.FromImage.{first-within, second-within, read-small, read-ready, read-filed, read-short}
+
+-- ---- the cursor
+
+module _ (image : Bool) (counts : List ℕ) (n : ℕ) (g : Place) where
+  pub cursor-read : image ≡ true → walkAt (g .file .walk) ≡ cursorAt image counts g
+  unfolding cursorAt
+  cursor-read i = sym (if-true _ _ _ i)
+
+  pub cursor-listed : (count : ℕ) → image ≡ false → count ≡ getD counts (g .nth) 0 → listedAt (g .byte) count (g .first + count) ≡ cursorAt image counts g
+  unfolding cursorAt
+  cursor-listed count i e = ap (λ (k : ℕ). listedAt (g .byte) k (g .first + k)) e ∙ sym (if-false _ _ _ i)
+
+  module _ (y : Countable image counts n g) (i : image ≡ false) where
+    pub cursor-nth : g .nth < length counts
+    cursor-nth = y .nth i
+
+    pub cursor-stop : (count : ℕ) → count ≡ getD counts (g .nth) 0 → n < 2 ^ 64 → FitsIn w64 (g .first + count)
+    cursor-stop count e l = record { fits = omega (arith, y .stop i) }
+
+pub ruleset cursors = (cursor-read, cursor-listed, cursor-nth, cursor-stop, needs)
+
+-- ---- the place behind
+
+module _ (image : Bool) (counts bytes : List ℕ) (g : Place) (stop : ℕ) (x : Body) where
+  pub behind-short : x .pen .short ≡ true → filingAt false g stop x (g .file) ≡ behindFile image counts bytes g stop x
+  unfolding behindFile
+  behind-short z = sym (if-true _ _ _ z)
+
+  module _ (z : x .pen .short ≡ false) where
+    pub behind-listed : image ≡ false → filingAt (ltb (g .nth + 1) (length counts)) g stop x (g .file) ≡ behindFile image counts bytes g stop x
+    unfolding behindFile
+    behind-listed i = sym (if-false _ _ _ z ∙ if-false _ _ _ i)
+
+    module _ (i : image ≡ true) (n : NextFile) (e : n ≡ fileBehind bytes (g .file) (x .end)) where
+      behind-read : followedBy g stop x n ≡ behindFile image counts bytes g stop x
+      unfolding behindFile
+      behind-read = ap (followedBy g stop x) e ∙ sym (if-false _ _ _ z ∙ if-true _ _ _ i)
+
+      pub behind-next : (h : FileAt) → n ≡ At h → filingAt true g stop x h ≡ behindFile image counts bytes g stop x
+      unfolding followedBy
+      behind-next h k = ap (followedBy g stop x) (sym k) ∙ behind-read
+
+      pub behind-last : n ≡ Nowhere → filingAt false g stop x (g .file) ≡ behindFile image counts bytes g stop x
+      unfolding followedBy
+      behind-last k = ap (followedBy g stop x) (sym k) ∙ behind-read
+
+pub ruleset behinds = (behind-short, behind-listed, behind-next, behind-last, needs)
+
+-- ---- the file
+
+module _ (lay image : Bool) (files counts lengths bytes labels rooms : List ℕ) (g : Place) (p : Pen) (o : List ℕ)
+    (y : Fileable lay (taskOf image files counts lengths bytes labels rooms) g p o) where
+  abbrev by : Origin → Task
+  by from = task from (setIn labels) lengths bytes rooms (namesIn (length rooms) labels)
+
+  abbrev names : List ℕ
+  names = namesIn (length rooms) labels
+
+  module _ (i : image ≡ true) where
+    is-read : originOf image files counts ≡ read
+    unfolding originOf
+    is-read = if-true _ _ _ i
+
+    from-image : Fileable lay (by read) g p o
+    from-image = subst (λ (f : Origin). Fileable lay (by f) g p o) is-read y
+
+  module _ (i : image ≡ false) where
+    is-listed : originOf image files counts ≡ listed files counts
+    unfolding originOf
+    is-listed = if-false _ _ _ i
+
+    from-sheet : Fileable lay (by (listed files counts)) g p o
+    from-sheet = subst (λ (f : Origin). Fileable lay (by f) g p o) is-listed y
+
+    nth-within : g .nth < length counts
+    unfolding totalOf
+    nth-within = from-sheet .more
+
+  pub place-small : g .nth < 64
+  place-small =
+      by-test image (λ i. read-small lay (setIn labels) lengths bytes rooms names g p o (from-image i))
+      (λ i. nth-small files counts (setIn labels) lengths bytes rooms names g (from-sheet i .placed) (nth-within i))
+
+  pub place-countable : Countable image counts (length lengths) g
+  place-countable =
+      record {
+        nth = nth-within;
+        stop = λ i. stop-within files counts (setIn labels) lengths bytes rooms names g (from-sheet i .placed) (nth-within i);
+      }
+
+  pub place-enterable : Enterable image (length files) (length bytes) g
+  place-enterable =
+      record {
+        few = place-small;
+        listed = λ i. entry-within files counts (setIn labels) lengths bytes rooms names g (from-sheet i .placed) (nth-within i);
+        first = λ i. first-within lay (setIn labels) lengths bytes rooms names g p o (from-image i);
+        second = λ i. second-within lay (setIn labels) lengths bytes rooms names g p o (from-image i);
+      }
+
+  module _ (c : Cursor) (k : c ≡ cursorAt image counts g) (r : List ℕ) (e : Entered labels (entryAt image files bytes g) (g .nth + 1) r) where
+    abbrev j : Job
+    j = job (setIn labels) (entryAt image files bytes g) (g .nth + 1) rooms names
+
+    read-at : image ≡ true → c ≡ walkAt (g .file .walk)
+    read-at i = k ∙ sym (cursor-read image counts 0 g i)
+
+    listed-at : image ≡ false → c ≡ listedAt (g .byte) (getD counts (g .nth) 0) (g .first + getD counts (g .nth) 0)
+    listed-at i = k ∙ sym (cursor-listed image counts 0 g (getD counts (g .nth) 0) i refl)
+
+    ready : FileReady lay j lengths bytes c p o
+    unfolding entryAt
+    ready =
+        by-test image
+        (λ i.
+        subst (λ (d : List ℕ). FileReady lay (job (setIn labels) d (g .nth + 1) rooms names) lengths bytes c p o) (sym (if-true _ _ _ i))
+        (read-ready lay (setIn labels) lengths bytes rooms names g p o (from-image i) c (read-at i)))
+        (λ i.
+        subst (λ (d : List ℕ). FileReady lay (job (setIn labels) d (g .nth + 1) rooms names) lengths bytes c p o) (sym (if-false _ _ _ i))
+        (entry-ready files counts (setIn labels) lengths bytes rooms names g (from-sheet i .placed) (nth-within i) _ _ refl refl c (listed-at i) lay p o (from-sheet i)))
+
+    pub place-ready : FileReady lay (jobOf r rooms) lengths bytes c p o
+    place-ready = row-ready labels (entryAt image files bytes g) (g .nth + 1) r rooms e lay lengths bytes c p o ready
+
+    module _ (q : List ℕ) (x : Body) (m : FilePut lay (jobOf r rooms) lengths bytes c p o q x) where
+      pub place-kept : length q ≡ length o
+      place-kept = m .kept
+
+      put : FilePut lay j lengths bytes c p o q x
+      put = row-put labels (entryAt image files bytes g) (g .nth + 1) r rooms e lay lengths bytes c p o q x m
+
+      filed-read : image ≡ true → OneFiled lay (by read) g p o q (behindFile image counts bytes g (c .stop) x)
+      unfolding entryAt
+      filed-read i =
+          let put′ = subst (λ (d : List ℕ). FilePut lay (job (setIn labels) d (g .nth + 1) rooms names) lengths bytes c p o q x) (if-true _ _ _ i) put in
+          by-test (x .pen .short)
+          (λ z.
+          subst (OneFiled lay (by read) g p o q) (behind-short image counts bytes g (c .stop) x z)
+          (read-short lay (setIn labels) lengths bytes rooms names g p o (from-image i) c (read-at i) q x put′ (c .stop) z))
+          (λ z.
+          subst (OneFiled lay (by read) g p o q) (behind-read image counts bytes g (c .stop) x z i (fileBehind bytes (g .file) (x .end)) refl)
+          (read-filed lay (setIn labels) lengths bytes rooms names g p o (from-image i) c (read-at i) q x put′ (c .stop) z))
+
+      filed-listed : image ≡ false → OneFiled lay (by (listed files counts)) g p o q (behindFile image counts bytes g (c .stop) x)
+      unfolding entryAt
+      filed-listed i =
+          let put′ = subst (λ (d : List ℕ). FilePut lay (job (setIn labels) d (g .nth + 1) rooms names) lengths bytes c p o q x) (if-false _ _ _ i) put in
+          listed-filed files counts (setIn labels) lengths bytes rooms names g (from-sheet i .placed) (nth-within i) _ (c .stop) refl (ap (λ (d : Cursor). d .stop) (listed-at i))
+          c (listed-at i ∙ ap (λ (n : ℕ). listedAt (g .byte) (getD counts (g .nth) 0) n) (sym (ap (λ (d : Cursor). d .stop) (listed-at i)))) lay p o q x _ put′ both
+        where
+          both : behindFile image counts bytes g (c .stop) x ≡ filingAt (ifB (x .pen .short) false (ltb (g .nth + 1) (length counts))) g (c .stop) x (g .file)
+          both =
+              by-test (x .pen .short)
+              (λ z. sym (behind-short image counts bytes g (c .stop) x z) ∙ ap (λ (b : Bool). filingAt b g (c .stop) x (g .file)) (sym (if-true _ _ _ z)))
+              (λ z. sym (behind-listed image counts bytes g (c .stop) x z i) ∙ ap (λ (b : Bool). filingAt b g (c .stop) x (g .file)) (sym (if-false _ _ _ z)))
+
+      pub place-filed : (v : Filing) → v ≡ behindFile image counts bytes g (c .stop) x → OneFiled lay (taskOf image files counts lengths bytes labels rooms) g p o q v
+      place-filed v h =
+          subst (OneFiled lay (taskOf image files counts lengths bytes labels rooms) g p o q) (sym h)
+          (by-test image (λ i. subst (λ (f : Origin). OneFiled lay (by f) g p o q (behindFile image counts bytes g (c .stop) x)) (sym (is-read i)) (filed-read i))
+          (λ i. subst (λ (f : Origin). OneFiled lay (by f) g p o q (behindFile image counts bytes g (c .stop) x)) (sym (is-listed i)) (filed-listed i)))
+
+pub ruleset placing = (place-small, place-countable, place-enterable, place-ready, place-kept, place-filed, needs)
