@@ -21,14 +21,14 @@ use Rattle.writing.specs.Lay.{rest}
 use Rattle.writing.specs.Lay.{Next}
 use Rattle.writing.proofs.Packing.{by-test, entered}
 use Rattle.writing.proofs.Units.{length-control, indicator-whole}
-use Rattle.writer.proofs.Written.{word-small}
+use Rattle.writer.proofs.Written.{word-small, most-small}
 use Rattle.writer.specs.declared.pen.Pen.{Pen}
 use Rattle.writer.specs.declared.pack.Flow.{Flow}
 use Rattle.writer.specs.declared.record.Quick.{Quick}
 use Rattle.writer.specs.Pass.{Job, inkAt, inked, Outcome, outcome, restOf, Fits, Due, between, within, fillDue, leftDue, penned}
-use Rattle.writer.specs.Pens.{Unitable, Ready, Closable, Closes, Opens, opened}
+use Rattle.writer.specs.Pens.{mostOf, Unitable, Ready, Closable, Closes, Opens, opened}
 use Rattle.writer.specs.Packs.{entersOn, Wanting, Blocked, more, flowed, Good, Packable, Packed}
-use Rattle.writer.specs.Records.{mostOf, GoesIn, GoesNext, Wholable, Wholed, Turned, Recordable, Recorded, Somewhere, Whole, QuickBlock}
+use Rattle.writer.specs.Records.{GoesIn, GoesNext, Wholable, Wholed, Turned, Recordable, Recorded, Somewhere, Whole, QuickBlock}
 use Rattle.writer.proofs.Passes.{ink-none, ink-length}
 use Rattle.writer.proofs.Pens.{closable, opens-here}
 use Rattle.writer.proofs.Dues.{enter-fill, enter-left, some-fill, some-left, over-fill, over-left}
@@ -37,28 +37,29 @@ use Rattle.writer.proofs.Packs.{flowed-in, flowed-out}
 
 -- ---- which records go whole
 
-pub most-small : (f : ℕ) → mostOf f ≤ 99999
+pub most-fixed : (f : ℕ) → f ≡ 70 → 99999 ≡ mostOf f
 unfolding mostOf
-most-small f = if-case (λ (n : ℕ). n ≤ 99999) (eqb f 83) 9994 99999 (λ _. omega arith) (λ _. omega arith)
+most-fixed f e = sym (if-true _ _ _ (eq-eqb f 70 e))
 
-pub most-segment : (f : ℕ) → f ≡ 83 → 9994 ≡ mostOf f
+pub most-variable : (f : ℕ) → (f ≡ 70 → ⊥) → f ≡ 68 → 9995 ≡ mostOf f
 unfolding mostOf
-most-segment f e = sym (if-true _ _ _ (eq-eqb f 83 e))
+most-variable f e d = sym (if-false _ _ _ (ne-eqb f 70 e) ∙ if-true _ _ _ (eq-eqb f 68 d))
 
-pub most-whole : (f : ℕ) → (f ≡ 83 → ⊥) → 99999 ≡ mostOf f
+pub most-segment : (f : ℕ) → (f ≡ 70 → ⊥) → (f ≡ 68 → ⊥) → 9994 ≡ mostOf f
 unfolding mostOf
-most-whole f e = sym (if-false _ _ _ (ne-eqb f 83 e))
+most-segment f e d = sym (if-false _ _ _ (ne-eqb f 70 e) ∙ if-false _ _ _ (ne-eqb f 68 d))
 
-pub ruleset mosts = (most-segment, most-whole, needs)
+pub ruleset mosts = (most-fixed, most-variable, most-segment, needs)
 
 -- a record of n bytes that has room in a block enters it whole
 whole-in : (f b u n : ℕ) → n ≤ mostOf f → u + wordOf f + n ≤ b → (enters f b u n ≡ true) × (taken f b u n ≡ n)
-unfolding enters taken mostOf
+unfolding enters taken
 whole-in f b u n m h =
     by-test (eqb f 83)
     (λ s.
     let w : wordOf f ≡ 5 = word-segmented f (eqb-true f 83 s) in
-    let few : n ≤ 9994 = subst (λ (k : ℕ). n ≤ k) (if-true _ _ _ s) m in
+    let is : f ≡ 83 = eqb-true f 83 s in
+    let few : n ≤ 9994 = subst (λ (k : ℕ). n ≤ k) (sym (most-segment f (λ e. omega arith) (λ e. omega arith))) m in
     let one : u + 5 + min 1 n ≤ b = omega arith in
     let all : min n (min (b - u - 5) 9994) ≡ n = omega arith in
     (if-true _ _ _ s ∙ le-leb _ _ one, if-true _ _ _ s ∙ all))
@@ -69,7 +70,7 @@ module _ (f b w most : ℕ) (isOn : Bool) (u n : ℕ) (word : w ≡ wordOf f) (m
   goes-in few on h =
       let r : u + wordOf f + n ≤ b = omega (arith, leb-true (u + w + n) b h) in
       let both = whole-in f b u n (omega arith) r in
-      record { on = on; enters = both .0; whole = both .1 }
+      record { on = on; small = omega arith; enters = both .0; whole = both .1 }
 
   pub goes-not : false ≡ true → GoesIn f b isOn u n
   goes-not e = absurd (false≢true e)
@@ -86,7 +87,7 @@ module _ (f b w most : ℕ) (isOn : Bool) (u n : ℕ) (word : w ≡ wordOf f) (m
   pub next-in : (left : ℕ) (t : Bool) → n ≤ most → w + n ≤ b → 0 < left → t ≡ entersOn f b isOn u n → t ≡ false → true ≡ true → GoesNext f b isOn u left n
   next-in left t few h some e d _ =
       let both = whole-in f b 0 n (omega arith) (omega arith) in
-      record { some = omega arith; full = sym e ∙ d; enters = both .0; whole = both .1 }
+      record { some = omega arith; small = omega arith; full = sym e ∙ d; enters = both .0; whole = both .1 }
 
   pub next-not : (left : ℕ) → false ≡ true → GoesNext f b isOn u left n
   next-not left e = absurd (false≢true e)
@@ -106,7 +107,7 @@ module _ (lay : Bool) (f w : ℕ) (bytes : List ℕ) (from n : ℕ) (p : Pen) (o
 
   pub whole-unitable : Unitable lay f 0 n from (p .at + 3 + p .used) (length bytes) (length o)
   whole-unitable =
-      record { three = omega arith; small = omega (arith, y .fits); inside = y .inside; room = λ l. let r = y .room l in omega arith }
+      record { three = omega arith; small = y .small; inside = y .inside; room = λ l. let r = y .room l in omega arith }
 
   pub whole-word-fits : FitsIn w64 (w + n)
   whole-word-fits = record { fits = omega (arith, y .fits) }
@@ -211,10 +212,11 @@ module _ (lay : Bool) (f b : ℕ) (j : Job) (bytes : List ℕ) (from n : ℕ) (p
     unit-fits : r .used + (wordOf f + n) ≤ b
     unit-fits = omega (arith, entered f b (r .used) n (y .room h) .within)
 
-    blocked-wholable : Wholable lay f bytes from n r (length q)
-    blocked-wholable =
+    blocked-wholable : n ≤ mostOf f → Wholable lay f bytes from n r (length q)
+    blocked-wholable m =
         record {
           inside = k .inside;
+          small = m;
           fits = omega (arith, unit-fits, k .most);
           place = omega (arith, y .sound .place, y .sound .within, y .sound .reels .few, y .sound .turn);
           room = whole-room-in;
@@ -309,10 +311,10 @@ module _ (lay : Bool) (f b : ℕ) (bytes : List ℕ) (from n : ℕ) (p : Pen) (o
 
   pub quick-in : (t : Bool) → (t ≡ true → GoesIn f b (p .on) (p .used) n) → t ≡ true → QuickBlock lay f b bytes from n p o o (record { pen = p; ok = true })
   quick-in t g h =
-      record { kept = refl; yes = λ _ j c. in-whole lay f b j bytes from n p o c (g h); no = λ e. absurd (false≢true (sym e)) }
+      record { kept = refl; small = λ _. g h .small; yes = λ _ j c. in-whole lay f b j bytes from n p o c (g h); no = λ e. absurd (false≢true (sym e)) }
 
   pub quick-none : QuickBlock lay f b bytes from n p o o (record { pen = p; ok = false })
-  quick-none = record { kept = refl; yes = λ e. absurd (false≢true e); no = λ _. refl }
+  quick-none = record { kept = refl; small = λ e. absurd (false≢true e); yes = λ e. absurd (false≢true e); no = λ _. refl }
 
   module _ (t : Bool) (g : t ≡ true → GoesNext f b (p .on) (p .used) (p .room) n) (h : t ≡ true) where
     pub quick-closable : Closable lay p (length o)
@@ -326,7 +328,7 @@ module _ (lay : Bool) (f b : ℕ) (bytes : List ℕ) (from n : ℕ) (p : Pen) (o
 
     pub quick-next : (q : List ℕ) (r : Pen) → Turned lay p o q r → QuickBlock lay f b bytes from n p o q (record { pen = r; ok = true })
     quick-next q r y =
-        record { kept = y .kept; yes = λ _ j c. in-next lay f b j bytes from n p o c (g h) q r y; no = λ e. absurd (false≢true (sym e)) }
+        record { kept = y .kept; small = λ _. g h .small; yes = λ _ j c. in-next lay f b j bytes from n p o c (g h) q r y; no = λ e. absurd (false≢true (sym e)) }
 
     pub quick-kept : (q : List ℕ) (r : Pen) → Turned lay p o q r → length q ≡ length o
     quick-kept q r y = y .kept
@@ -458,7 +460,7 @@ module _ (lay : Bool) (f b : ℕ) (j : Job) (bytes : List ℕ) (from n : ℕ) (p
 
   module _ (q : List ℕ) (t : Quick) (y : QuickBlock lay f b bytes from n p o q t) where
     pub record-wholable : t .ok ≡ true → Wholable lay f bytes from n (t .pen) (length q)
-    record-wholable h = let w = y .yes h j k in blocked-wholable lay f b j bytes from n p o k q (t .pen) (w .blocked) (w .given) (w .whole)
+    record-wholable h = let w = y .yes h j k in blocked-wholable lay f b j bytes from n p o k q (t .pen) (w .blocked) (w .given) (w .whole) (y .small h)
 
     pub record-whole : (z : List ℕ) (v : Pen) → t .ok ≡ true → Wholed lay f bytes from n (t .pen) q z v → Recorded lay f b j (part from n bytes) p o z v
     record-whole z v h x = let w = y .yes h j k in blocked-recorded lay f b j bytes from n p o k q (t .pen) (w .blocked) (w .given) (w .whole) z v x

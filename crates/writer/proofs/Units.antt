@@ -9,9 +9,8 @@ use mir.Val.{Fits as FitsIn}
 use mir.Syntax.{w64}
 use lib.Dec.{ltb}
 use lib.ListN.{length, take, drop}
-use Rattle.base.specs.Part.{part, putAt}
+use Rattle.base.specs.Part.{part, putAt, putIn}
 use Rattle.base.proofs.Parts.{length-part, length-put, part-within}
-use Rattle.output.specs.Output.{putIn}
 use Rattle.block.specs.Unit.{wordOf}
 use Rattle.writing.specs.Pack.{taken, indicatorOf, controlWord}
 use Rattle.writing.proofs.Packing.{entered}

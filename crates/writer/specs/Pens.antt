@@ -3,16 +3,27 @@ use mathlib.Core.Path.{_≡_}
 use mathlib.Core.Bool.{Bool, true, false}
 use mathlib.Core.List.{List, [], _∷_}
 use Prim.Native.Nat.{ℕ, _+_, _-_, _≤_}
+use lib.Dec.{eqb}
 use lib.ListN.{length}
+use Rattle.base.specs.If.{ifB}
+use Rattle.base.specs.Format.{F, D}
 use Rattle.block.specs.Unit.{wordOf}
 use Rattle.writing.specs.Lay.{Next}
 use Rattle.writer.specs.declared.pen.Pen.{Pen}
 use Rattle.writer.specs.Pass.{Job, behind, Fits, Sound, ends}
 
+-- the most bytes of a unit beside its control word: what four digits can say, or a block can hold
+unfoldable pub mostOf : ℕ → ℕ
+mostOf f = ifB (eqb f F) 99999 (ifB (eqb f D) 9995 9994)
+
+-- a control word with indicator i and digits d
+unfoldable pub wordWith : ℕ → ℕ → List ℕ → List ℕ
+wordWith f i d = ifB (eqb f F) [] (ifB (eqb f D) d ((48 + i) ∷ d))
+
 -- a unit of n bytes can be written at a place
 pub record Unitable (lay : Bool) (f i n from at have size : ℕ) : Type 0 where
   pub three : i ≤ 3
-  pub small : n ≤ 99999
+  pub small : n ≤ mostOf f
   pub inside : from + n ≤ have
   pub room : lay ≡ true → at + wordOf f + n ≤ size
 

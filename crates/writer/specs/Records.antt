@@ -3,35 +3,30 @@ use mathlib.Core.Path.{_≡_}
 use mathlib.Core.Bool.{Bool, true, false}
 use mathlib.Core.List.{List, _++_}
 use Prim.Native.Nat.{ℕ, _+_, _≤_}
-use lib.Dec.{eqb}
 use lib.ListN.{length}
-use Rattle.base.specs.If.{ifB}
-use Rattle.base.specs.Format.{S}
 use Rattle.base.specs.Part.{part}
 use Rattle.block.specs.Unit.{wordOf}
 use Rattle.writing.specs.Pack.{going, startOf, enters, taken, controlWord, Room}
 use Rattle.writing.specs.Lay.{Next}
 use Rattle.writer.specs.declared.pen.Pen.{Pen}
 use Rattle.writer.specs.declared.source.Cursor.{Cursor}
-use Rattle.writer.specs.Pens.{Ready, Opens}
+use Rattle.writer.specs.Pens.{mostOf, Ready, Opens}
 use Rattle.writer.specs.Pass.{Job, Fits, Sound, inkAt, between, penned}
 use Rattle.writer.specs.declared.record.Quick.{Quick}
 use Rattle.writer.specs.Packs.{entersOn, more, Blocked}
 use Rattle.writer.specs.Source.{splitBytes, SplitHere}
 
--- the most bytes of a unit beside its control word
-unfoldable pub mostOf : ℕ → ℕ
-mostOf f = ifB (eqb f S) 9994 99999
-
 -- a record of n bytes goes whole into the block that is open
 pub record GoesIn (f b : ℕ) (isOn : Bool) (u n : ℕ) : Type 0 where
   pub on : isOn ≡ true
+  pub small : n ≤ mostOf f
   pub enters : enters f b u n ≡ true
   pub whole : taken f b u n ≡ n
 
 -- or it does not enter that, and goes whole into the next, for which the reel has room
 pub record GoesNext (f b : ℕ) (isOn : Bool) (u left n : ℕ) : Type 0 where
   pub some : 1 ≤ left
+  pub small : n ≤ mostOf f
   pub full : entersOn f b isOn u n ≡ false
   pub enters : enters f b 0 n ≡ true
   pub whole : taken f b 0 n ≡ n
@@ -39,6 +34,7 @@ pub record GoesNext (f b : ℕ) (isOn : Bool) (u left n : ℕ) : Type 0 where
 -- a whole record can be written
 pub record Wholable (lay : Bool) (f : ℕ) (bytes : List ℕ) (from n : ℕ) (p : Pen) (size : ℕ) : Type 0 where
   pub inside : from + n ≤ length bytes
+  pub small : n ≤ mostOf f
   pub fits : p .used + (wordOf f + n) ≤ 99999
   pub place : p .at ≤ 1000000000000000
   pub room : lay ≡ true → p .at + 3 + p .used + (wordOf f + n) ≤ size
@@ -90,6 +86,7 @@ pub record Whole (lay : Bool) (f b : ℕ) (j : Job) (n : ℕ) (p : Pen) (o q : L
 -- the block for a record that goes whole into the open block or into the next of this reel; else nothing was done
 pub record QuickBlock (lay : Bool) (f b : ℕ) (bytes : List ℕ) (from n : ℕ) (p : Pen) (o q : List ℕ) (r : Quick) : Type 0 where
   pub kept : length q ≡ length o
+  pub small : r .ok ≡ true → n ≤ mostOf f
   pub yes : r .ok ≡ true → (j : Job) → Recordable lay f b j bytes from n p o → Whole lay f b j n p o q (r .pen)
   pub no : r .ok ≡ false → q ≡ o
 

@@ -10,15 +10,20 @@ ghost use Rattle.image.specs.Item.{three};
 ghost use Rattle.block.specs.Unit.{wordOf};
 ghost use Rattle.writing.specs.Pack.{controlWord};
 ghost use Rattle.writer.specs.Pass.{overLong, Puts, inkAt};
-ghost use Rattle.writer.specs.Pens.{Unitable};
+ghost use Rattle.writer.specs.Pens.{mostOf, wordWith, Unitable};
 use crate::unit::word_of;
 use base::FIXED;
 use base::VARIABLE;
-use base::put_in;
+use base::put_few;
+use base::put_some;
+use output::figures;
 use output::four_digits;
 
 // The bytes of a length word.
 pub(crate) const WORD: usize = 3;
+
+// Records of less than so many bytes are short: each length has the copy that is quick for it.
+const FEW: usize = 16;
 
 // Writes the few bytes of a word or a label at a place where they have room.
 pub(crate) fn copy_to(out: &mut [u8], at: usize, s: &[u8])
@@ -42,6 +47,23 @@ pub(crate) fn put_length(out: &mut [u8], at: usize, n: usize)
     copy_to(out, at, &w);
 }
 
+// Writes a control word with indicator i and these digits; an F file has none.
+fn put_digits(out: &mut [u8], at: usize, f: u8, i: u8, d: &[u8; 4])
+    requires { ⌜ i ≤ 3 ⌝ }
+    requires { ⌜ at + wordOf f ≤ length (now out) ⌝ }
+    ensures { λ _. ⌜ now (out .exit) ≡ putAt (now (out .entry)) at (wordWith f i (now (d .entry))) ⌝ }
+{
+    if f == FIXED {
+        return;
+    }
+    if f == VARIABLE {
+        copy_to(out, at, d);
+        return;
+    }
+    out[at] = b'0' + i;
+    copy_to(out, at + 1, d);
+}
+
 // Writes the control word of a unit of k bytes with indicator i.
 pub(crate) fn put_word(out: &mut [u8], at: usize, f: u8, i: u8, k: usize)
     requires { ⌜ i ≤ 3 ⌝ }
@@ -49,30 +71,27 @@ pub(crate) fn put_word(out: &mut [u8], at: usize, f: u8, i: u8, k: usize)
     requires { ⌜ at + wordOf f ≤ length (now out) ⌝ }
     ensures { λ _. ⌜ now (out .exit) ≡ putAt (now (out .entry)) at (controlWord f i k) ⌝ }
 {
-    if f == FIXED {
-        return;
-    }
     let d = four_digits(k + word_of(f));
-    if f == VARIABLE {
-        copy_to(out, at, &d);
-        return;
-    }
-    out[at] = b'0' + i;
-    copy_to(out, at + 1, &d);
+    put_digits(out, at, f, i, &d);
 }
 
 // Writes a unit of n bytes, its control word before it.
 fn put_unit(f: u8, i: u8, bytes: &[u8], from: usize, n: usize, out: &mut [u8], at: usize)
     requires { ⌜ i ≤ 3 ⌝ }
-    requires { ⌜ n ≤ 99999 ⌝ }
+    requires { ⌜ n ≤ mostOf f ⌝ }
     requires { ⌜ from + n ≤ length (now bytes) ⌝ }
     requires { ⌜ at + wordOf f + n ≤ length (now out) ⌝ }
     ensures { λ _. ⌜ now (out .exit) ≡ putAt (now (out .entry)) at (controlWord f i n ++ part from n (now (bytes .entry))) ⌝ }
 {
     let end = from + n;
     let w = word_of(f);
-    put_word(out, at, f, i, n);
-    put_in(out, at + w, &bytes[from..end]);
+    let d = figures(n + w);
+    put_digits(out, at, f, i, &d);
+    if n < FEW {
+        put_few(out, at + w, &bytes[from..end]);
+        return;
+    }
+    put_some(out, at + w, &bytes[from..end]);
 }
 
 // The same where the pass lays.

@@ -16,7 +16,7 @@ use crate::unit::indicator;
 use crate::unit::smaller;
 use crate::unit::taken;
 use crate::unit::word_of;
-use output::put_in;
+use base::put_in;
 
 // Where the packing of a record is: the pen; the bytes that are left of the record, and of its open unit; the place in the piece; 1 where the record has a
 // unit already; whether a unit is open, and whether there is more to be packed of the piece.

@@ -6,8 +6,8 @@ ghost use lib.ListN.{length};
 ghost use Rattle.base.specs.Part.{part};
 ghost use Rattle.block.specs.Unit.{wordOf};
 ghost use Rattle.writer.specs.Pass.{jobOf};
-ghost use Rattle.writer.specs.Pens.{Closable};
-ghost use Rattle.writer.specs.Records.{mostOf, GoesIn, GoesNext, Wholable, Wholed, Turned, Recordable, Recorded, Somewhere, QuickBlock};
+ghost use Rattle.writer.specs.Pens.{mostOf, Closable};
+ghost use Rattle.writer.specs.Records.{GoesIn, GoesNext, Wholable, Wholed, Turned, Recordable, Recorded, Somewhere, QuickBlock};
 use crate::item::Labels;
 use crate::lay::WORD;
 use crate::lay::lay_unit;
@@ -18,7 +18,8 @@ use crate::pack::put_pieces;
 use crate::pen::Pen;
 use crate::pen::close;
 use crate::pen::opened;
-use base::SEGMENTED;
+use base::FIXED;
+use base::VARIABLE;
 
 // A block for a record, if there is one.
 pub struct Quick {
@@ -30,10 +31,13 @@ pub struct Quick {
 pub(crate) fn most_of(f: u8) -> usize
     ensures { λ r. ⌜ r ≡ mostOf f ⌝ }
 {
-    if f == SEGMENTED {
-        return 9994;
+    if f == FIXED {
+        return 99999;
     }
-    99999
+    if f == VARIABLE {
+        return 9995;
+    }
+    9994
 }
 
 // Whether a record of n bytes goes whole into the block that is open.

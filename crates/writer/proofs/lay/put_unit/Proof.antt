@@ -8,23 +8,29 @@ add-end c = search units
 word-of-requires : tie.Need-word-of-requires
 word-of-requires c κs = search units
 
-put-word-requires : tie.Need-put-word-requires
-put-word-requires c κs = search units
+add-figures : tie.Need-add-figures
+add-figures c = search units
 
-add-put-in : tie.Need-add-put-in
-add-put-in c = search units
+figures-requires : tie.Need-figures-requires
+figures-requires c κs = search units
 
-sub-put-in : tie.Need-sub-put-in
-sub-put-in c = search units
+put-digits-requires : tie.Need-put-digits-requires
+put-digits-requires c κs = search units
 
-part-put-in-start : tie.Need-part-put-in-start
-part-put-in-start c = search units
+add-put-few : tie.Need-add-put-few
+add-put-few c = search units
 
-part-put-in-end : tie.Need-part-put-in-end
-part-put-in-end c = search units
+sub-put-few : tie.Need-sub-put-few
+sub-put-few c = search units
 
-put-in-requires : tie.Need-put-in-requires
-put-in-requires c κs = search units
+part-put-few-start : tie.Need-part-put-few-start
+part-put-few-start c = search units
+
+part-put-few-end : tie.Need-part-put-few-end
+part-put-few-end c = search units
+
+put-few-requires : tie.Need-put-few-requires
+put-few-requires c κs = search units
 
 same-length : tie.Need-same-length
 same-length c = search units
@@ -32,17 +38,47 @@ same-length c = search units
 returns : tie.Need-returns
 returns c = search units
 
+add-put-some : tie.Need-add-put-some
+add-put-some c = search units
+
+sub-put-some : tie.Need-sub-put-some
+sub-put-some c = search units
+
+part-put-some-start : tie.Need-part-put-some-start
+part-put-some-start c = search units
+
+part-put-some-end : tie.Need-part-put-some-end
+part-put-some-end c = search units
+
+put-some-requires : tie.Need-put-some-requires
+put-some-requires c κs = search units
+
+same-length-2 : tie.Need-same-length-2
+same-length-2 c = search units
+
+returns-2 : tie.Need-returns-2
+returns-2 c = search units
+
 pub put-unit-spec : {M : Type 1} → statement M
 put-unit-spec =
     tie.close
     (tie.spec
     add-end
     word-of-requires
-    put-word-requires
-    add-put-in
-    sub-put-in
-    part-put-in-start
-    part-put-in-end
-    put-in-requires
+    add-figures
+    figures-requires
+    put-digits-requires
+    add-put-few
+    sub-put-few
+    part-put-few-start
+    part-put-few-end
+    put-few-requires
     same-length
-    returns)
+    returns
+    add-put-some
+    sub-put-some
+    part-put-some-start
+    part-put-some-end
+    put-some-requires
+    same-length-2
+    returns-2)

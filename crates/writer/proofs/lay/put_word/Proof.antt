@@ -1,68 +1,32 @@
-use Rattle.writer.proofs.Written.{words}
+use Rattle.writer.proofs.Written.{saying}
 use Rattle.writer.proofs.lay.put_word.Statement.{statement}
 use Rattle.writer.proofs.lay.put_word.Tie as tie
 
-returns : tie.Need-returns
-returns c = search words
-
 word-of-requires : tie.Need-word-of-requires
-word-of-requires c κs = search words
+word-of-requires c κs = search saying
 
 add-four-digits : tie.Need-add-four-digits
-add-four-digits c = search words
+add-four-digits c = search saying
 
 four-digits-requires : tie.Need-four-digits-requires
-four-digits-requires c κs = search words
+four-digits-requires c κs = search saying
 
-slice-aggregate-copy-to : tie.Need-slice-aggregate-copy-to
-slice-aggregate-copy-to c = search words
-
-copy-to-requires : tie.Need-copy-to-requires
-copy-to-requires c κs = search words
+put-digits-requires : tie.Need-put-digits-requires
+put-digits-requires c κs = search saying
 
 same-length : tie.Need-same-length
-same-length c = search words
+same-length c = search saying
 
-returns-2 : tie.Need-returns-2
-returns-2 c = search words
-
-add-out : tie.Need-add-out
-add-out c = search words
-
-slice-write-out : tie.Need-slice-write-out
-slice-write-out c = search words
-
-add-copy-to : tie.Need-add-copy-to
-add-copy-to c = search words
-
-slice-aggregate-copy-to-2 : tie.Need-slice-aggregate-copy-to-2
-slice-aggregate-copy-to-2 c = search words
-
-copy-to-requires-2 : tie.Need-copy-to-requires-2
-copy-to-requires-2 c κs = search words
-
-same-length-2 : tie.Need-same-length-2
-same-length-2 c = search words
-
-returns-3 : tie.Need-returns-3
-returns-3 c = search words
+returns : tie.Need-returns
+returns c = search saying
 
 pub put-word-spec : {M : Type 1} → statement M
 put-word-spec =
     tie.close
     (tie.spec
-    returns
     word-of-requires
     add-four-digits
     four-digits-requires
-    slice-aggregate-copy-to
-    copy-to-requires
+    put-digits-requires
     same-length
-    returns-2
-    add-out
-    slice-write-out
-    add-copy-to
-    slice-aggregate-copy-to-2
-    copy-to-requires-2
-    same-length-2
-    returns-3)
+    returns)
