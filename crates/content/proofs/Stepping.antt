@@ -152,6 +152,14 @@ opens-ends : (s : List ℕ) (v u : Walk) (k : ℕ) (x : Tail) (m : ℕ) (y : Wal
     → Split (k - 5 + m) y ≡ measuredBy (recordAt s v)
 opens-ends s v u k x m y o e f = split-ends s v 1 (v .at + 5) (k - 5) u (unitFrom s v) x m y (o .good) refl (o .unit) (o .short) (λ h. omega arith) refl e f
 
+pub measured-fails : (s : List ℕ) (v u : Walk) (k : ℕ) (x : Tail) → BegunAt s v k → u ≡ moved v (v .at + k) (v .left - k)
+    → x ≡ tailBy (restAt s (v .size - (k - 5)) u) → x ≡ Fails → Nothing ≡ measuredBy (recordAt s v)
+measured-fails s v u k x b q e f = opens-fails s v u k x (opens s v u k b q) e f
+
+pub measured-ends : (s : List ℕ) (v u : Walk) (k : ℕ) (x : Tail) (m : ℕ) (y : Walk) → BegunAt s v k → u ≡ moved v (v .at + k) (v .left - k)
+    → x ≡ tailBy (restAt s (v .size - (k - 5)) u) → x ≡ Ends m y → Split (k - 5 + m) y ≡ measuredBy (recordAt s v)
+measured-ends s v u k x m y b q e f = opens-ends s v u k x m y (opens s v u k b q) e f
+
 pub begun-fails : (s : List ℕ) (room : ℕ) (v u : Walk) (k : ℕ) (x : Tail) → BegunAt s v k → u ≡ moved v (v .at + k) (v .left - k)
     → x ≡ tailBy (restAt s (v .size - (k - 5)) u) → x ≡ Fails → Refused 13 ≡ stepAt s room v
 begun-fails s room v u k x b q e f = step-nothing s room v Nothing (opens-fails s v u k x (opens s v u k b q) e f) refl
@@ -233,6 +241,8 @@ pub begun-sum : (s : List ℕ) (v u : Walk) (k : ℕ) (x : Tail) (m : ℕ) (y : 
     → x ≡ tailBy (restAt s (v .size - (k - 5)) u) → x ≡ Ends m y → Fits w64 (k - 5 + m)
 begun-sum s v u k x m y b h e f = sum-fits s (v .size) (k - 5) u x m y (begun-most s v k b) h e f
 
+pub ruleset measures-begun = (measured-fails, measured-ends, begun-word, begun-most, begun-left, begun-inside, begun-end, begun-sum, needs)
+
 pub ruleset steps-begun = (
   begun-fails,
   kept-fails,
@@ -285,5 +295,11 @@ pub head-join : (s old : List ℕ) (w v : Walk) (k : ℕ) (new : List ℕ) → v
     → (k ≡ 0 → ⊥) → new ≡ joinAt s old v → new ≡ joinAt s old w
 unfolding joinAt
 head-join s old w v k new e m z q = q ∙ ap (joinBy old) (head-record s w v k e (asked-begun s v k m z))
+
+pub head-measure : (s : List ℕ) (w v : Walk) (k : ℕ) (x : Measured) → v ≡ atBlock s w → k ≡ begunIn s (standsAt (v .format) (v .size) (v .at) (v .left))
+    → (k ≡ 0 → ⊥) → x ≡ measuredBy (recordAt s v) → x ≡ measuredBy (recordAt s w)
+head-measure s w v k x e m z q = q ∙ ap measuredBy (head-record s w v k e (asked-begun s v k m z))
+
+pub ruleset measures-far = (asked-begun, head-measure, needs)
 
 pub ruleset step-splits = (asked-begun, head-step, head-join, needs)

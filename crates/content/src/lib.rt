@@ -24,6 +24,7 @@ pub use items::item_at;
 pub use measuring::Measured;
 pub use measuring::at_block;
 pub use measuring::measure;
+pub use measuring::measure_far;
 pub use measuring::whole_at;
 pub use numbers::Beginning;
 pub use numbers::Located;

@@ -1,7 +1,7 @@
 // The record at a walk's place, by its numbers: where it stands or how long it is, and the walk behind it. It changes no byte.
 ghost use mathlib.Core.Path.{_≡_};
 ghost use Rattle.content.specs.Walk.{Inside, restAt, recordAt};
-ghost use Rattle.content.specs.Whole.{atBlock, standsAt, wholeIn, segmentIn, begunIn};
+ghost use Rattle.content.specs.Whole.{atBlock, standsAt, wholeIn, segmentIn, begunIn, BegunAt};
 ghost use Rattle.content.specs.Measure.{tailBy, measuredBy};
 use crate::Walk;
 use crate::unit::Taken;
@@ -172,6 +172,33 @@ pub(crate) fn measure_units(image: &[u8], w: Walk) -> Measured
     }
 }
 
+// The record that begins with the segment, of k bytes with its control word, at the head of what is left of the current block.
+fn measure_begun(image: &[u8], v: Walk, k: usize) -> Measured
+    requires { ⌜ BegunAt (now image) v k ⌝ }
+    ensures { λ r. ⌜ r ≡ measuredBy (recordAt (now (image .entry)) v) ⌝ }
+{
+    let n = k - 5;
+    let most = v.size as usize;
+    let u = moved(v, v.at + k, v.left - k);
+    match rest_length(image, most - n, u) {
+        Tail::Fails => Measured::Nothing,
+        Tail::Ends(m, x) => Measured::Split(n + m, x),
+    }
+}
+
+// The record at a walk's place, for a caller who knows that no whole one stands in the current block, nor at the head of the next: most often one begins
+// there.
+pub fn measure_far(image: &[u8], w: Walk) -> Measured
+    ensures { λ r. ⌜ r ≡ measuredBy (recordAt (now (image .entry)) w) ⌝ }
+{
+    let v = at_block(image, w);
+    let k = begun_at(image, v.format, v.size, v.at, v.left);
+    if k == 0 {
+        return measure_units(image, w);
+    }
+    measure_begun(image, v, k)
+}
+
 // The record at a walk's place. Most records stand whole in a block, and are told by one number.
 pub fn measure(image: &[u8], w: Walk) -> Measured
     ensures { λ r. ⌜ r ≡ measuredBy (recordAt (now (image .entry)) w) ⌝ }
@@ -182,5 +209,5 @@ pub fn measure(image: &[u8], w: Walk) -> Measured
         let word = word_of(v.format);
         return Measured::Whole(v.at + word, k - word, moved(v, v.at + k, v.left - k));
     }
-    measure_units(image, w)
+    measure_far(image, w)
 }

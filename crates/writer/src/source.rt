@@ -8,7 +8,7 @@ use block::word_of;
 use content::Measured;
 use content::Walk;
 use content::at_block;
-use content::measure;
+use content::measure_far;
 use content::whole_at;
 
 // How a record was found: not at all, in one piece, or in several segments.
@@ -92,7 +92,7 @@ fn next_far(lengths: &[u64], bytes: &[u8], c: Cursor) -> Found
     requires { ⌜ c .image ≡ true ⌝ }
     ensures { λ r. ⌜ Finds (now (lengths .entry)) (now (bytes .entry)) c r ⌝ }
 {
-    match measure(bytes, walk_of(c)) {
+    match measure_far(bytes, walk_of(c)) {
         Measured::Nothing => nothing(),
         Measured::Whole(from, len, v) => Found {
             from,

@@ -29,8 +29,8 @@ moved-requires c κs = search wholes
 returns : tie.Need-returns
 returns c = search wholes
 
-measure-units-requires : tie.Need-measure-units-requires
-measure-units-requires c κs = search wholes
+measure-far-requires : tie.Need-measure-far-requires
+measure-far-requires c κs = search wholes
 
 returns-2 : tie.Need-returns-2
 returns-2 c = search wholes
@@ -48,5 +48,5 @@ measure-spec =
     sub-moved
     moved-requires
     returns
-    measure-units-requires
+    measure-far-requires
     returns-2)

@@ -5,8 +5,8 @@ use Rattle.writer.proofs.source.next_far.Tie as tie
 walk-of-requires : tie.Need-walk-of-requires
 walk-of-requires c κs = search far
 
-measure-requires : tie.Need-measure-requires
-measure-requires c κs = search far
+measure-far-requires : tie.Need-measure-far-requires
+measure-far-requires c κs = search far
 
 enum-told : tie.Need-enum-told
 enum-told c = search far
@@ -34,7 +34,7 @@ next-far-spec =
     tie.close
     (tie.spec
     walk-of-requires
-    measure-requires
+    measure-far-requires
     enum-told
     nothing-requires
     enum-known-from
