@@ -264,6 +264,7 @@ module _ (from : Origin) (set lengths bytes : List ℕ) (g : Place) (quota : ℕ
           record {
             placed = y .placed;
             first = y .first;
+            on = y .on;
             some = y .some;
             reels =
                 record {
@@ -339,7 +340,7 @@ write-right x out n a p e z m = subst (λ (w : Written). Answers w a p) (sym (if
 -- where the files of a sheet begin
 abbrev first : Place
 first =
-    record { nth = 0; first = 0; byte = 0; file = record { first = 0; second = 0; walk = record { format = 0; size = 0; offset = 0; at = 0; left = 0 } } }
+    record { nth = 0; first = 0; byte = 0; file = record { first = 0; second = 0; walk = record { format = 0; size = 0; offset = 0; at = 0; left = 0 } }; on = true }
 
 module _ (set files counts lengths bytes : List ℕ) (quota : ℕ) (names : List ℕ) (n : ℕ) (e : n ≡ sheetNumber (flat set files counts lengths bytes quota names)) (z : n ≡ 0)
   where

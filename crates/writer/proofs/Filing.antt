@@ -29,11 +29,10 @@ use Rattle.writer.specs.declared.pen.Pen.{Pen}
 use Rattle.writer.specs.declared.source.Cursor.{Cursor}
 use Rattle.writer.specs.declared.body.Body.{Body}
 use Rattle.writer.specs.declared.set.Place.{Place}
-use Rattle.writer.specs.declared.set.Filing.{Filing}
 use Rattle.writer.specs.Pass.{Puts, reelsAt, Job, job, namesIn, inkAt, inked, behind, inkedAt, Outcome, outcome, laidFrom, imaged, imageFrom, Fits, Between}
 use Rattle.writer.specs.Source.{recordsOf, Good}
 use Rattle.writer.specs.Files.{fileLaid, filedFrom, nextFrom, FileReady, FilePut}
-use Rattle.writer.specs.Sets.{Origin, listed, read, totalOf, filesAt, Task, taskOf, PlacedIn, layAt, Filed, Fileable, OneFiled, AllFiled, Closing, Closed, firstPen, headOf, Sheeted, meaningAt, setLaid, SetReady}
+use Rattle.writer.specs.Sets.{Origin, listed, read, totalOf, filesAt, Task, taskOf, PlacedIn, layAt, Filing, Filed, Fileable, OneFiled, AllFiled, Closing, Closed, firstPen, headOf, Sheeted, meaningAt, setLaid, SetReady}
 use Rattle.writer.proofs.Items.{length-first-reel, length-reel-end, puts-kept}
 use Rattle.writer.proofs.Passes.{ink-none, ink-length}
 use Rattle.writer.proofs.Written.{ink-not, ink-puts}
@@ -113,8 +112,8 @@ module _ (t : Task) (g : Place) (entry : List ℕ) (records : List (List ℕ)) (
     -- the file was laid, and the laying stands at the next
     pub one-filed : (p : Pen) (o q : List ℕ) (x : Body) (v : Filing) → FilePut lay j (t .lengths) (t .bytes) d p o q x → v .pen ≡ x .pen → v .place .nth ≡ g .nth + 1
         → (x .pen .short ≡ false → filesAt (t .from) (t .lengths) (t .bytes) (v .place) ≡ others) → (x .pen .short ≡ false → PlacedIn t (v .place))
-        → (v .on ≡ true → x .pen .short ≡ false) → (v .on ≡ true → v .place .nth < totalOf (t .from) (t .bytes))
-        → (v .on ≡ false → x .pen .short ≡ false → totalOf (t .from) (t .bytes) ≤ v .place .nth) → OneFiled lay t g p o q v
+        → (v .place .on ≡ true → x .pen .short ≡ false) → (v .place .on ≡ true → v .place .nth < totalOf (t .from) (t .bytes))
+        → (v .place .on ≡ false → x .pen .short ≡ false → totalOf (t .from) (t .bytes) ≤ v .place .nth) → OneFiled lay t g p o q v
     one-filed p o q x v m pen next there placed on more over =
         record {
           filed =
@@ -145,8 +144,8 @@ module _ (t : Task) (g : Place) (entry : List ℕ) (records : List (List ℕ)) (
 -- ---- the loop over files
 
 -- the files that are to be laid
-unfoldable pub filesOn : Origin → List ℕ → Filing → ℕ
-filesOn from bytes x = ifB (x .on) (totalOf from bytes - x .place .nth) 0
+unfoldable pub filesOn : Origin → List ℕ → Place → ℕ
+filesOn from bytes g = ifB (g .on) (totalOf from bytes - g .nth) 0
 
 -- where the loop stands
 pub record Along (lay : Bool) (t : Task) (g : Place) (p : Pen) (o q : List ℕ) (x : Filing) : Type 0 where
@@ -161,8 +160,8 @@ fits-on lay t g p o q x m f l =
     subst (Fits (laidFrom true (x .pen) q (layAt t (x .place) (x .pen)))) (sym (m .kept)) (subst (λ (w : Outcome). Fits w (length o)) (sym e) (f l))
 
 module _ (lay : Bool) (t : Task) (g : Place) (p : Pen) (o : List ℕ) where
-  pub along-none : Fileable lay t g p o → Along lay t g p o o (record { on = true; place = g; pen = p })
-  along-none y =
+  along-none : Fileable lay t g p o → g .on ≡ true → Along lay t g p o o (record { place = g; pen = p })
+  along-none y on =
       record {
         filed =
             record {
@@ -172,19 +171,19 @@ module _ (lay : Bool) (t : Task) (g : Place) (p : Pen) (o : List ℕ) where
               untouched = λ _. refl;
               enough = λ _. y .enough;
               more = λ _. y .more;
-              over = λ z. absurd (false≢true (sym z));
+              over = λ z. absurd (false≢true (sym z ∙ on));
               same = refl;
             };
         fits = y .fits;
       }
 
   module _ (q : List ℕ) (x : Filing) (m : Along lay t g p o q x) where
-    pub along-fileable : x .on ≡ true → Fileable lay t (x .place) (x .pen) q
+    pub along-fileable : x .place .on ≡ true → Fileable lay t (x .place) (x .pen) q
     along-fileable on =
         let s = m .filed .enough on in
         record { placed = m .filed .placed s; more = m .filed .more on; sound = m .filed .sound s; enough = s; fits = m .fits }
 
-    pub along-all : x .on ≡ false → AllFiled lay t g p o q x
+    pub along-all : x .place .on ≡ false → AllFiled lay t g p o q x
     along-all off = record { filed = m .filed; off = off }
 
     pub along-kept : length q ≡ length o
@@ -208,15 +207,15 @@ module _ (lay : Bool) (t : Task) (g : Place) (p : Pen) (o : List ℕ) where
             fits = fits-on lay t (x .place) (x .pen) q s v (n .filed) (m .fits);
           }
 
-      pub files-fall : x .on ≡ true → filesOn (t .from) (t .bytes) v < filesOn (t .from) (t .bytes) x
+      pub files-fall : x .place .on ≡ true → filesOn (t .from) (t .bytes) (v .place) < filesOn (t .from) (t .bytes) (x .place)
       unfolding filesOn
       files-fall on =
-          let k : ifB (x .on) (totalOf (t .from) (t .bytes) - x .place .nth) 0 ≡ totalOf (t .from) (t .bytes) - x .place .nth = if-true _ _ _ on in
+          let k : ifB (x .place .on) (totalOf (t .from) (t .bytes) - x .place .nth) 0 ≡ totalOf (t .from) (t .bytes) - x .place .nth = if-true _ _ _ on in
           let more : x .place .nth < totalOf (t .from) (t .bytes) = m .filed .more on in
           let step : v .place .nth ≡ x .place .nth + 1 = n .next in
-          by-test (v .on)
-          (λ z. let j : ifB (v .on) (totalOf (t .from) (t .bytes) - v .place .nth) 0 ≡ totalOf (t .from) (t .bytes) - v .place .nth = if-true _ _ _ z in omega arith)
-          (λ z. let j : ifB (v .on) (totalOf (t .from) (t .bytes) - v .place .nth) 0 ≡ 0 = if-false _ _ _ z in omega arith)
+          by-test (v .place .on)
+          (λ z. let j : ifB (v .place .on) (totalOf (t .from) (t .bytes) - v .place .nth) 0 ≡ totalOf (t .from) (t .bytes) - v .place .nth = if-true _ _ _ z in omega arith)
+          (λ z. let j : ifB (v .place .on) (totalOf (t .from) (t .bytes) - v .place .nth) 0 ≡ 0 = if-false _ _ _ z in omega arith)
 
 -- ---- the end of the set
 
@@ -448,10 +447,10 @@ module _ (lay image : Bool) (files counts lengths bytes labels rooms : List ℕ)
     laid-head : q ≡ inkAt lay o 0 (headOf (part (6 * 0) 6 (namesIn (length rooms) labels)))
     laid-head = k .1 ∙ ap (λ (n : List ℕ). inkAt lay o 0 (headOf n)) named
 
-    pub begun-along : Along lay t g p q q (record { on = true; place = g; pen = p })
-    begun-along = along-none lay t g p q (set-fileable lay t g o y q p (k .0) laid-head)
+    pub begun-along : Along lay t g p q q (record { place = g; pen = p })
+    begun-along = along-none lay t g p q (set-fileable lay t g o y q p (k .0) laid-head) (y .writable .on)
 
-    module _ (u : List ℕ) (x : Filing) (m : Along lay t g p q u x) (off : x .on ≡ false) where
+    module _ (u : List ℕ) (x : Filing) (m : Along lay t g p q u x) (off : x .place .on ≡ false) where
       pub along-closing : Closing lay (x .pen) (length u)
       along-closing = set-closing lay t g o y q p (k .0) laid-head u x (along-all lay t g p q u x m off)
 
@@ -462,4 +461,4 @@ module _ (lay image : Bool) (files counts lengths bytes labels rooms : List ℕ)
         pub along-sheeted : Sheeted lay (setLaid t g) o v r
         along-sheeted = sheeted lay t g o y q p (k .0) laid-head u x (along-all lay t g p q u x m off) v r z
 
-pub ruleset sets = (begin-one, begin-room, begun-along, along-fileable, along-kept, along-more, files-fall, along-closing, along-all-kept, along-sheeted, needs)
+pub ruleset sets = (begin-one, begin-room, begun-along, along-closing, along-all-kept, along-sheeted, needs)

@@ -34,11 +34,10 @@ use Rattle.writer.specs.declared.pen.Pen.{Pen}
 use Rattle.writer.specs.declared.source.Cursor.{Cursor}
 use Rattle.writer.specs.declared.body.Body.{Body}
 use Rattle.writer.specs.declared.set.Place.{Place}
-use Rattle.writer.specs.declared.set.Filing.{Filing}
 use Rattle.writer.specs.Pass.{job}
 use Rattle.writer.specs.Source.{walkOf, recordsOf, endAt, Good}
 use Rattle.writer.specs.Files.{FileReady, FilePut}
-use Rattle.writer.specs.Sets.{Origin, read, originOf, totalOf, filesAt, Placed, walkAt, passed, filingAt, followedBy, Task, task, Fileable, OneFiled, sheetAt, Ordered}
+use Rattle.writer.specs.Sets.{Origin, read, originOf, totalOf, filesAt, Placed, walkAt, passed, followedBy, Task, task, Fileable, OneFiled, sheetAt, Ordered}
 use Rattle.writer.proofs.Filing.{legal-set, legal-others, file-ready, one-filed}
 
 -- ---- the file at a place
@@ -130,9 +129,9 @@ module _ (lay : Bool) (set lengths bytes rooms names : List ℕ) (g : Place) (p 
 
     module _ (q : List ℕ) (x : Body) (m : FilePut lay (job set entry (g .nth + 1) rooms names) lengths bytes c p o q x) where
       -- a place behind this file
-      placed-on : (f : FileAt) (stop : ℕ) → (g .nth + 1 < length all → Met bytes (At f) (drop (g .nth + 1) all)) → Placed read set lengths bytes (passed g stop x f)
+      placed-on : (f : FileAt) (stop : ℕ) (on : Bool) → (g .nth + 1 < length all → Met bytes (At f) (drop (g .nth + 1) all)) → Placed read set lengths bytes (passed g stop (x .end) f on)
       unfolding totalOf filesAt
-      placed-on f stop w =
+      placed-on f stop on w =
           record {
             few = y .placed .few;
             within = omega (arith, more);
@@ -140,26 +139,26 @@ module _ (lay : Bool) (set lengths bytes rooms names : List ℕ) (g : Place) (p 
             legal = legal-others t g entry (d .records) _ (y .placed) files-first;
           }
 
-      next-filed : (stop : ℕ) (h : NextFile) → x .pen .short ≡ false → nextFile bytes (g .file) ≡ h → OneFiled lay t g p o q (followedBy g stop x h)
+      next-filed : (stop : ℕ) (h : NextFile) → x .pen .short ≡ false → nextFile bytes (g .file) ≡ h → OneFiled lay t g p o q (record { place = followedBy g stop (x .end) h; pen = x .pen })
       unfolding followedBy totalOf filesAt
       next-filed stop (At h) z e =
           let there : Met bytes (At h) (drop (g .nth + 1) all) = subst (λ (f : NextFile). Met bytes f (drop (g .nth + 1) all)) e (both .1) in
           let some : 0 < length (drop (g .nth + 1) all) = met-some bytes h (drop (g .nth + 1) all) there in
-          one-filed t g entry (d .records) _ (y .placed) files-first lay c good begun p o q x _ m refl refl (λ _. refl) (λ _. placed-on h stop (λ _. there)) (λ _. z)
+          one-filed t g entry (d .records) _ (y .placed) files-first lay c good begun p o q x _ m refl refl (λ _. refl) (λ _. placed-on h stop true (λ _. there)) (λ _. z)
           (λ _. omega (arith, behind-long)) (λ w. absurd (false≢true (sym w)))
       next-filed stop Nowhere z e =
           let none : length (drop (g .nth + 1) all) ≡ 0
           = met-none bytes (drop (g .nth + 1) all) (subst (λ (f : NextFile). Met bytes f (drop (g .nth + 1) all)) e (both .1)) in
           one-filed t g entry (d .records) _ (y .placed) files-first lay c good begun p o q x _ m refl refl (λ _. refl)
-          (λ _. placed-on (g .file) stop (λ w. absurd (omega (arith, behind-long)))) (λ w. absurd (false≢true w)) (λ w. absurd (false≢true w))
+          (λ _. placed-on (g .file) stop false (λ w. absurd (omega (arith, behind-long)))) (λ w. absurd (false≢true w)) (λ w. absurd (false≢true w))
           (λ _ _. omega (arith, behind-long))
 
       -- unless a reel is lacking, the next file is found from where the records of this one end
-      pub read-filed : (stop : ℕ) → x .pen .short ≡ false → OneFiled lay t g p o q (followedBy g stop x (fileBehind bytes (g .file) (x .end)))
+      pub read-filed : (stop : ℕ) → x .pen .short ≡ false → OneFiled lay t g p o q (record { place = followedBy g stop (x .end) (fileBehind bytes (g .file) (x .end)); pen = x .pen })
       read-filed stop z =
           next-filed stop (fileBehind bytes (g .file) (x .end)) z (sym (ap (fileBehind bytes (g .file)) (m .end z ∙ ends) ∙ is .behind))
 
-      pub read-short : (stop : ℕ) → x .pen .short ≡ true → OneFiled lay t g p o q (filingAt false g stop x (g .file))
+      pub read-short : (stop : ℕ) → x .pen .short ≡ true → OneFiled lay t g p o q (record { place = passed g stop (x .end) (g .file) false; pen = x .pen })
       read-short stop z =
           one-filed t g entry (d .records) _ (y .placed) files-first lay c good begun p o q x _ m refl refl (λ w. absurd (false≢true (sym w ∙ z)))
           (λ w. absurd (false≢true (sym w ∙ z))) (λ w. absurd (false≢true w)) (λ w. absurd (false≢true w)) (λ _ w. absurd (false≢true (sym w ∙ z)))
@@ -186,7 +185,7 @@ module _ (s : List ℕ) (quota : ℕ) (names : List ℕ) (h : imageVerdict s .nu
       e = sym there ∙ found
 
       abbrev start : Place
-      start = record { nth = 0; first = 0; byte = 0; file = f }
+      start = record { nth = 0; first = 0; byte = 0; file = f; on = true }
 
       is-from : originOf true files counts ≡ read
       unfolding originOf
@@ -208,6 +207,7 @@ module _ (s : List ℕ) (quota : ℕ) (names : List ℕ) (h : imageVerdict s .nu
                   legal = subst (λ (z : List ℕ). legalFiles z (content s .files) ≡ true) (sym same-set) (says .files);
                 };
             first = refl;
+            on = refl;
             some = omega (arith, says .one);
             room = reels-legal quota names k .room;
             named = reels-legal quota names k .named;

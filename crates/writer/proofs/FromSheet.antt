@@ -31,15 +31,14 @@ use Rattle.writer.specs.declared.pen.Pen.{Pen}
 use Rattle.writer.specs.declared.source.Cursor.{Cursor}
 use Rattle.writer.specs.declared.body.Body.{Body}
 use Rattle.writer.specs.declared.set.Place.{Place}
-use Rattle.writer.specs.declared.set.Filing.{Filing}
 use Rattle.writer.specs.Pass.{job}
 use Rattle.writer.specs.Source.{lengthsAt, recordsOf, endAt, Good}
 use Rattle.writer.specs.Files.{FileReady, FilePut}
-use Rattle.writer.specs.Sets.{Origin, listed, originOf, totalOf, filesAt, Placed, listedAt, filingAt, Task, task, Fileable, OneFiled, sheetAt, Ordered}
+use Rattle.writer.specs.Sets.{Origin, listed, originOf, totalOf, filesAt, Placed, listedAt, passed, Task, task, Fileable, Filing, OneFiled, sheetAt, Ordered}
 use Rattle.writer.proofs.Filing.{legal-set, legal-others, file-ready, one-filed, no-counts}
 
-abbrev place : FileAt → ℕ → ℕ → ℕ → Place
-place f nth first byte = record { nth = nth; first = first; byte = byte; file = f }
+abbrev place : FileAt → ℕ → ℕ → ℕ → Bool → Place
+place f nth first byte on = record { nth = nth; first = first; byte = byte; file = f; on = on }
 
 -- ---- the files from a place on
 
@@ -75,10 +74,10 @@ module _ (files counts set lengths bytes rooms names : List ℕ) (g : Place) (y 
   abbrev records : List (List ℕ)
   records = cutBy (take c (drop (g .first) lengths)) (drop (g .byte) bytes)
 
-  abbrev onward : Place
+  abbrev onward : Bool → Place
   onward = place (g .file) (g .nth + 1) (g .first + c) (g .byte + sum (take c (drop (g .first) lengths)))
 
-  files-some : filesAt (listed files counts) lengths bytes g ≡ record { fields = entry; records = records } ∷ filesAt (listed files counts) lengths bytes onward
+  files-some : filesAt (listed files counts) lengths bytes g ≡ record { fields = entry; records = records } ∷ filesAt (listed files counts) lengths bytes (onward true)
   unfolding filesAt filesFrom part
   files-some =
       let l : length (drop (46 * g .nth) files) ≡ length files - 46 * g .nth = length-drop (46 * g .nth) files in
@@ -94,9 +93,9 @@ module _ (files counts set lengths bytes rooms names : List ℕ) (g : Place) (y 
       ∙ ap (λ (s : List ℕ). record { fields = take 46 (drop (46 * g .nth) files); records = records } ∷ filesFrom (inParts 46 (drop (46 * (g .nth + 1)) files)) (drop (g .nth + 1) counts) s (drop (sum (take c (drop (g .first) lengths))) (drop (g .byte) bytes))) (drop-drop c (g .first) lengths)
       ∙ ap (λ (s : List ℕ). record { fields = take 46 (drop (46 * g .nth) files); records = records } ∷ filesFrom (inParts 46 (drop (46 * (g .nth + 1)) files)) (drop (g .nth + 1) counts) (drop (g .first + c) lengths) s) (drop-drop (sum (take c (drop (g .first) lengths))) (g .byte) bytes)
 
-  placed-on : Placed (listed files counts) set lengths bytes onward
-  unfolding totalOf
-  placed-on =
+  placed-on : (on : Bool) → Placed (listed files counts) set lengths bytes (onward on)
+  unfolding totalOf filesAt
+  placed-on on =
       record {
         few = y .few;
         within = omega arith;
@@ -150,20 +149,25 @@ module _ (files counts set lengths bytes rooms names : List ℕ) (g : Place) (y 
     entry-ready lay p o f = file-ready t g entry records _ y files-some lay d good begun p o f
 
     -- the place behind this file, unless a reel is lacking
-    place-is : (x : Body) → (x .pen .short ≡ false → x .end ≡ endAt lengths bytes d) → x .pen .short ≡ false → onward ≡ place (g .file) (g .nth + 1) stop (x .end)
-    place-is x e z =
+    place-is : (x : Body) (on : Bool) → (x .pen .short ≡ false → x .end ≡ endAt lengths bytes d) → x .pen .short ≡ false → onward on ≡ passed g stop (x .end) (g .file) on
+    place-is x on e z =
         let i : g .first + c ≡ stop = omega arith in
-        ap (λ (r : ℕ). place (g .file) (g .nth + 1) r (g .byte + sum (take c (drop (g .first) lengths)))) i
-        ∙ ap (place (g .file) (g .nth + 1) stop) (sym (e z ∙ ends))
+        ap (λ (r : ℕ). place (g .file) (g .nth + 1) r (g .byte + sum (take c (drop (g .first) lengths))) on) i
+        ∙ ap (λ (r : ℕ). place (g .file) (g .nth + 1) stop r on) (sym (e z ∙ ends))
 
-    pub listed-filed : (lay : Bool) (p : Pen) (o q : List ℕ) (x : Body) (v : Filing) → FilePut lay (job set entry (g .nth + 1) rooms names) lengths bytes d p o q x
-        → v ≡ filingAt (ifB (x .pen .short) false (ltb (g .nth + 1) (length counts))) g stop x (g .file) → OneFiled lay t g p o q v
+    files-on : (on : Bool) → filesAt (listed files counts) lengths bytes (onward on) ≡ filesAt (listed files counts) lengths bytes (onward true)
+    unfolding filesAt
+    files-on on = refl
+
+    pub listed-filed : (lay : Bool) (p : Pen) (o q : List ℕ) (x : Body) (r : Place) → FilePut lay (job set entry (g .nth + 1) rooms names) lengths bytes d p o q x
+        → r ≡ passed g stop (x .end) (g .file) (ifB (x .pen .short) false (ltb (g .nth + 1) (length counts))) → OneFiled lay t g p o q (record { place = r; pen = x .pen })
     unfolding totalOf
-    listed-filed lay p o q x v m e =
-        subst (OneFiled lay t g p o q) (sym e)
+    listed-filed lay p o q x r m e =
+        let on : Bool = ifB (x .pen .short) false (ltb (g .nth + 1) (length counts)) in
+        subst (λ (h : Place). OneFiled lay t g p o q (record { place = h; pen = x .pen })) (sym e)
         (one-filed t g entry records _ y files-some lay d good begun p o q x _ m refl refl
-        (λ z. ap (filesAt (listed files counts) lengths bytes) (sym (place-is x (m .end) z)))
-        (λ z. subst (Placed (listed files counts) set lengths bytes) (place-is x (m .end) z) placed-on)
+        (λ z. ap (filesAt (listed files counts) lengths bytes) (sym (place-is x on (m .end) z)) ∙ files-on on)
+        (λ z. subst (Placed (listed files counts) set lengths bytes) (place-is x on (m .end) z) (placed-on on))
         (λ z. by-test (x .pen .short) (λ w. absurd (false≢true (sym (if-true (x .pen .short) false (ltb (g .nth + 1) (length counts)) w) ∙ z))) (λ w. w))
         (λ z.
         by-test (x .pen .short) (λ w. absurd (false≢true (sym (if-true (x .pen .short) false (ltb (g .nth + 1) (length counts)) w) ∙ z)))
@@ -225,7 +229,7 @@ module _ (set files counts lengths bytes : List ℕ) (quota : ℕ) (names : List
   nowhere = record { format = 0; size = 0; offset = 0; at = 0; left = 0 }
 
   abbrev start : Place
-  start = place (record { first = 0; second = 0; walk = nowhere }) 0 0 0
+  start = place (record { first = 0; second = 0; walk = nowhere }) 0 0 0 true
 
   is-from : from ≡ listed files counts
   unfolding originOf
@@ -269,6 +273,7 @@ module _ (set files counts lengths bytes : List ℕ) (quota : ℕ) (names : List
       (record {
         placed = start-placed;
         first = refl;
+        on = refl;
         some = filed;
         room = legal (λ q n. q);
         named = legal (λ q n. n);

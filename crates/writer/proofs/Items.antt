@@ -122,10 +122,6 @@ puts-mark : (o : List ℕ) (at : ℕ) (q : List ℕ) → Puts o at (three 0) q �
 unfolding encode encodeBy bytesOf
 puts-mark o at q p = subst (λ (s : List ℕ). Puts o at s q) (sym (append-nil (three 0))) p
 
-puts-last : (o : List ℕ) (at : ℕ) (q : List ℕ) → Puts o at (three 16777215) q → Puts o at (encode (reelEnd ∷ [])) q
-unfolding encode encodeBy bytesOf
-puts-last o at q p = subst (λ (s : List ℕ). Puts o at s q) (sym (append-nil (three 16777215))) p
-
 module _ (o : List ℕ) (at : ℕ) (l p : List ℕ) (h : length l ≡ 80) (r : at + 83 ≤ length o) (w : Puts o at (three 80) p) where
   pub label-room : at + 3 + length l ≤ length p
   label-room = omega (arith, w .kept)
@@ -143,9 +139,12 @@ pub ruleset labelItems = (puts-room, puts-kept, label-room, puts-label, needs)
 -- ---- what stands together
 
 module _ (o : List ℕ) (at : ℕ) where
-  pub puts-reel-end : (p q : List ℕ) → at + 6 ≤ length o → Puts o at (three 0) p → Puts p (at + 3) (three 16777215) q → Puts o at (encode (mark ∷ reelEnd ∷ [])) q
-  puts-reel-end p q r a b =
-      puts-items o at 3 (mark ∷ []) p (reelEnd ∷ []) q (length-mark [] 0 none) (omega arith) (puts-mark o at p a) (puts-last p (at + 3) q b)
+  pub puts-reel-end : (q : List ℕ) → at + 6 ≤ length o → q ≡ putAt o at (0 ∷ 0 ∷ 0 ∷ 255 ∷ 255 ∷ 255 ∷ []) → Puts o at (encode (mark ∷ reelEnd ∷ [])) q
+  unfolding encode encodeBy bytesOf three
+  puts-reel-end q r e = puts-copy o at (0 ∷ 0 ∷ 0 ∷ 255 ∷ 255 ∷ 255 ∷ []) q r e
+
+  pub reel-end-kept : (q : List ℕ) → at + 6 ≤ length o → q ≡ putAt o at (0 ∷ 0 ∷ 0 ∷ 255 ∷ 255 ∷ 255 ∷ []) → length q ≡ length o
+  reel-end-kept q r e = puts-copy o at (0 ∷ 0 ∷ 0 ∷ 255 ∷ 255 ∷ 255 ∷ []) q r e .kept
 
   -- two labels, and the mark behind them
   pub puts-pair : (first second labels set e x y p q s : List ℕ) (section n count : ℕ) → at + 169 ≤ length o → e ≡ part 0 46 labels → set ≡ part 47 6 labels
@@ -203,4 +202,4 @@ head-kept o p q bs r e b = let five : length head ≡ 5 = refl in b .kept ∙ pu
 pub head-room : (o p : List ℕ) → 88 ≤ length o → p ≡ putAt o 0 head → 5 + 83 ≤ length p
 head-room o p r e = let five : length head ≡ 5 = refl in omega (arith, puts-copy o 0 head p (omega arith) e .kept)
 
-pub ruleset together = (puts-room, puts-kept, puts-reel-end, puts-pair, puts-behind, puts-change, puts-head, head-kept, head-room, needs)
+pub ruleset together = (puts-room, puts-kept, puts-reel-end, reel-end-kept, puts-pair, puts-behind, puts-change, puts-head, head-kept, head-room, needs)

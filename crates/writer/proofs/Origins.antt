@@ -19,10 +19,10 @@ use Rattle.writer.specs.declared.pen.Pen.{Pen}
 use Rattle.writer.specs.declared.source.Cursor.{Cursor}
 use Rattle.writer.specs.declared.body.Body.{Body}
 use Rattle.writer.specs.declared.set.Place.{Place}
-use Rattle.writer.specs.declared.set.Filing.{Filing}
 use Rattle.writer.specs.Pass.{Job, job, setIn, namesIn, jobOf}
 use Rattle.writer.specs.Files.{FileReady, FilePut}
-use Rattle.writer.specs.Sets.{Origin, listed, read, originOf, totalOf, listedAt, walkAt, cursorAt, Countable, entryAt, Enterable, Entered, filingAt, followedBy, behindFile, Task, task, taskOf, Fileable, OneFiled}
+use Rattle.writer.specs.Sets.{Origin, listed, read, originOf, totalOf, listedAt, walkAt, cursorAt, Countable, entryAt, Enterable, Entered, passed, followedBy, behindFile, Task, task, taskOf, Fileable, OneFiled}
+use Rattle.writer.proofs.Filing.{filesOn, Along, along-fileable, along-more, files-fall}
 use Rattle.writer.proofs.Rows.{row-ready, row-put}
 use Rattle.writer.proofs.FromSheet.{nth-small, stop-within, entry-within, entry-ready, listed-filed}
 use Rattle.writer.proofs.FromImage.{first-within, second-within, read-small, read-ready, read-filed, read-short}
@@ -49,28 +49,28 @@ pub ruleset cursors = (cursor-read, cursor-listed, cursor-nth, cursor-stop, need
 
 -- ---- the place behind
 
-module _ (image : Bool) (counts bytes : List ℕ) (g : Place) (stop : ℕ) (x : Body) where
-  pub behind-short : x .pen .short ≡ true → filingAt false g stop x (g .file) ≡ behindFile image counts bytes g stop x
+module _ (image : Bool) (counts bytes : List ℕ) (g : Place) (stop end : ℕ) (short : Bool) where
+  pub behind-short : short ≡ true → passed g stop end (g .file) false ≡ behindFile image counts bytes g stop end short
   unfolding behindFile
   behind-short z = sym (if-true _ _ _ z)
 
-  module _ (z : x .pen .short ≡ false) where
-    pub behind-listed : image ≡ false → filingAt (ltb (g .nth + 1) (length counts)) g stop x (g .file) ≡ behindFile image counts bytes g stop x
+  module _ (z : short ≡ false) where
+    pub behind-listed : image ≡ false → passed g stop end (g .file) (ltb (g .nth + 1) (length counts)) ≡ behindFile image counts bytes g stop end short
     unfolding behindFile
     behind-listed i = sym (if-false _ _ _ z ∙ if-false _ _ _ i)
 
-    module _ (i : image ≡ true) (n : NextFile) (e : n ≡ fileBehind bytes (g .file) (x .end)) where
-      behind-read : followedBy g stop x n ≡ behindFile image counts bytes g stop x
+    module _ (i : image ≡ true) (n : NextFile) (e : n ≡ fileBehind bytes (g .file) end) where
+      behind-read : followedBy g stop end n ≡ behindFile image counts bytes g stop end short
       unfolding behindFile
-      behind-read = ap (followedBy g stop x) e ∙ sym (if-false _ _ _ z ∙ if-true _ _ _ i)
+      behind-read = ap (followedBy g stop end) e ∙ sym (if-false _ _ _ z ∙ if-true _ _ _ i)
 
-      pub behind-next : (h : FileAt) → n ≡ At h → filingAt true g stop x h ≡ behindFile image counts bytes g stop x
+      pub behind-next : (h : FileAt) → n ≡ At h → passed g stop end h true ≡ behindFile image counts bytes g stop end short
       unfolding followedBy
-      behind-next h k = ap (followedBy g stop x) (sym k) ∙ behind-read
+      behind-next h k = ap (followedBy g stop end) (sym k) ∙ behind-read
 
-      pub behind-last : n ≡ Nowhere → filingAt false g stop x (g .file) ≡ behindFile image counts bytes g stop x
+      pub behind-last : n ≡ Nowhere → passed g stop end (g .file) false ≡ behindFile image counts bytes g stop end short
       unfolding followedBy
-      behind-last k = ap (followedBy g stop x) (sym k) ∙ behind-read
+      behind-last k = ap (followedBy g stop end) (sym k) ∙ behind-read
 
 pub ruleset behinds = (behind-short, behind-listed, behind-next, behind-last, needs)
 
@@ -104,19 +104,19 @@ module _ (lay image : Bool) (files counts lengths bytes labels rooms : List ℕ)
     unfolding totalOf
     nth-within = from-sheet .more
 
-  pub place-small : g .nth < 64
+  place-small : g .nth < 64
   place-small =
       by-test image (λ i. read-small lay (setIn labels) lengths bytes rooms names g p o (from-image i))
       (λ i. nth-small files counts (setIn labels) lengths bytes rooms names g (from-sheet i .placed) (nth-within i))
 
-  pub place-countable : Countable image counts (length lengths) g
+  place-countable : Countable image counts (length lengths) g
   place-countable =
       record {
         nth = nth-within;
         stop = λ i. stop-within files counts (setIn labels) lengths bytes rooms names g (from-sheet i .placed) (nth-within i);
       }
 
-  pub place-enterable : Enterable image (length files) (length bytes) g
+  place-enterable : Enterable image (length files) (length bytes) g
   place-enterable =
       record {
         few = place-small;
@@ -146,45 +146,78 @@ module _ (lay image : Bool) (files counts lengths bytes labels rooms : List ℕ)
         subst (λ (d : List ℕ). FileReady lay (job (setIn labels) d (g .nth + 1) rooms names) lengths bytes c p o) (sym (if-false _ _ _ i))
         (entry-ready files counts (setIn labels) lengths bytes rooms names g (from-sheet i .placed) (nth-within i) _ _ refl refl c (listed-at i) lay p o (from-sheet i)))
 
-    pub place-ready : FileReady lay (jobOf r rooms) lengths bytes c p o
+    place-ready : FileReady lay (jobOf r rooms) lengths bytes c p o
     place-ready = row-ready labels (entryAt image files bytes g) (g .nth + 1) r rooms e lay lengths bytes c p o ready
 
     module _ (q : List ℕ) (x : Body) (m : FilePut lay (jobOf r rooms) lengths bytes c p o q x) where
-      pub place-kept : length q ≡ length o
-      place-kept = m .kept
-
       put : FilePut lay j lengths bytes c p o q x
       put = row-put labels (entryAt image files bytes g) (g .nth + 1) r rooms e lay lengths bytes c p o q x m
 
-      filed-read : image ≡ true → OneFiled lay (by read) g p o q (behindFile image counts bytes g (c .stop) x)
+      abbrev next : Place
+      next = behindFile image counts bytes g (c .stop) (x .end) (x .pen .short)
+
+      filed-read : image ≡ true → OneFiled lay (by read) g p o q (record { place = next; pen = x .pen })
       unfolding entryAt
       filed-read i =
           let put′ = subst (λ (d : List ℕ). FilePut lay (job (setIn labels) d (g .nth + 1) rooms names) lengths bytes c p o q x) (if-true _ _ _ i) put in
           by-test (x .pen .short)
           (λ z.
-          subst (OneFiled lay (by read) g p o q) (behind-short image counts bytes g (c .stop) x z)
+          subst (λ (h : Place). OneFiled lay (by read) g p o q (record { place = h; pen = x .pen })) (behind-short image counts bytes g (c .stop) (x .end) (x .pen .short) z)
           (read-short lay (setIn labels) lengths bytes rooms names g p o (from-image i) c (read-at i) q x put′ (c .stop) z))
           (λ z.
-          subst (OneFiled lay (by read) g p o q) (behind-read image counts bytes g (c .stop) x z i (fileBehind bytes (g .file) (x .end)) refl)
+          subst (λ (h : Place). OneFiled lay (by read) g p o q (record { place = h; pen = x .pen }))
+          (behind-read image counts bytes g (c .stop) (x .end) (x .pen .short) z i (fileBehind bytes (g .file) (x .end)) refl)
           (read-filed lay (setIn labels) lengths bytes rooms names g p o (from-image i) c (read-at i) q x put′ (c .stop) z))
 
-      filed-listed : image ≡ false → OneFiled lay (by (listed files counts)) g p o q (behindFile image counts bytes g (c .stop) x)
+      filed-listed : image ≡ false → OneFiled lay (by (listed files counts)) g p o q (record { place = next; pen = x .pen })
       unfolding entryAt
       filed-listed i =
           let put′ = subst (λ (d : List ℕ). FilePut lay (job (setIn labels) d (g .nth + 1) rooms names) lengths bytes c p o q x) (if-false _ _ _ i) put in
           listed-filed files counts (setIn labels) lengths bytes rooms names g (from-sheet i .placed) (nth-within i) _ (c .stop) refl (ap (λ (d : Cursor). d .stop) (listed-at i))
-          c (listed-at i ∙ ap (λ (n : ℕ). listedAt (g .byte) (getD counts (g .nth) 0) n) (sym (ap (λ (d : Cursor). d .stop) (listed-at i)))) lay p o q x _ put′ both
+          c (listed-at i ∙ ap (λ (n : ℕ). listedAt (g .byte) (getD counts (g .nth) 0) n) (sym (ap (λ (d : Cursor). d .stop) (listed-at i)))) lay p o q x next put′ both
         where
-          both : behindFile image counts bytes g (c .stop) x ≡ filingAt (ifB (x .pen .short) false (ltb (g .nth + 1) (length counts))) g (c .stop) x (g .file)
+          both : next ≡ passed g (c .stop) (x .end) (g .file) (ifB (x .pen .short) false (ltb (g .nth + 1) (length counts)))
           both =
               by-test (x .pen .short)
-              (λ z. sym (behind-short image counts bytes g (c .stop) x z) ∙ ap (λ (b : Bool). filingAt b g (c .stop) x (g .file)) (sym (if-true _ _ _ z)))
-              (λ z. sym (behind-listed image counts bytes g (c .stop) x z i) ∙ ap (λ (b : Bool). filingAt b g (c .stop) x (g .file)) (sym (if-false _ _ _ z)))
+              (λ z. sym (behind-short image counts bytes g (c .stop) (x .end) (x .pen .short) z) ∙ ap (passed g (c .stop) (x .end) (g .file)) (sym (if-true _ _ _ z)))
+              (λ z. sym (behind-listed image counts bytes g (c .stop) (x .end) (x .pen .short) z i) ∙ ap (passed g (c .stop) (x .end) (g .file)) (sym (if-false _ _ _ z)))
 
-      pub place-filed : (v : Filing) → v ≡ behindFile image counts bytes g (c .stop) x → OneFiled lay (taskOf image files counts lengths bytes labels rooms) g p o q v
-      place-filed v h =
-          subst (OneFiled lay (taskOf image files counts lengths bytes labels rooms) g p o q) (sym h)
-          (by-test image (λ i. subst (λ (f : Origin). OneFiled lay (by f) g p o q (behindFile image counts bytes g (c .stop) x)) (sym (is-read i)) (filed-read i))
-          (λ i. subst (λ (f : Origin). OneFiled lay (by f) g p o q (behindFile image counts bytes g (c .stop) x)) (sym (is-listed i)) (filed-listed i)))
+      place-filed : (r : Place) → r ≡ next → OneFiled lay (taskOf image files counts lengths bytes labels rooms) g p o q (record { place = r; pen = x .pen })
+      place-filed r h =
+          subst (λ (d : Place). OneFiled lay (taskOf image files counts lengths bytes labels rooms) g p o q (record { place = d; pen = x .pen })) (sym h)
+          (by-test image (λ i. subst (λ (f : Origin). OneFiled lay (by f) g p o q (record { place = next; pen = x .pen })) (sym (is-read i)) (filed-read i))
+          (λ i. subst (λ (f : Origin). OneFiled lay (by f) g p o q (record { place = next; pen = x .pen })) (sym (is-listed i)) (filed-listed i)))
 
-pub ruleset placing = (place-small, place-countable, place-enterable, place-ready, place-kept, place-filed, needs)
+-- ---- the loop over files
+
+module _ (lay image : Bool) (files counts lengths bytes labels rooms : List ℕ) (first : Place) (begun : Pen) (out q : List ℕ) (g : Place) (p : Pen)
+    (m : Along lay (taskOf image files counts lengths bytes labels rooms) first begun out q (record { place = g; pen = p })) (on : g .on ≡ true) where
+  abbrev t : Task
+  t = taskOf image files counts lengths bytes labels rooms
+
+  here : Fileable lay t g p q
+  here = along-fileable lay t first begun out q (record { place = g; pen = p }) m on
+
+  pub turn-small : g .nth < 64
+  turn-small = place-small lay image files counts lengths bytes labels rooms g p q here
+
+  pub turn-countable : Countable image counts (length lengths) g
+  turn-countable = place-countable lay image files counts lengths bytes labels rooms g p q here
+
+  pub turn-enterable : Enterable image (length files) (length bytes) g
+  turn-enterable = place-enterable lay image files counts lengths bytes labels rooms g p q here
+
+  module _ (c : Cursor) (k : c ≡ cursorAt image counts g) (r : List ℕ) (e : Entered labels (entryAt image files bytes g) (g .nth + 1) r) where
+    pub turn-ready : FileReady lay (jobOf r rooms) lengths bytes c p q
+    turn-ready = place-ready lay image files counts lengths bytes labels rooms g p q here c k r e
+
+    module _ (u : List ℕ) (x : Body) (y : FilePut lay (jobOf r rooms) lengths bytes c p q u x) (h : Place)
+        (b : h ≡ behindFile image counts bytes g (c .stop) (x .end) (x .pen .short)) where
+      one : OneFiled lay t g p q u (record { place = h; pen = x .pen })
+      one = place-filed lay image files counts lengths bytes labels rooms g p q here c k r e u x y h b
+
+      pub turn-more : Along lay t first begun out u (record { place = h; pen = x .pen })
+      turn-more = along-more lay t first begun out q (record { place = g; pen = p }) m u (record { place = h; pen = x .pen }) one
+
+      pub turn-falls : filesOn (originOf image files counts) bytes h < filesOn (originOf image files counts) bytes g
+      turn-falls = files-fall lay t first begun out q (record { place = g; pen = p }) m u (record { place = h; pen = x .pen }) one on

@@ -26,11 +26,11 @@ label-long : (bytes l : List ℕ) (at : ℕ) → at + 80 ≤ length bytes → l 
 label-long bytes l at h e = ap length e ∙ length-part at 80 bytes h
 
 -- a part of a label has room in the row
-pub part-room : (bytes l s : List ℕ) (i at from w : ℕ) → i + 80 ≤ length bytes → l ≡ part i 80 bytes → from + w ≤ 80 → at + w ≤ 46 → s ≡ part from w l → at + length s ≤ 149
+part-room : (bytes l s : List ℕ) (i at from w : ℕ) → i + 80 ≤ length bytes → l ≡ part i 80 bytes → from + w ≤ 80 → at + w ≤ 46 → s ≡ part from w l → at + length s ≤ 149
 part-room bytes l s i at from w b h k m e =
     let n : length s ≡ w = ap length e ∙ length-part from w l (omega (arith, label-long bytes l i b h)) in omega arith
 
-pub fields-made : (labels bytes : List ℕ) (i j : ℕ) (f s a x b y c z : List ℕ) → length labels ≡ 149 → i + 80 ≤ length bytes → j + 80 ≤ length bytes
+fields-made : (labels bytes : List ℕ) (i j : ℕ) (f s a x b y c z : List ℕ) → length labels ≡ 149 → i + 80 ≤ length bytes → j + 80 ≤ length bytes
     → f ≡ part i 80 bytes → s ≡ part j 80 bytes → a ≡ part 4 17 f → x ≡ putAt labels 0 a → b ≡ part 35 18 f → y ≡ putAt x 17 b → c ≡ part 4 11 s → z ≡ putAt y 35 c
     → z ≡ putAt labels 0 (fieldsFrom (part i 80 bytes) (part j 80 bytes))
 unfolding fieldsFrom
@@ -50,8 +50,6 @@ fields-made labels bytes i j f s a x b y c z l bi bj ef es ea ex eb ey ec ez =
     ∙ ap (putAt labels 0) (append-assoc a b c)
     ∙ ap (putAt labels 0)
     (ap₂ (λ (t u : List ℕ). t ++ u) (ea ∙ ap (part 4 17) ef) (ap₂ (λ (t u : List ℕ). t ++ u) (eb ∙ ap (part 35 18) ef) (ec ∙ ap (part 4 11) es)))
-
-pub ruleset fields = (part-room, fields-made, needs)
 
 -- ---- the entry and the number of a file
 
@@ -77,20 +75,23 @@ entered-by labels e n r l k h =
     }
 
 module _ (image : Bool) (files bytes : List ℕ) (g : Place) (y : Enterable image (length files) (length bytes) g) where
-  pub entry-first : image ≡ true → g .file .first + 80 ≤ length bytes
-  entry-first i = y .first i
+  -- a part of the first label or the second has room in the row
+  pub first-room : (l s : List ℕ) (at from w : ℕ) → image ≡ true → l ≡ part (g .file .first) 80 bytes → from + w ≤ 80 → at + w ≤ 46 → s ≡ part from w l → at + length s ≤ 149
+  first-room l s at from w i h k m e = part-room bytes l s (g .file .first) at from w (y .first i) h k m e
 
-  pub entry-second : image ≡ true → g .file .second + 80 ≤ length bytes
-  entry-second i = y .second i
+  pub second-room : (l s : List ℕ) (at from w : ℕ) → image ≡ true → l ≡ part (g .file .second) 80 bytes → from + w ≤ 80 → at + w ≤ 46 → s ≡ part from w l → at + length s ≤ 149
+  second-room l s at from w i h k m e = part-room bytes l s (g .file .second) at from w (y .second i) h k m e
 
   pub entry-few : g .nth < 64
   entry-few = y .few
 
   module _ (labels r : List ℕ) (l : length labels ≡ 149) where
-    pub entered-read : image ≡ true → r ≡ putAt (set labels 46 (g .nth + 1)) 0 (fieldsFrom (part (g .file .first) 80 bytes) (part (g .file .second) 80 bytes))
+    pub entered-read : (f s a u b v d : List ℕ) → image ≡ true → f ≡ part (g .file .first) 80 bytes → s ≡ part (g .file .second) 80 bytes → a ≡ part 4 17 f
+        → u ≡ putAt (set labels 46 (g .nth + 1)) 0 a → b ≡ part 35 18 f → v ≡ putAt u 17 b → d ≡ part 4 11 s → r ≡ putAt v 35 d
         → Entered labels (entryAt image files bytes g) (g .nth + 1) r
     unfolding entryAt
-    entered-read i h =
+    entered-read f s a u b v d i ef es ea eu eb ev ed er =
+        let h = fields-made (set labels 46 (g .nth + 1)) bytes (g .file .first) (g .file .second) f s a u b v d r (length-set labels 46 (g .nth + 1) ∙ l) (y .first i) (y .second i) ef es ea eu eb ev ed er in
         subst (λ (e : List ℕ). Entered labels e (g .nth + 1) r) (sym (if-true _ _ _ i))
         (entered-by labels _ (g .nth + 1) r l
         (length-entry _ _ (length-part (g .file .first) 80 bytes (y .first i)) (length-part (g .file .second) 80 bytes (y .second i))) h)
@@ -105,7 +106,7 @@ module _ (image : Bool) (files bytes : List ℕ) (g : Place) (y : Enterable imag
   pub entry-room : (e : List ℕ) → image ≡ false → e ≡ part (46 * g .nth) 46 files → 0 + length e ≤ 149
   entry-room e i k = let n : length e ≡ 46 = ap length k ∙ length-part (46 * g .nth) 46 files (y .listed i) in omega arith
 
-pub ruleset entering = (entry-first, entry-second, entry-few, entered-read, entered-listed, entry-room, needs)
+pub ruleset entering = (first-room, second-room, entry-few, entered-read, entered-listed, entry-room, needs)
 
 -- what the labels of the file are then made of
 module _ (labels e : List ℕ) (n : ℕ) (r rooms : List ℕ) (y : Entered labels e n r) where

@@ -26,7 +26,6 @@ use Rattle.writer.specs.declared.pen.Pen.{Pen}
 use Rattle.writer.specs.declared.source.Cursor.{Cursor}
 use Rattle.writer.specs.declared.body.Body.{Body}
 use Rattle.writer.specs.declared.set.Place.{Place}
-use Rattle.writer.specs.declared.set.Filing.{Filing}
 use Rattle.writer.specs.Pass.{entryIn, sequenceIn, setIn, namesIn, reelsAt, Reels, laidFrom, imageFrom, Fits, Between}
 
 -- where files come from: the entries and counts of a sheet, or an image
@@ -99,22 +98,18 @@ pub record Entered (labels e : List ℕ) (n : ℕ) (r : List ℕ) : Type 0 where
   pub sequence : sequenceIn r ≡ n
   pub others : drop 47 r ≡ drop 47 labels
 
--- the place behind a file, with the next of an image
-abbrev pub passed : Place → ℕ → Body → FileAt → Place
-passed g stop x f = record { nth = g .nth + 1; first = stop; byte = x .end; file = f }
+-- the place behind a file, with the next of an image, and whether there is one to be laid
+abbrev pub passed : Place → ℕ → ℕ → FileAt → Bool → Place
+passed g stop end f on = record { nth = g .nth + 1; first = stop; byte = end; file = f; on = on }
 
--- where the laying of files is there
-abbrev pub filingAt : Bool → Place → ℕ → Body → FileAt → Filing
-filingAt on g stop x f = record { on = on; place = passed g stop x f; pen = x .pen }
+unfoldable pub followedBy : Place → ℕ → ℕ → NextFile → Place
+followedBy g stop end (At h) = passed g stop end h true
+followedBy g stop end Nowhere = passed g stop end (g .file) false
 
-unfoldable pub followedBy : Place → ℕ → Body → NextFile → Filing
-followedBy g stop x (At h) = filingAt true g stop x h
-followedBy g stop x Nowhere = filingAt false g stop x (g .file)
-
-unfoldable pub behindFile : Bool → List ℕ → List ℕ → Place → ℕ → Body → Filing
-behindFile image counts bytes g stop x =
-    ifB (x .pen .short) (filingAt false g stop x (g .file))
-    (ifB image (followedBy g stop x (fileBehind bytes (g .file) (x .end))) (filingAt (ltb (g .nth + 1) (length counts)) g stop x (g .file)))
+unfoldable pub behindFile : Bool → List ℕ → List ℕ → Place → ℕ → ℕ → Bool → Place
+behindFile image counts bytes g stop end short =
+    ifB short (passed g stop end (g .file) false)
+    (ifB image (followedBy g stop end (fileBehind bytes (g .file) end)) (passed g stop end (g .file) (ltb (g .nth + 1) (length counts))))
 
 -- ---- all files
 
@@ -143,15 +138,20 @@ PlacedIn t g = Placed (t .from) (t .set) (t .lengths) (t .bytes) g
 unfoldable pub layAt : Task → Place → Pen → Laid
 layAt t g p = layFiles (t .set) (suc (g .nth)) (p .room) (reelsAt (t .rooms) (t .names) (p .next)) (filesAt (t .from) (t .lengths) (t .bytes) g)
 
+-- where the laying of files is
+pub record Filing : Type 0 where
+  pub place : Place
+  pub pen : Pen
+
 -- files were laid from place g and pen p on, up to where x stands; or a reel is lacking
 pub record Filed (lay : Bool) (t : Task) (g : Place) (p : Pen) (o q : List ℕ) (x : Filing) : Type 0 where
   pub placed : x .pen .short ≡ false → PlacedIn t (x .place)
   pub sound : x .pen .short ≡ false → Between (t .rooms) (t .names) (x .place .nth) (x .pen)
   pub kept : length q ≡ length o
   pub untouched : lay ≡ false → q ≡ o
-  pub enough : x .on ≡ true → x .pen .short ≡ false
-  pub more : x .on ≡ true → x .place .nth < totalOf (t .from) (t .bytes)
-  pub over : x .on ≡ false → x .pen .short ≡ false → totalOf (t .from) (t .bytes) ≤ x .place .nth
+  pub enough : x .place .on ≡ true → x .pen .short ≡ false
+  pub more : x .place .on ≡ true → x .place .nth < totalOf (t .from) (t .bytes)
+  pub over : x .place .on ≡ false → x .pen .short ≡ false → totalOf (t .from) (t .bytes) ≤ x .place .nth
   pub same : laidFrom lay (x .pen) q (layAt t (x .place) (x .pen)) ≡ laidFrom lay p o (layAt t g p)
 
 -- from where a file can be laid
@@ -170,7 +170,7 @@ pub record OneFiled (lay : Bool) (t : Task) (g : Place) (p : Pen) (o q : List �
 -- all files were laid, or a reel is lacking
 pub record AllFiled (lay : Bool) (t : Task) (g : Place) (p : Pen) (o q : List ℕ) (x : Filing) : Type 0 where
   pub filed : Filed lay t g p o q x
-  pub off : x .on ≡ false
+  pub off : x .place .on ≡ false
 
 -- ---- the set
 
@@ -206,6 +206,7 @@ meaningAt t g = record { set = t .set; files = filesAt (t .from) (t .lengths) (t
 pub record Writable (t : Task) (g : Place) : Type 0 where
   pub placed : PlacedIn t g
   pub first : g .nth ≡ 0
+  pub on : g .on ≡ true
   pub some : g .nth < totalOf (t .from) (t .bytes)
   pub reels : Reels (t .rooms) (t .names)
   pub one : 1 ≤ length (t .rooms)
@@ -230,6 +231,7 @@ sheetAt from set lengths bytes g quota names =
 pub record Ordered (from : Origin) (set lengths bytes : List ℕ) (g : Place) (quota : ℕ) (names : List ℕ) : Type 0 where
   pub placed : Placed from set lengths bytes g
   pub first : g .nth ≡ 0
+  pub on : g .on ≡ true
   pub some : g .nth < totalOf from bytes
   pub room : legalQuota quota ≡ true
   pub named : legalNames (inParts 6 names) ≡ true

@@ -44,9 +44,6 @@ pub(crate) fn with_part(labels: Labels, at: usize, s: &[u8]) -> Labels
     made
 }
 
-// The length word that ends a reel.
-const REEL_END_WORD: usize = 16777215;
-
 // The bytes of a label as an item; of two labels; of two labels and the mark behind them; of a file's trailer labels and the marks around them; of these at
 // the end of a reel; of that and the next reel's volume label; and of all that stands between two blocks on two reels.
 const LABEL_ITEM: usize = 83;
@@ -81,8 +78,7 @@ pub(crate) fn put_reel_end(out: &mut [u8], at: usize)
     requires { ⌜ at + 6 ≤ length (now out) ⌝ }
     ensures { λ _. ⌜ Puts (now (out .entry)) at (encode (mark ∷ reelEnd ∷ [])) (now (out .exit)) ⌝ }
 {
-    put_length(out, at, 0);
-    put_length(out, at + WORD, REEL_END_WORD);
+    copy_to(out, at, b"\0\0\0\xff\xff\xff");
 }
 
 // A byte as a number.

@@ -163,6 +163,7 @@ pub fn write(
             second: 0,
             walk,
         },
+        on: true,
     };
     write_quota(
         set,
@@ -193,6 +194,7 @@ fn rewrite_accepted(image: &[u8], quota: u64, names: &[u8], out: &mut [u8]) -> W
                 first: 0,
                 byte: 0,
                 file: f,
+                on: true,
             };
             let set = set_of(part_of(image, f.first, LABEL));
             write_quota(

@@ -4,11 +4,9 @@ ghost use mathlib.Core.Path.{_≡_};
 ghost use mathlib.Core.Bool.{true};
 ghost use Prim.Native.Nat.{_+_, _≤_, _<_};
 ghost use lib.ListN.{length, getD};
-ghost use Rattle.base.specs.Part.{part, putAt};
-ghost use Rattle.volume.specs.Meaning.{fieldsFrom};
+ghost use Rattle.base.specs.Part.{part};
 ghost use Rattle.writer.specs.Pass.{inkAt};
-ghost use Rattle.writer.specs.Sets.{Countable, cursorAt, Enterable, entryAt, Entered, behindFile, taskOf, Fileable, OneFiled, Closing, Closed, headOf, firstPen, Sheeted, setLaid, SetReady};
-use crate::body::Body;
+ghost use Rattle.writer.specs.Sets.{Countable, cursorAt, Enterable, entryAt, Entered, behindFile, taskOf, Closing, Closed, headOf, firstPen, Sheeted, setLaid, SetReady};
 use crate::file::put_file;
 use crate::item::ENTRY;
 use crate::item::Labels;
@@ -33,19 +31,14 @@ pub(crate) const LABEL: usize = 80;
 // The bytes of the head of an image and the volume label of its first reel.
 const HEAD: usize = 88;
 
-// A place among the files: how many are passed; of a sheet, the next length and the next byte; of an image, the next file.
+// A place among the files: how many are passed; of a sheet, the next length and the next byte; of an image, the next file; and whether there is a next file
+// to be laid.
 pub struct Place {
     pub nth: usize,
     pub first: usize,
     pub byte: usize,
     pub file: FileAt,
-}
-
-// Where the laying of files is: whether files are to be laid, the place, and the pen.
-pub struct Filing {
     pub on: bool,
-    pub place: Place,
-    pub pen: Pen,
 }
 
 // ---- one file
@@ -81,20 +74,7 @@ fn cursor_at(counts: &[u64], lengths: &[u64], image: bool, g: Place) -> Cursor
     }
 }
 
-// The row with the fields of a file that stands in an image.
-fn with_fields(labels: Labels, bytes: &[u8], f: FileAt) -> Labels
-    requires { ⌜ f .first + 80 ≤ length (now bytes) ⌝ }
-    requires { ⌜ f .second + 80 ≤ length (now bytes) ⌝ }
-    ensures { λ r. ⌜ r ≡ putAt labels 0 (fieldsFrom (part (f .first) 80 (now (bytes .entry))) (part (f .second) 80 (now (bytes .entry)))) ⌝ }
-{
-    let first = part_of(bytes, f.first, LABEL);
-    let second = part_of(bytes, f.second, LABEL);
-    let named = with_part(labels, 0, part_of(first, 4, 17));
-    let dated = with_part(named, 17, part_of(first, 35, 18));
-    with_part(dated, 35, part_of(second, 4, 11))
-}
-
-// The row with the number and the entry of the file at a place.
+// The row with the number and the entry of the file at a place: of an image, the fields of its first HDR1 and HDR2.
 fn entered(labels: Labels, files: &[u8], bytes: &[u8], image: bool, g: Place) -> Labels
     requires { ⌜ Enterable image (length (now files)) (length (now bytes)) g ⌝ }
     ensures { λ r. ⌜ Entered labels (entryAt image (now (files .entry)) (now (bytes .entry)) g) (g .nth + 1) r ⌝ }
@@ -104,80 +84,60 @@ fn entered(labels: Labels, files: &[u8], bytes: &[u8], image: bool, g: Place) ->
     numbered[SEQUENCE] = (i + 1) as u8;
     if image {
         let f = g.file;
-        return with_fields(numbered, bytes, f);
+        let first = part_of(bytes, f.first, LABEL);
+        let second = part_of(bytes, f.second, LABEL);
+        let named = with_part(numbered, 0, part_of(first, 4, 17));
+        let dated = with_part(named, 17, part_of(first, 35, 18));
+        return with_part(dated, 35, part_of(second, 4, 11));
     }
     with_part(numbered, 0, part_of(files, ENTRY * i, ENTRY))
 }
 
-// Where the laying of files is behind the file at a place, whose lengths end at `stop`. The next file of an image is looked for from where the records of
-// this one end.
-fn behind(counts: &[u64], bytes: &[u8], image: bool, g: Place, stop: usize, x: Body) -> Filing
-    requires { ⌜ g .nth < 64 ⌝ }
-    ensures { λ r. ⌜ r ≡ behindFile image (now (counts .entry)) (now (bytes .entry)) g stop x ⌝ }
-{
-    let pen = x.pen;
-    let file = g.file;
-    let nth = g.nth + 1;
-    let place = Place {
-        nth,
-        first: stop,
-        byte: x.end,
-        file,
-    };
-    if pen.short {
-        return Filing {
-            on: false,
-            place,
-            pen,
-        };
-    }
-    if image {
-        return match file_behind(bytes, file, x.end) {
-            NextFile::Nowhere => Filing {
-                on: false,
-                place,
-                pen,
-            },
-            NextFile::At(next) => Filing {
-                on: true,
-                place: Place {
-                    nth,
-                    first: stop,
-                    byte: x.end,
-                    file: next,
-                },
-                pen,
-            },
-        };
-    }
-    Filing {
-        on: nth < counts.len(),
-        place,
-        pen,
-    }
-}
-
-// Lays the file at a place, of an image or a sheet.
-fn lay_file(
-    files: &[u8],
+// The place behind a file, whose lengths end at `stop` and whose records end at `end`, unless a reel is lacking. The next file of an image is looked for from
+// there on.
+fn behind(
     counts: &[u64],
-    lengths: &[u64],
     bytes: &[u8],
     image: bool,
-    labels: Labels,
-    rooms: &[u64],
     g: Place,
-    p: Pen,
-    out: &mut [u8],
-    lay: bool,
-) -> Filing
-    requires { ⌜ Fileable lay (taskOf image (now files) (now counts) (now lengths) (now bytes) labels (now rooms)) g p (now out) ⌝ }
-    ensures { λ x. ⌜ OneFiled lay (taskOf image (now (files .entry)) (now (counts .entry)) (now (lengths .entry)) (now (bytes .entry)) labels (now (rooms .entry))) g p (now (out .entry)) (now (out .exit)) x ⌝ }
+    stop: usize,
+    end: usize,
+    short: bool,
+) -> Place
+    requires { ⌜ g .nth < 64 ⌝ }
+    ensures { λ r. ⌜ r ≡ behindFile image (now (counts .entry)) (now (bytes .entry)) g stop end short ⌝ }
 {
-    let c = cursor_at(counts, lengths, image, g);
-    let made = entered(labels, files, bytes, image, g);
-    let x = put_file(lengths, bytes, c, &made, rooms, p, out, lay);
-    behind(counts, bytes, image, g, c.stop, x)
+    let nth = g.nth + 1;
+    let file = g.file;
+    let over = Place {
+        nth,
+        first: stop,
+        byte: end,
+        file,
+        on: false,
+    };
+    if short {
+        return over;
+    }
+    if image {
+        return match file_behind(bytes, file, end) {
+            NextFile::Nowhere => over,
+            NextFile::At(next) => Place {
+                nth,
+                first: stop,
+                byte: end,
+                file: next,
+                on: true,
+            },
+        };
+    }
+    Place {
+        nth,
+        first: stop,
+        byte: end,
+        file,
+        on: nth < counts.len(),
+    }
 }
 
 // ---- the set
@@ -245,29 +205,14 @@ pub(crate) fn lay_set(
     requires { ⌜ SetReady lay (taskOf image (now files) (now counts) (now lengths) (now bytes) labels (now rooms)) start (now out) ⌝ }
     ensures { λ r. ⌜ Sheeted lay (setLaid (taskOf image (now (files .entry)) (now (counts .entry)) (now (lengths .entry)) (now (bytes .entry)) labels (now (rooms .entry))) start) (now (out .entry)) (now (out .exit)) r ⌝ }
 {
-    let first = begin_set(labels, rooms, out, lay);
-    let mut x = Filing {
-        on: true,
-        place: start,
-        pen: first,
-    };
-    while x.on {
-        let place = x.place;
-        let pen = x.pen;
-        x = lay_file(
-            files,
-            counts,
-            lengths,
-            bytes,
-            image,
-            labels,
-            rooms,
-            place,
-            pen,
-            out,
-            lay,
-        );
+    let mut pen = begin_set(labels, rooms, out, lay);
+    let mut g = start;
+    while g.on {
+        let c = cursor_at(counts, lengths, image, g);
+        let made = entered(labels, files, bytes, image, g);
+        let x = put_file(lengths, bytes, c, &made, rooms, pen, out, lay);
+        pen = x.pen;
+        g = behind(counts, bytes, image, g, c.stop, x.end, pen.short);
     }
-    let last = x.pen;
-    end_set(last, out, lay)
+    end_set(pen, out, lay)
 }

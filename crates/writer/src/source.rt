@@ -1,7 +1,7 @@
 // The records of a file, one after the other, from the slices of an order sheet or from an accepted image: where the next one stands. It knows how each of
 // them holds a record, and nothing of blocks that are written.
 ghost use mathlib.Core.Path.{_≡_};
-ghost use mathlib.Core.Bool.{true, false};
+ghost use mathlib.Core.Bool.{true};
 ghost use Rattle.writer.specs.Source.{walkOf, Good, stopOf, endAt, nothing, Finds};
 use crate::unit::wide;
 use block::word_of;
@@ -65,27 +65,6 @@ fn nothing() -> Found
     }
 }
 
-// The next record of a sheet's file.
-fn next_listed(lengths: &[u64], bytes: &[u8], c: Cursor) -> Found
-    requires { ⌜ Good (now lengths) (now bytes) c ⌝ }
-    requires { ⌜ c .image ≡ false ⌝ }
-    ensures { λ r. ⌜ Finds (now (lengths .entry)) (now (bytes .entry)) c r ⌝ }
-{
-    let left = c.left;
-    if left == 0 {
-        return nothing();
-    }
-    let i = c.stop - left;
-    let n = wide(lengths[i]);
-    Found {
-        from: c.at,
-        len: n,
-        at: c.at + n,
-        left: left - 1,
-        kind: WHOLE,
-    }
-}
-
 // The next record of an image's file, behind padding or a change of reel, or in several segments.
 fn next_far(lengths: &[u64], bytes: &[u8], c: Cursor) -> Found
     requires { ⌜ Good (now lengths) (now bytes) c ⌝ }
@@ -132,7 +111,7 @@ fn next_read(lengths: &[u64], bytes: &[u8], c: Cursor) -> Found
     }
 }
 
-// The next record of a file.
+// The next record of a file: of an image, or of a sheet, whose lengths say where it ends.
 pub(crate) fn next(lengths: &[u64], bytes: &[u8], c: Cursor) -> Found
     requires { ⌜ Good (now lengths) (now bytes) c ⌝ }
     ensures { λ r. ⌜ Finds (now (lengths .entry)) (now (bytes .entry)) c r ⌝ }
@@ -140,7 +119,19 @@ pub(crate) fn next(lengths: &[u64], bytes: &[u8], c: Cursor) -> Found
     if c.image {
         return next_read(lengths, bytes, c);
     }
-    next_listed(lengths, bytes, c)
+    let left = c.left;
+    if left == 0 {
+        return nothing();
+    }
+    let i = c.stop - left;
+    let n = wide(lengths[i]);
+    Found {
+        from: c.at,
+        len: n,
+        at: c.at + n,
+        left: left - 1,
+        kind: WHOLE,
+    }
 }
 
 // The place at which a file ends whose records are all found.

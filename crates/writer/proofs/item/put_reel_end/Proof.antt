@@ -2,14 +2,11 @@ use Rattle.writer.proofs.Items.{together}
 use Rattle.writer.proofs.item.put_reel_end.Statement.{statement}
 use Rattle.writer.proofs.item.put_reel_end.Tie as tie
 
-put-length-requires : tie.Need-put-length-requires
-put-length-requires c κs = search together
+slice-aggregate-copy-to : tie.Need-slice-aggregate-copy-to
+slice-aggregate-copy-to c = search together
 
-add-put-length : tie.Need-add-put-length
-add-put-length c = search together
-
-put-length-requires-2 : tie.Need-put-length-requires-2
-put-length-requires-2 c κs = search together
+copy-to-requires : tie.Need-copy-to-requires
+copy-to-requires c κs = search together
 
 same-length : tie.Need-same-length
 same-length c = search together
@@ -19,5 +16,4 @@ returns c = search together
 
 pub put-reel-end-spec : {M : Type 1} → statement M
 put-reel-end-spec =
-    tie.close
-    (tie.spec put-length-requires add-put-length put-length-requires-2 same-length returns)
+    tie.close (tie.spec slice-aggregate-copy-to copy-to-requires same-length returns)

@@ -11,8 +11,29 @@ cast-numbered c = search entering
 array-write-numbered : tie.Need-array-write-numbered
 array-write-numbered c = search entering
 
-with-fields-requires : tie.Need-with-fields-requires
-with-fields-requires c κs = search entering
+part-of-requires : tie.Need-part-of-requires
+part-of-requires c κs = search entering
+
+part-of-requires-2 : tie.Need-part-of-requires-2
+part-of-requires-2 c κs = search entering
+
+part-of-requires-3 : tie.Need-part-of-requires-3
+part-of-requires-3 c κs = search entering
+
+with-part-requires : tie.Need-with-part-requires
+with-part-requires c κs = search entering
+
+part-of-requires-4 : tie.Need-part-of-requires-4
+part-of-requires-4 c κs = search entering
+
+with-part-requires-2 : tie.Need-with-part-requires-2
+with-part-requires-2 c κs = search entering
+
+part-of-requires-5 : tie.Need-part-of-requires-5
+part-of-requires-5 c κs = search entering
+
+with-part-requires-3 : tie.Need-with-part-requires-3
+with-part-requires-3 c κs = search entering
 
 returns : tie.Need-returns
 returns c = search entering
@@ -20,11 +41,11 @@ returns c = search entering
 mul-part-of : tie.Need-mul-part-of
 mul-part-of c = search entering
 
-part-of-requires : tie.Need-part-of-requires
-part-of-requires c κs = search entering
+part-of-requires-6 : tie.Need-part-of-requires-6
+part-of-requires-6 c κs = search entering
 
-with-part-requires : tie.Need-with-part-requires
-with-part-requires c κs = search entering
+with-part-requires-4 : tie.Need-with-part-requires-4
+with-part-requires-4 c κs = search entering
 
 returns-2 : tie.Need-returns-2
 returns-2 c = search entering
@@ -36,9 +57,16 @@ entered-spec =
     add-numbered
     cast-numbered
     array-write-numbered
-    with-fields-requires
+    part-of-requires
+    part-of-requires-2
+    part-of-requires-3
+    with-part-requires
+    part-of-requires-4
+    with-part-requires-2
+    part-of-requires-5
+    with-part-requires-3
     returns
     mul-part-of
-    part-of-requires
-    with-part-requires
+    part-of-requires-6
+    with-part-requires-4
     returns-2)
