@@ -75,12 +75,18 @@ pub ruleset heading = (head-small, head-three, head-room, head-at-fits, head-fit
 
 -- ---- bytes of the open unit
 
-module _ (lay : Bool) (piece : List ℕ) (s : Flow) (o : List ℕ) (y : Partable lay (length piece) s (length o)) where
-  pub spell-from : s .from ≤ length piece
+module _ (lay : Bool) (n : ℕ) (s : Flow) (size : ℕ) (y : Partable lay n s size) where
+  pub spell-from : s .from ≤ n
   spell-from = y .from
 
-  module _ (m : ℕ) (e : m ≡ min (s .seg) (length piece - s .from)) where
-    pub spell-end : s .from + m ≤ length piece
+  pub spell-at-fits : FitsIn w64 (s .pen .at + 3)
+  spell-at-fits = record { fits = omega (arith, y .place) }
+
+  pub spell-fits : FitsIn w64 (s .pen .at + 3 + s .pen .used)
+  spell-fits = record { fits = omega (arith, y .place, y .fits) }
+
+  module _ (m : ℕ) (e : m ≡ min (s .seg) (n - s .from)) where
+    pub spell-end : s .from + m ≤ n
     spell-end = omega (arith, y .from)
 
     pub spell-less : m ≤ s .left
@@ -92,13 +98,15 @@ module _ (lay : Bool) (piece : List ℕ) (s : Flow) (o : List ℕ) (y : Partable
     pub spell-more : s .pen .used + m ≤ 99999
     spell-more = omega (arith, y .fits)
 
+module _ (lay : Bool) (piece : List ℕ) (s : Flow) (o : List ℕ) (y : Partable lay (length piece) s (length o)) where
+  module _ (m : ℕ) (e : m ≡ min (s .seg) (length piece - s .from)) where
     abbrev bytes : List ℕ
     bytes = take (s .from + m - s .from) (drop (s .from) piece)
 
     spell-room : lay ≡ true → s .pen .at + 3 + s .pen .used + length bytes ≤ length o
     spell-room l =
         let r = y .room l in
-        let long : length bytes ≡ m = ap length (part-within (s .from) m piece) ∙ length-part (s .from) m piece spell-end in
+        let long : length bytes ≡ m = ap length (part-within (s .from) m piece) ∙ length-part (s .from) m piece (spell-end lay (length piece) s (length o) y m e) in
         omega arith
 
     module _ (r : Pen) (g : r ≡ more (s .pen) m) where
@@ -132,11 +140,5 @@ module _ (lay : Bool) (piece : List ℕ) (s : Flow) (o : List ℕ) (y : Partable
 
     pub spell-kept : (q : List ℕ) → lay ≡ true → q ≡ putIn o (s .pen .at + 3 + s .pen .used) bytes → length q ≡ length o
     spell-kept q l h = ink-in-kept lay o (s .pen .at + 3 + s .pen .used) bytes q spell-room l h
-
-  pub spell-at-fits : FitsIn w64 (s .pen .at + 3)
-  spell-at-fits = record { fits = omega (arith, y .place) }
-
-  pub spell-fits : FitsIn w64 (s .pen .at + 3 + s .pen .used)
-  spell-fits = record { fits = omega (arith, y .place, y .fits) }
 
 pub ruleset spelling = (spell-from, spell-end, spell-less, spell-seg, spell-more, spell-laid, spell-measured, spell-kept, spell-at-fits, spell-fits, needs)

@@ -1,5 +1,5 @@
 use borrow.Author.Needs.{needs}
-use Rattle.writer.proofs.Answering.{answering, measured-ready}
+use Rattle.writer.proofs.Answering.{answering, measured-ready, measured-kept, answers-lacking, answers-over, answers-short, answers-done, done-kept}
 use Rattle.writer.proofs.write_set.Statement.{statement}
 use Rattle.writer.proofs.write_set.Tie as tie
 
@@ -10,28 +10,34 @@ refusal-requires : tie.Need-refusal-requires
 refusal-requires c κs = search answering
 
 same-length : tie.Need-same-length
-same-length c = search answering
+same-length c =
+    measured-kept _ _ _ _ _ (c .before .before .before .before .lay-set .ensures)
 
 returns : tie.Need-returns
-returns c = search answering
+returns c =
+    answers-lacking _ _ _ _ _ (c .before .before .before .before .lay-set .ensures) _ (c .before .if1 .taken) (c .refusal .ensures)
 
 refusal-requires-2 : tie.Need-refusal-requires-2
 refusal-requires-2 c κs = search answering
 
 same-length-2 : tie.Need-same-length-2
-same-length-2 c = search answering
+same-length-2 c =
+    measured-kept _ _ _ _ _ (c .before .before .before .before .before .lay-set .ensures)
 
 returns-2 : tie.Need-returns-2
-returns-2 c = search answering
+returns-2 c =
+    answers-over _ _ _ _ _ (c .before .before .before .before .before .lay-set .ensures) (c .before .before .if1 .left) _ (c .before .if2 .taken) (c .refusal2 .ensures)
 
 refusal-requires-3 : tie.Need-refusal-requires-3
 refusal-requires-3 c κs = search answering
 
 same-length-3 : tie.Need-same-length-3
-same-length-3 c = search answering
+same-length-3 c =
+    measured-kept _ _ _ _ _ (c .before .before .before .before .before .before .lay-set .ensures)
 
 returns-3 : tie.Need-returns-3
-returns-3 c = search answering
+returns-3 c =
+    answers-short _ _ _ _ _ (c .before .before .before .before .before .before .lay-set .ensures) (c .before .before .before .if1 .left) (c .before .before .if2 .left) _ (c .before .if3 .taken) (c .refusal3 .ensures)
 
 lay-set-requires-2 : tie.Need-lay-set-requires-2
 lay-set-requires-2 c κs =

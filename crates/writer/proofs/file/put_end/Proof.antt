@@ -1,9 +1,10 @@
-use Rattle.writer.proofs.Files.{tails}
+use Rattle.writer.proofs.Files.{tails, tail-short, tailed-laid, tailed-measured, tail-all-kept, tail-kept}
 use Rattle.writer.proofs.file.put_end.Statement.{statement}
 use Rattle.writer.proofs.file.put_end.Tie as tie
 
 returns : tie.Need-returns
-returns c = search tails
+returns c =
+    tail-short _ _ _ _ _ _ (c .before .before .before .pre) (c .if1 .taken)
 
 close-requires : tie.Need-close-requires
 close-requires c κs = search tails
@@ -21,16 +22,19 @@ put-trailers-requires : tie.Need-put-trailers-requires
 put-trailers-requires c κs = search tails
 
 same-length : tie.Need-same-length
-same-length c = search tails
+same-length c =
+    search tails
 
 returns-2 : tie.Need-returns-2
-returns-2 c = search tails
+returns-2 c =
+    tailed-laid _ _ _ _ _ _ _ (c .before .before .before .before .before .before .before .before .before .before .before .before .before .before .before .pre) (c .before .before .before .before .before .before .before .before .before .before .before .before .if1 .left) (c .before .before .before .before .before .before .before .before .before .before .close .ensures) (c .before .before .before .before .before .before .if2 .taken) (c .before .before .put-trailers .ensures)
 
 same-length-2 : tie.Need-same-length-2
 same-length-2 c = search tails
 
 returns-3 : tie.Need-returns-3
-returns-3 c = search tails
+returns-3 c =
+    tailed-measured _ _ _ _ _ _ (c .before .before .before .before .before .before .before .before .before .pre) (c .before .before .before .before .before .before .if1 .left) _ _ (c .before .before .before .before .close .ensures) (c .if2 .left)
 
 pub put-end-spec : {M : Type 1} → statement M
 put-end-spec =

@@ -1,4 +1,4 @@
-use Rattle.writer.proofs.Units.{heading}
+use Rattle.writer.proofs.Units.{heading, head-more, head-at-fits, head-fits, head-laid, head-measured}
 use Rattle.writer.proofs.pack.put_head.Statement.{statement}
 use Rattle.writer.proofs.pack.put_head.Tie as tie
 
@@ -9,16 +9,19 @@ word-of-requires : tie.Need-word-of-requires
 word-of-requires c κs = search heading
 
 more-requires : tie.Need-more-requires
-more-requires c κs = search heading
+more-requires c κs =
+    head-more _ _ _ _ _ (c .before .before .before .before .pre) _ (c .word-of .ensures)
 
 indicator-requires : tie.Need-indicator-requires
 indicator-requires c κs = search heading
 
 add-put-word : tie.Need-add-put-word
-add-put-word c = search heading
+add-put-word c =
+    head-at-fits _ _ _ _ _ (c .before .before .before .before .before .before .before .before .before .pre)
 
 add-put-word-2 : tie.Need-add-put-word-2
-add-put-word-2 c = search heading
+add-put-word-2 c =
+    head-fits _ _ _ _ _ (c .before .before .before .before .before .before .before .before .before .before .pre)
 
 put-word-requires : tie.Need-put-word-requires
 put-word-requires c κs = search heading
@@ -27,10 +30,12 @@ same-length : tie.Need-same-length
 same-length c = search heading
 
 returns : tie.Need-returns
-returns c = search heading
+returns c =
+    head-laid _ _ _ _ _ (c .before .before .before .before .before .before .before .before .before .before .before .before .before .pre) _ _ _ (c .before .before .before .before .before .before .before .before .before .before .taken .ensures) (c .before .before .before .before .before .before .before .before .before .word-of .ensures) (c .before .before .before .before .before .before .before .before .more .ensures) _ _ _ (c .before .before .before .before .before .before .indicator .ensures) (c .before .before .before .before .before .before .before .if1 .taken) (c .before .before .put-word .ensures)
 
 returns-2 : tie.Need-returns-2
-returns-2 c = search heading
+returns-2 c =
+    head-measured _ _ _ _ _ (c .before .before .before .before .before .before .pre) _ _ _ (c .before .before .before .taken .ensures) (c .before .before .word-of .ensures) (c .before .more .ensures) _ (c .if1 .left)
 
 pub put-head-spec : {M : Type 1} → statement M
 put-head-spec =

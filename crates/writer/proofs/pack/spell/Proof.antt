@@ -1,9 +1,10 @@
-use Rattle.writer.proofs.Units.{spelling}
+use Rattle.writer.proofs.Units.{spelling, spell-from, spell-less, spell-seg, spell-more, spell-at-fits, spell-fits, spell-kept, spell-laid, spell-measured}
 use Rattle.writer.proofs.pack.spell.Statement.{statement}
 use Rattle.writer.proofs.pack.spell.Tie as tie
 
 sub-smaller : tie.Need-sub-smaller
-sub-smaller c = search spelling
+sub-smaller c =
+    spell-from _ _ _ _ (c .before .before .before .pre)
 
 smaller-requires : tie.Need-smaller-requires
 smaller-requires c κs = search spelling
@@ -12,19 +13,24 @@ add-end : tie.Need-add-end
 add-end c = search spelling
 
 more-requires : tie.Need-more-requires
-more-requires c κs = search spelling
+more-requires c κs =
+    spell-more _ _ _ _ (c .before .before .before .before .pre) _ (c .smaller .ensures)
 
 sub-t11 : tie.Need-sub-t11
-sub-t11 c = search spelling
+sub-t11 c =
+    spell-less _ _ _ _ (c .before .before .before .before .before .before .pre) _ (c .before .before .smaller .ensures)
 
 sub-t12 : tie.Need-sub-t12
-sub-t12 c = search spelling
+sub-t12 c =
+    spell-seg _ _ _ _ (c .before .before .before .before .before .before .before .pre) _ (c .before .before .before .smaller .ensures)
 
 add-put-in : tie.Need-add-put-in
-add-put-in c = search spelling
+add-put-in c =
+    spell-at-fits _ _ _ _ (c .before .before .before .before .before .before .before .before .before .before .pre)
 
 add-put-in-2 : tie.Need-add-put-in-2
-add-put-in-2 c = search spelling
+add-put-in-2 c =
+    spell-fits _ _ _ _ (c .before .before .before .before .before .before .before .before .before .before .before .pre)
 
 sub-put-in : tie.Need-sub-put-in
 sub-put-in c = search spelling
@@ -39,13 +45,16 @@ put-in-requires : tie.Need-put-in-requires
 put-in-requires c κs = search spelling
 
 same-length : tie.Need-same-length
-same-length c = search spelling
+same-length c =
+    spell-kept _ _ _ _ (c .before .before .before .before .before .before .before .before .before .before .before .before .before .before .before .pre) _ (c .before .before .before .before .before .before .before .before .before .before .before .smaller .ensures) _ (c .before .before .before .before .before .before .before .if1 .taken) (c .before .before .put-in .ensures)
 
 returns : tie.Need-returns
-returns c = search spelling
+returns c =
+    spell-laid _ _ _ _ (c .before .before .before .before .before .before .before .before .before .before .before .before .before .before .before .pre) _ (c .before .before .before .before .before .before .before .before .before .before .before .smaller .ensures) _ (c .before .before .before .before .before .before .before .before .before .before .more .ensures) _ (c .before .before .before .before .before .before .before .if1 .taken) (c .before .before .put-in .ensures)
 
 returns-2 : tie.Need-returns-2
-returns-2 c = search spelling
+returns-2 c =
+    spell-measured _ _ _ _ (c .before .before .before .before .before .before .before .before .pre) _ (c .before .before .before .before .smaller .ensures) _ (c .before .before .before .more .ensures) (c .if1 .left)
 
 pub spell-spec : {M : Type 1} → statement M
 spell-spec =

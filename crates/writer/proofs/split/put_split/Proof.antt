@@ -1,7 +1,7 @@
 use Prim.Native.Nat.{_-_}
 use lib.ListN.{length}
 use Rattle.writer.specs.Pass.{jobOf}
-use Rattle.writer.proofs.Splits.{splits, Splits, splits-goes, splits-more}
+use Rattle.writer.proofs.Splits.{splits, Splits, splits-goes, splits-more, splits-packable, splits-on, splits-kept-on, splits-short, splits-last, splits-fall}
 use Rattle.writer.proofs.split.put_split.Statement.{statement}
 use Rattle.writer.proofs.split.put_split.Tie as tie
 
@@ -30,30 +30,36 @@ part-put-pieces-end : tie.Need-part-put-pieces-end Inv-loop μ-loop
 part-put-pieces-end c = search splits
 
 put-pieces-requires : tie.Need-put-pieces-requires Inv-loop μ-loop
-put-pieces-requires c κs = search splits
+put-pieces-requires c κs =
+    (splits-packable _ _ _ _ _ _ _ _ _ _ _ (c .before .before .before .loop .inv), splits-on _ _ _ _ _ _ _ _ _ _ _ (c .before .before .before .loop .inv))
 
 same-length : tie.Need-same-length Inv-loop μ-loop
-same-length c = search splits
+same-length c =
+    splits-kept-on _ _ _ _ _ _ _ _ _ _ _ (c .before .before .before .before .before .before .before .before .loop .inv) _ _ (c .before .before .before .before .put-pieces .ensures)
 
 returns : tie.Need-returns Inv-loop μ-loop
-returns c = search splits
+returns c =
+    splits-short _ _ _ _ _ _ _ _ _ _ _ (c .before .before .before .before .before .before .before .before .loop .inv) _ _ (c .before .before .before .before .put-pieces .ensures) (c .if1 .taken)
 
 same-length-2 : tie.Need-same-length-2 Inv-loop μ-loop
-same-length-2 c = search splits
+same-length-2 c =
+    splits-kept-on _ _ _ _ _ _ _ _ _ _ _ (c .before .before .before .before .before .before .before .before .before .before .loop .inv) _ _ (c .before .before .before .before .before .before .put-pieces .ensures)
 
 returns-2 : tie.Need-returns-2 Inv-loop μ-loop
-returns-2 c = search splits
+returns-2 c =
+    splits-last _ _ _ _ _ _ _ _ _ _ _ (c .before .before .before .before .before .before .before .before .before .before .loop .inv) _ _ (c .before .before .before .before .before .before .put-pieces .ensures) (c .before .before .if1 .left) (c .if2 .taken)
 
 next-of-requires : tie.Need-next-of-requires Inv-loop μ-loop
 next-of-requires c κs =
-    search (splits-goes _ _ _ _ _ _ _ _ _ _ _ (c .before .before .before .before .before .before .before .before .before .before .loop .inv) _ _ (c .before .before .before .before .before .before .put-pieces .ensures))
+    splits-goes _ _ _ _ _ _ _ _ _ _ _ (c .before .before .before .before .before .before .before .before .before .before .loop .inv) _ _ (c .before .before .before .before .before .before .put-pieces .ensures) (c .before .before .if1 .left) (c .if2 .left)
 
 loop-less : tie.Need-loop-less Inv-loop μ-loop
-loop-less c = search splits
+loop-less c =
+    splits-fall _ _ _ _ _ _ _ _ _ _ _ (c .before .before .before .before .before .before .before .before .before .before .before .loop .inv) _ _ (c .before .before .before .before .before .before .before .put-pieces .ensures) (c .before .before .before .if1 .left) (c .before .if2 .left) _ (c .next-of .ensures .0) (c .next-of .ensures .1)
 
 loop-again : tie.Need-loop-again Inv-loop μ-loop
 loop-again c =
-    search (splits-more _ _ _ _ _ _ _ _ _ _ _ (c .before .before .before .before .before .before .before .before .before .before .before .loop .inv) _ _ (c .before .before .before .before .before .before .before .put-pieces .ensures))
+    splits-more _ _ _ _ _ _ _ _ _ _ _ (c .before .before .before .before .before .before .before .before .before .before .before .loop .inv) _ _ (c .before .before .before .before .before .before .before .put-pieces .ensures) (c .before .before .before .if1 .left) (c .before .if2 .left) _ (c .next-of .ensures .0)
 
 pub put-split-spec : {M : Type 1} → statement M
 put-split-spec =
