@@ -368,6 +368,9 @@ counting-split s from records bytes w n v m c e q =
     let both = handed-split s n v (recordAt s w) (sym e ∙ q) in
     counting-more s from records bytes w (recordBytes (recordAt s w)) n v c (both .0) (both .1)
 
+facts-same : (x y : Facts) → x .records ≡ y .records → x .bytes ≡ y .bytes → x ≡ y
+facts-same x y a b = λ i. record { records = a i; bytes = b i }
+
 pub counted-all : (s : List ℕ) (from : Walk) (records bytes : ℕ) (w : Walk) (m : Measured) → Counting s from records bytes w → m ≡ measuredBy (recordAt s w) → m ≡ None
     → _≡_ {A = Facts} (record { records = records; bytes = bytes }) (factsOf (recordsAt s from))
 unfolding factsOf sum
@@ -375,7 +378,7 @@ counted-all s from records bytes w m c e q =
     let none = measured-nothing s w m e q in
     let a : records ≡ length (recordsAt s from) = omega (arith, c .number, ap length none) in
     let b : bytes ≡ sum (map length (recordsAt s from)) = omega (arith, c .total, ap (λ (ts : List (List ℕ)). sum (map length ts)) none) in
-    λ i. record { records = a i; bytes = b i }
+    facts-same (record { records = records; bytes = bytes }) (factsOf (recordsAt s from)) a b
 
 -- the numbers fit, and the walk goes on
 record Further (s : List ℕ) (records bytes : ℕ) (w : Walk) (n : ℕ) (v : Walk) : Type 0 where
