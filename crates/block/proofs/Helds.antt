@@ -30,21 +30,31 @@ use Rattle.block.proofs.Wholes.{unit-word, word-fixed, word-variable, w
 use Rattle.block.proofs.Loops.{due-onto, some-padding, length-fits, length-less, segment-fits, segment-less, as-fixed, as-variable, as-segment}
 use Rattle.block.proofs.Blocks.{If-cut}
 
--- ---- the records that end with a segment
+-- ---- the records that end with a unit
 
-pub ends-one : (d : ℕ) → d ≡ 49 → 0 ≡ endsWith (d - 48)
+pub ends-begun : (i : ℕ) → i ≡ 1 → endsWith i ≡ 0
 unfolding endsWith
-ends-one d h = sym (if-true _ _ _ (eq-eqb (d - 48) 1 (omega arith)))
+ends-begun i e = if-true _ _ _ (eq-eqb i 1 e)
 
-pub ends-two : (d : ℕ) → (d ≡ 49 → ⊥) → d ≡ 50 → 0 ≡ endsWith (d - 48)
+pub ends-still : (i : ℕ) → (i ≡ 1 → ⊥) → i ≡ 2 → endsWith i ≡ 0
 unfolding endsWith
-ends-two d g h = sym (if-false _ _ _ (ne-eqb (d - 48) 1 (λ e. omega arith)) ∙ if-true _ _ _ (eq-eqb (d - 48) 2 (omega arith)))
+ends-still i a e = if-false _ _ _ (ne-eqb i 1 a) ∙ if-true _ _ _ (eq-eqb i 2 e)
 
-pub ends-other : (d : ℕ) → (d ≡ 49 → ⊥) → (d ≡ 50 → ⊥) → 1 ≡ endsWith (d - 48)
+pub ends-one : (i : ℕ) → (i ≡ 1 → ⊥) → (i ≡ 2 → ⊥) → endsWith i ≡ 1
 unfolding endsWith
-ends-other d g h = sym (if-false _ _ _ (ne-eqb (d - 48) 1 (λ e. g (omega arith))) ∙ if-false _ _ _ (ne-eqb (d - 48) 2 (λ e. h (omega arith))))
+ends-one i a b = if-false _ _ _ (ne-eqb i 1 a) ∙ if-false _ _ _ (ne-eqb i 2 b)
 
-pub ruleset endings = (ends-one, ends-two, ends-other, needs)
+-- by the digit that is the indicator
+pub digit-begun : (d : ℕ) → d ≡ 49 → 0 ≡ endsWith (d - 48)
+digit-begun d h = sym (ends-begun (d - 48) (omega arith))
+
+pub digit-still : (d : ℕ) → (d ≡ 49 → ⊥) → d ≡ 50 → 0 ≡ endsWith (d - 48)
+digit-still d g h = sym (ends-still (d - 48) (λ e. omega arith) (omega arith))
+
+pub digit-one : (d : ℕ) → (d ≡ 49 → ⊥) → (d ≡ 50 → ⊥) → 1 ≡ endsWith (d - 48)
+digit-one d g h = sym (ends-one (d - 48) (λ e. g (omega arith)) (λ e. h (omega arith)))
+
+pub ruleset endings = (digit-begun, digit-still, digit-one, needs)
 
 ends-most : (i : ℕ) → endsWith i ≤ 1
 unfolding endsWith
@@ -281,20 +291,18 @@ unfolding lengthOf
 none-stood f r s k (Of i c m) e h z = let some = unit-stands f r s i c m e .some in absurd (omega (arith, some))
 none-stood f r s k None e h z = e
 
-tally-end : (f r : ℕ) (s : List ℕ) (o at w u n k : ℕ) (h : Held) → Tallying f r s o at w u n → k ≡ lengthOf (unitOf f r (drop at s)) → k ≡ 0
+pub tally-end : (f r : ℕ) (s : List ℕ) (o at w u n k : ℕ) (h : Held) → Tallying f r s o at w u n → k ≡ lengthOf (unitOf f r (drop at s)) → k ≡ 0
     → h ≡ heldUpTo s o at w u n → h ≡ heldIn f r o s
 tally-end f r s o at w u n k h t e z q = tally-over f r s o at w u n h t (none-stood f r (drop at s) k (unitOf f r (drop at s)) refl e z) q
 
 -- in a format other than S a record ends with each unit
 tally-whole : (f r : ℕ) (s : List ℕ) (o at w u k : ℕ) → (f ≡ 83 → ⊥) → Tallying f r s o at w u u → k ≡ lengthOf (unitOf f r (drop at s)) → (k ≡ 0 → ⊥)
     → Tallying f r s o (at + k) w (u + 1) (u + 1)
-unfolding endsWith
 tally-whole f r s o at w u k g t e z =
     let x = stood f r (drop at s) k (unitOf f r (drop at s)) refl e z in
     let here = x .is in
     let zeroth : x .i ≡ 0 = unit-stands f r (drop at s) (x .i) (x .c) (x .m) here .whole g in
-    let one : 1 ≡ endsWith (x .i)
-    = sym (if-false _ _ _ (ne-eqb (x .i) 1 (λ y. omega (arith, zeroth))) ∙ if-false _ _ _ (ne-eqb (x .i) 2 (λ y. omega (arith, zeroth)))) in
+    let one : 1 ≡ endsWith (x .i) = sym (ends-one (x .i) (λ y. omega (arith, zeroth)) (λ y. omega (arith, zeroth))) in
     tally-unit f r s o at w u u (x .i) (x .c) (x .m) k 1 t here (x .long) one
 
 pub tally-fixed : (r : ℕ) (s : List ℕ) (o at w u k : ℕ) → Tallying 70 r s o at w u u → k ≡ lengthOf (fixed r (drop at s)) → (k ≡ 0 → ⊥)
@@ -312,18 +320,6 @@ tally-segment r s o at w u n k e t h z q =
     let sum : k ≡ 5 + (k - 5) = omega (arith, segment-least s at k h z) in
     tally-unit 83 r s o at w u n (getD s at 0 - 48) 5 (k - 5) k e t (unit-segment 83 r (drop at s) refl ∙ sym (segment-of s at k h z)) sum q
 
-pub end-fixed : (r : ℕ) (s : List ℕ) (o at w u n k : ℕ) (h : Held) → Tallying 70 r s o at w u n → k ≡ lengthOf (fixed r (drop at s)) → k ≡ 0
-    → h ≡ heldUpTo s o at w u n → h ≡ heldIn 70 r o s
-end-fixed r s o at w u n k h t e z q = tally-end 70 r s o at w u n k h t (as-fixed r (drop at s) k e) z q
-
-pub end-variable : (r : ℕ) (s : List ℕ) (o at w u n k : ℕ) (h : Held) → Tallying 68 r s o at w u n → k ≡ lengthOf (variable r (drop at s)) → k ≡ 0
-    → h ≡ heldUpTo s o at w u n → h ≡ heldIn 68 r o s
-end-variable r s o at w u n k h t e z q = tally-end 68 r s o at w u n k h t (as-variable r (drop at s) k e) z q
-
-pub end-segment : (r : ℕ) (s : List ℕ) (o at w u n k : ℕ) (h : Held) → Tallying 83 r s o at w u n → k ≡ lengthOf (segment (drop at s)) → k ≡ 0
-    → h ≡ heldUpTo s o at w u n → h ≡ heldIn 83 r o s
-end-segment r s o at w u n k h t e z q = tally-end 83 r s o at w u n k h t (as-segment r (drop at s) k e) z q
-
 -- the loops begin, with the control word of their format
 pub none-fixed : (r : ℕ) (s : List ℕ) (o : ℕ) → length s < 18446744073709551616 → Tallying 70 r s o o 0 0 0
 none-fixed r s o h = tally-none 70 r s o 0 h (sym (word-fixed 70 refl))
@@ -335,17 +331,11 @@ pub none-segment : (r : ℕ) (s : List ℕ) (o : ℕ) → length s < 18446744073
 none-segment r s o h = tally-none 83 r s o 5 h (sym (word-segmented 83 refl))
 
 -- the counts fit: a unit has a byte
-units-fit : (f r : ℕ) (s : List ℕ) (o at w u n k : ℕ) → Tallying f r s o at w u n → k ≡ lengthOf (unitOf f r (drop at s)) → (k ≡ 0 → ⊥) → Fits w64 (u + 1)
+pub units-fit : (f r : ℕ) (s : List ℕ) (o at w u n k : ℕ) → Tallying f r s o at w u n → k ≡ lengthOf (unitOf f r (drop at s)) → (k ≡ 0 → ⊥) → Fits w64 (u + 1)
 units-fit f r s o at w u n k t e z =
     let x = stood f r (drop at s) k (unitOf f r (drop at s)) refl e z in
     let here = unit-stands f r (drop at s) (x .i) (x .c) (x .m) (x .is) in
     omega (arith, t .some, t .room, here .some, here .within, length-drop at s)
-
-pub units-fixed : (r : ℕ) (s : List ℕ) (o at w u n k : ℕ) → Tallying 70 r s o at w u n → k ≡ lengthOf (fixed r (drop at s)) → (k ≡ 0 → ⊥) → Fits w64 (u + 1)
-units-fixed r s o at w u n k t e z = units-fit 70 r s o at w u n k t (as-fixed r (drop at s) k e) z
-
-pub units-variable : (r : ℕ) (s : List ℕ) (o at w u n k : ℕ) → Tallying 68 r s o at w u n → k ≡ lengthOf (variable r (drop at s)) → (k ≡ 0 → ⊥) → Fits w64 (u + 1)
-units-variable r s o at w u n k t e z = units-fit 68 r s o at w u n k t (as-variable r (drop at s) k e) z
 
 pub units-segment : (r : ℕ) (s : List ℕ) (o at w u n k : ℕ) → Tallying 83 r s o at w u n → k ≡ lengthOf (segment (drop at s)) → (k ≡ 0 → ⊥) → Fits w64 (u + 1)
 units-segment r s o at w u n k t e z = units-fit 83 r s o at w u n k t (as-segment r (drop at s) k e) z
@@ -361,11 +351,8 @@ pub ruleset tallies = (
   tally-fixed,
   tally-variable,
   tally-segment,
-  end-fixed,
-  end-variable,
-  end-segment,
-  units-fixed,
-  units-variable,
+  tally-end,
+  units-fit,
   units-segment,
   ends-fit,
   segment-inside,
@@ -375,6 +362,7 @@ pub ruleset tallies = (
   segment-less,
   as-fixed,
   as-variable,
+  as-segment,
   needs,
 )
 

@@ -2,7 +2,7 @@
 -- A record counts in the block in which it ends; a block that cannot be cut holds nothing that counts.
 -- `held-adds` (proofs/Helds.antt): the four kinds of bytes of a block that can be cut add up to its length.
 use mathlib.Core.Path.{_≡_}
-use mathlib.Core.List.{List, [], map}
+use mathlib.Core.List.{List, map}
 use mathlib.Core.Option.{Option, none, some}
 use Prim.Native.Nat.{ℕ, _+_, _-_, _*_, _≤_}
 use lib.Dec.{eqb}

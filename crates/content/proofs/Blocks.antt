@@ -255,7 +255,7 @@ pub joined-two : (x : Segment) (xs : List Segment) → (x .indicator ≡ 1 → �
 unfolding joined
 joined-two x xs a b = if-false _ _ _ (ne-eqb (x .indicator) 1 a) ∙ if-true _ _ _ (eq-eqb (x .indicator) 2 b)
 
-pub open-whole : (o i n : ℕ) → (i ≡ 1 → ⊥) → (i ≡ 2 → ⊥) → openAfter o i n ≡ 0
+open-whole : (o i n : ℕ) → (i ≡ 1 → ⊥) → (i ≡ 2 → ⊥) → openAfter o i n ≡ 0
 unfolding openAfter
 open-whole o i n a b = if-false _ _ _ (ne-eqb i 1 a) ∙ if-false _ _ _ (ne-eqb i 2 b)
 

@@ -7,12 +7,12 @@ use mathlib.Core.Option.{Option, none, some}
 use Prim.Native.Nat.{ℕ, zero, suc, _+_, _-_, _≤_, _<_}
 use native.Mathlib.Omega.{arith}
 use borrow.Author.Needs.{needs}
-use borrow.Author.Tests.{eq-eqb, ne-eqb, eqb-true, eqb-false}
+use borrow.Author.Tests.{eqb-true, eqb-false}
 use mir.Val.{Fits}
 use mir.Syntax.{w64}
-use lib.Dec.{leb, eqb}
+use lib.Dec.{eqb}
 use lib.ListN.{length, take, drop, length-append}
-use Rattle.base.specs.If.{ifB, if-true, if-false, if-case}
+use Rattle.base.specs.If.{if-case}
 use Rattle.base.specs.Part.{part}
 use Rattle.base.specs.Sum.{sum}
 use Rattle.base.proofs.Parts.{length-part, part-within}
@@ -25,7 +25,7 @@ use Rattle.block.specs.Held.{endsWith, recordsEnding, segmentBytes, empty, held
 use Rattle.block.specs.Held.{heldBy as heldOf}
 use Rattle.block.specs.declared.Held.{Held}
 use Rattle.block.specs.declared.Outcome.{Outcome}
-use Rattle.block.proofs.Helds.{Fitting, held-fits}
+use Rattle.block.proofs.Helds.{ends-begun, ends-still, ends-one, Fitting, held-fits}
 use Rattle.volume.specs.Meaning.{onFirst, joined}
 use Rattle.volume.specs.Step.{segmentsOf}
 use Rattle.sheet.proofs.Assembled.{InTurn, starts, follows, in-turn}
@@ -38,7 +38,7 @@ use Rattle.content.specs.declared.section.Extent.the-variants.{At as Blo
 use Rattle.content.specs.declared.unit.Taken.{Taken}
 use Rattle.content.proofs.Sections.{by-place, Ahead, data-within}
 use Rattle.content.proofs.Searches.{Follows, Leads, data-leads}
-use Rattle.content.proofs.Blocks.{Hands, turns-shut, joined-whole, joined-one, joined-two, open-whole, open-one, open-two, UnitsOf, units-of, units-empty}
+use Rattle.content.proofs.Blocks.{Hands, turns-shut, joined-whole, joined-one, joined-two, open-one, open-two, units-of, units-empty}
 
 -- ---- the equations
 
@@ -248,18 +248,6 @@ joined-bytes (x ∷ xs) ys =
     P : List (List ℕ) → Type 0
     P rs = sum (map length rs) ≡ length (x .bytes) + segmentBytes xs + sum (map length (joined ys))
 
-ends-none : (i : ℕ) → i ≡ 1 → endsWith i ≡ 0
-unfolding endsWith
-ends-none i e = if-true _ _ _ (eq-eqb i 1 e)
-
-ends-still : (i : ℕ) → (i ≡ 1 → ⊥) → i ≡ 2 → endsWith i ≡ 0
-unfolding endsWith
-ends-still i a e = if-false _ _ _ (ne-eqb i 1 a) ∙ if-true _ _ _ (eq-eqb i 2 e)
-
-ends-one : (i : ℕ) → (i ≡ 1 → ⊥) → (i ≡ 2 → ⊥) → endsWith i ≡ 1
-unfolding endsWith
-ends-one i a b = if-false _ _ _ (ne-eqb i 1 a) ∙ if-false _ _ _ (ne-eqb i 2 b)
-
 -- a record that is open behind some segments goes on in those that follow
 abbrev Goes : ℕ → List Segment → Type 0
 Goes q ys = (q ≡ 0 → ⊥) → joined ys ≡ [] → ⊥
@@ -304,7 +292,7 @@ joined-number r (x ∷ xs) ys q head =
         → (turnsFrom r (openAfter q i n) false xs .number ≡ 0 → Goes (turnsFrom r (openAfter q i n) false xs .pending) ys
         → length (joined (xs ++ ys)) ≡ sum (map (λ (y : Segment). endsWith (y .indicator)) xs) + length (joined ys))
         → P (turnsFrom r (openAfter q i n) false xs)
-    by-one true a b d t again = let one = eqb-true i 1 a in open-by n (open-one q i n one) (joined-one x (xs ++ ys) one) (ends-none i one)
+    by-one true a b d t again = let one = eqb-true i 1 a in open-by n (open-one q i n one) (joined-one x (xs ++ ys) one) (ends-begun i one)
     by-one false a true d (starts p o m) again = let two = eqb-true i 2 d in absurd (omega (arith, two))
     by-one false a true d (follows p o m) again =
         let other = eqb-false i 1 a in

@@ -1,7 +1,7 @@
 -- The lines of the files of an accepted set, one after the other. Assumes nothing.
 use mathlib.Core.Path.{_≡_, refl, sym, ap, ap₂, _∙_, subst}
 use mathlib.Core.Bool.{Bool, true, false, false≢true}
-use mathlib.Core.List.{List, [], _∷_, _++_, append-assoc, append-nil, map}
+use mathlib.Core.List.{List, [], _∷_, _++_, append-assoc, append-nil}
 use Prim.Native.Nat.{ℕ, suc, _+_, _-_, _≤_, _<_}
 use native.Mathlib.Omega.{arith}
 use borrow.Author.Needs.{needs}
@@ -12,7 +12,6 @@ use Rattle.base.specs.If.{if-case}
 use Rattle.base.specs.Part.{part}
 use Rattle.base.specs.Digits.{digits}
 use Rattle.base.proofs.Parts.{length-part, put-none}
-use Rattle.base.specs.Sum.{sum}
 use Rattle.output.proofs.Writing.{wrote-wrote, wrote-same}
 use Rattle.image.specs.Item.{Item}
 use Rattle.image.specs.Framing.{items}

@@ -1,12 +1,12 @@
 -- The listing of an accepted set has room on a page: a heading of 40 bytes, and at most 64 lines of at most 43. Assumes nothing.
-use mathlib.Core.Path.{_≡_, refl, sym, ap, _∙_, subst}
+use mathlib.Core.Path.{_≡_, refl}
 use mathlib.Core.Bool.{Bool, true, false, false≢true}
 use mathlib.Core.List.{List, [], _∷_, _++_, map}
-use Prim.Native.Nat.{ℕ, suc, _+_, _-_, _*_, _^_, _≤_, _<_}
+use Prim.Native.Nat.{ℕ, _+_, _*_, _^_, _≤_, _<_}
 use native.Mathlib.Omega.{arith}
 use borrow.Author.Tests.{leb-true}
 use lib.Dec.{leb}
-use lib.ListN.{length, take, drop, length-append, length-take}
+use lib.ListN.{length, drop, length-append, length-take}
 use Rattle.base.specs.If.{ifB, if-case}
 use Rattle.base.specs.Part.{part}
 use Rattle.base.specs.Sum.{sum}
@@ -14,7 +14,6 @@ use Rattle.base.specs.Digits.{digits}
 use Rattle.base.proofs.Numbers.{length-digits}
 use Rattle.image.proofs.Frames.{framing-zero}
 use Rattle.output.specs.Text.{bytes}
-use Rattle.block.proofs.Helds.{Fitting}
 use Rattle.volume.specs.Run.{imageVerdict}
 use Rattle.volume.specs.Meaning.{File, Meaning, content}
 use Rattle.volume.proofs.Accepted.{accepted-iff}
