@@ -1,18 +1,19 @@
+use borrow.Author.Needs.{needs}
 use Rattle.writer.proofs.Answering.{rewrites}
 use Rattle.writer.proofs.rewrite.Statement.{statement}
 use Rattle.writer.proofs.rewrite.Tie as tie
 
 check-requires : tie.Need-check-requires
-check-requires c κs = search rewrites
+check-requires c κs = search needs
 
 returns : tie.Need-returns
 returns c = search rewrites
 
 reels-number-requires : tie.Need-reels-number-requires
-reels-number-requires c κs = search rewrites
+reels-number-requires c κs = search needs
 
 refusal-requires : tie.Need-refusal-requires
-refusal-requires c κs = search rewrites
+refusal-requires c κs = search needs
 
 returns-2 : tie.Need-returns-2
 returns-2 c = search rewrites

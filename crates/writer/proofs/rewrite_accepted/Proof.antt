@@ -1,30 +1,31 @@
+use borrow.Author.Needs.{needs}
 use Rattle.writer.proofs.FromImage.{images}
 use Rattle.writer.proofs.rewrite_accepted.Statement.{statement}
 use Rattle.writer.proofs.rewrite_accepted.Tie as tie
 
 first-file-requires : tie.Need-first-file-requires
-first-file-requires c κs = search images
+first-file-requires c κs = search needs
 
 enum-told : tie.Need-enum-told
 enum-told c = search images
 
 refusal-requires : tie.Need-refusal-requires
-refusal-requires c κs = search images
+refusal-requires c κs = search needs
 
 enum-known-f : tie.Need-enum-known-f
 enum-known-f c = search images
 
 part-of-requires : tie.Need-part-of-requires
-part-of-requires c κs = search images
+part-of-requires c κs = search needs
 
 set-of-requires : tie.Need-set-of-requires
-set-of-requires c κs = search images
+set-of-requires c κs = search needs
 
 slice-aggregate-write-quota : tie.Need-slice-aggregate-write-quota
-slice-aggregate-write-quota c = search images
+slice-aggregate-write-quota c = search needs
 
 slice-aggregate-write-quota-2 : tie.Need-slice-aggregate-write-quota-2
-slice-aggregate-write-quota-2 c = search images
+slice-aggregate-write-quota-2 c = search needs
 
 write-quota-requires : tie.Need-write-quota-requires
 write-quota-requires c κs = search images

@@ -1,12 +1,13 @@
+use borrow.Author.Needs.{needs}
 use Rattle.writer.proofs.Answering.{writes}
 use Rattle.writer.proofs.write.Statement.{statement}
 use Rattle.writer.proofs.write.Tie as tie
 
 sheet-number-requires : tie.Need-sheet-number-requires
-sheet-number-requires c κs = search writes
+sheet-number-requires c κs = search needs
 
 refusal-requires : tie.Need-refusal-requires
-refusal-requires c κs = search writes
+refusal-requires c κs = search needs
 
 returns : tie.Need-returns
 returns c = search writes

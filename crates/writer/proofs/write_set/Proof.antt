@@ -7,7 +7,7 @@ lay-set-requires : tie.Need-lay-set-requires
 lay-set-requires c κs = search answering
 
 refusal-requires : tie.Need-refusal-requires
-refusal-requires c κs = search answering
+refusal-requires c κs = search needs
 
 same-length : tie.Need-same-length
 same-length c =
@@ -18,7 +18,7 @@ returns c =
     answers-lacking _ _ _ _ _ (c .before .before .before .before .lay-set .ensures) _ (c .before .if1 .taken) (c .refusal .ensures)
 
 refusal-requires-2 : tie.Need-refusal-requires-2
-refusal-requires-2 c κs = search answering
+refusal-requires-2 c κs = search needs
 
 same-length-2 : tie.Need-same-length-2
 same-length-2 c =
@@ -29,7 +29,7 @@ returns-2 c =
     answers-over _ _ _ _ _ (c .before .before .before .before .before .lay-set .ensures) (c .before .before .if1 .left) _ (c .before .if2 .taken) (c .refusal2 .ensures)
 
 refusal-requires-3 : tie.Need-refusal-requires-3
-refusal-requires-3 c κs = search answering
+refusal-requires-3 c κs = search needs
 
 same-length-3 : tie.Need-same-length-3
 same-length-3 c =
@@ -44,7 +44,7 @@ lay-set-requires-2 c κs =
     measured-ready _ _ _ _ _ (c .before .before .before .before .before .before .lay-set .ensures) (c .before .before .before .if1 .left) (c .before .before .if2 .left) (search needs) (c .before .before .before .before .before .before .before .before .before .before .before .before .before .before .pre)
 
 done-requires : tie.Need-done-requires
-done-requires c κs = search answering
+done-requires c κs = search needs
 
 same-length-4 : tie.Need-same-length-4
 same-length-4 c = search answering

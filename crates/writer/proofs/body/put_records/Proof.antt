@@ -1,3 +1,4 @@
+use borrow.Author.Needs.{needs}
 use Rattle.writer.proofs.Bodies.{writing, Writing, writing-good, writing-takable}
 use lib.ListN.{length}
 use Rattle.writer.specs.Pass.{jobOf}
@@ -13,10 +14,10 @@ abbrev μ-loop : tie.MeasureT-loop
 μ-loop f b lengths bytes labels rooms out₀ lay w most pen₀ c₀ out pen c = length (recordsOf lengths bytes c)
 
 word-of-requires : tie.Need-word-of-requires Inv-loop μ-loop
-word-of-requires c κs = search writing
+word-of-requires c κs = search needs
 
 most-of-requires : tie.Need-most-of-requires Inv-loop μ-loop
-most-of-requires c κs = search writing
+most-of-requires c κs = search needs
 
 loop-holds : tie.Need-loop-holds Inv-loop μ-loop
 loop-holds c = search writing
@@ -47,7 +48,7 @@ returns-2 : tie.Need-returns-2 Inv-loop μ-loop
 returns-2 c = search writing
 
 moved-to-requires : tie.Need-moved-to-requires Inv-loop μ-loop
-moved-to-requires c κs = search writing
+moved-to-requires c κs = search needs
 
 loop-less : tie.Need-loop-less Inv-loop μ-loop
 loop-less c = search writing

@@ -1,15 +1,16 @@
+use borrow.Author.Needs.{needs}
 use Rattle.writer.proofs.Files.{beginning}
 use Rattle.writer.proofs.file.begin_file.Statement.{statement}
 use Rattle.writer.proofs.file.begin_file.Tie as tie
 
 add-t8 : tie.Need-add-t8
-add-t8 c = search beginning
+add-t8 c = search needs
 
 slice-aggregate-put-pair : tie.Need-slice-aggregate-put-pair
-slice-aggregate-put-pair c = search beginning
+slice-aggregate-put-pair c = search needs
 
 slice-aggregate-put-pair-2 : tie.Need-slice-aggregate-put-pair-2
-slice-aggregate-put-pair-2 c = search beginning
+slice-aggregate-put-pair-2 c = search needs
 
 put-pair-requires : tie.Need-put-pair-requires
 put-pair-requires c κs = search beginning

@@ -1,3 +1,4 @@
+use borrow.Author.Needs.{needs}
 use Rattle.writer.proofs.Files.{tails, tail-short, tailed-laid, tailed-measured, tail-all-kept, tail-kept}
 use Rattle.writer.proofs.file.put_end.Statement.{statement}
 use Rattle.writer.proofs.file.put_end.Tie as tie
@@ -13,10 +14,10 @@ add-t14 : tie.Need-add-t14
 add-t14 c = search tails
 
 slice-aggregate-put-trailers : tie.Need-slice-aggregate-put-trailers
-slice-aggregate-put-trailers c = search tails
+slice-aggregate-put-trailers c = search needs
 
 slice-aggregate-put-trailers-2 : tie.Need-slice-aggregate-put-trailers-2
-slice-aggregate-put-trailers-2 c = search tails
+slice-aggregate-put-trailers-2 c = search needs
 
 put-trailers-requires : tie.Need-put-trailers-requires
 put-trailers-requires c κs = search tails

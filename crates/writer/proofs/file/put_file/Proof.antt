@@ -1,15 +1,16 @@
+use borrow.Author.Needs.{needs}
 use Rattle.writer.proofs.Files.{filing, file-tailable, file-put}
 use Rattle.writer.proofs.file.put_file.Statement.{statement}
 use Rattle.writer.proofs.file.put_file.Tie as tie
 
 part-of-requires : tie.Need-part-of-requires
-part-of-requires c κs = search filing
+part-of-requires c κs = search needs
 
 format-in-requires : tie.Need-format-in-requires
-format-in-requires c κs = search filing
+format-in-requires c κs = search needs
 
 block-length-in-requires : tie.Need-block-length-in-requires
-block-length-in-requires c κs = search filing
+block-length-in-requires c κs = search needs
 
 begin-file-requires : tie.Need-begin-file-requires
 begin-file-requires c κs = search filing

@@ -1,42 +1,43 @@
+use borrow.Author.Needs.{needs}
 use Rattle.writer.proofs.Items.{together, puts-pair}
 use Rattle.writer.proofs.item.put_pair.Statement.{statement}
 use Rattle.writer.proofs.item.put_pair.Tie as tie
 
 part-of-requires : tie.Need-part-of-requires
-part-of-requires c κs = search together
+part-of-requires c κs = search needs
 
 part-of-requires-2 : tie.Need-part-of-requires-2
-part-of-requires-2 c κs = search together
+part-of-requires-2 c κs = search needs
 
 element-copy-out-number : tie.Need-element-copy-out-number
-element-copy-out-number c = search together
+element-copy-out-number c = search needs
 
 number-requires : tie.Need-number-requires
-number-requires c κs = search together
+number-requires c κs = search needs
 
 first-label-requires : tie.Need-first-label-requires
-first-label-requires c κs = search together
+first-label-requires c κs = search needs
 
 second-label-requires : tie.Need-second-label-requires
-second-label-requires c κs = search together
+second-label-requires c κs = search needs
 
 slice-aggregate-put-label : tie.Need-slice-aggregate-put-label
-slice-aggregate-put-label c = search together
+slice-aggregate-put-label c = search needs
 
 put-label-requires : tie.Need-put-label-requires
 put-label-requires c κs = search together
 
 add-put-label : tie.Need-add-put-label
-add-put-label c = search together
+add-put-label c = search needs
 
 slice-aggregate-put-label-2 : tie.Need-slice-aggregate-put-label-2
-slice-aggregate-put-label-2 c = search together
+slice-aggregate-put-label-2 c = search needs
 
 put-label-requires-2 : tie.Need-put-label-requires-2
 put-label-requires-2 c κs = search together
 
 add-put-length : tie.Need-add-put-length
-add-put-length c = search together
+add-put-length c = search needs
 
 put-length-requires : tie.Need-put-length-requires
 put-length-requires c κs = search together

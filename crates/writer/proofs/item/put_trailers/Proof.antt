@@ -1,3 +1,4 @@
+use borrow.Author.Needs.{needs}
 use Rattle.writer.proofs.Items.{together}
 use Rattle.writer.proofs.item.put_trailers.Statement.{statement}
 use Rattle.writer.proofs.item.put_trailers.Tie as tie
@@ -6,7 +7,7 @@ put-length-requires : tie.Need-put-length-requires
 put-length-requires c κs = search together
 
 add-put-pair : tie.Need-add-put-pair
-add-put-pair c = search together
+add-put-pair c = search needs
 
 put-pair-requires : tie.Need-put-pair-requires
 put-pair-requires c κs = search together

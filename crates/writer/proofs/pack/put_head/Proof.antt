@@ -1,19 +1,20 @@
+use borrow.Author.Needs.{needs}
 use Rattle.writer.proofs.Units.{heading, head-more, head-at-fits, head-fits, head-laid, head-measured}
 use Rattle.writer.proofs.pack.put_head.Statement.{statement}
 use Rattle.writer.proofs.pack.put_head.Tie as tie
 
 taken-requires : tie.Need-taken-requires
-taken-requires c κs = search heading
+taken-requires c κs = search needs
 
 word-of-requires : tie.Need-word-of-requires
-word-of-requires c κs = search heading
+word-of-requires c κs = search needs
 
 more-requires : tie.Need-more-requires
 more-requires c κs =
     head-more _ _ _ _ _ (c .before .before .before .before .pre) _ (c .word-of .ensures)
 
 indicator-requires : tie.Need-indicator-requires
-indicator-requires c κs = search heading
+indicator-requires c κs = search needs
 
 add-put-word : tie.Need-add-put-word
 add-put-word c =

@@ -1,3 +1,4 @@
+use borrow.Author.Needs.{needs}
 use Rattle.writer.proofs.Units.{spelling, spell-from, spell-less, spell-seg, spell-more, spell-at-fits, spell-fits, spell-kept, spell-laid, spell-measured}
 use Rattle.writer.proofs.pack.spell.Statement.{statement}
 use Rattle.writer.proofs.pack.spell.Tie as tie
@@ -7,10 +8,10 @@ sub-smaller c =
     spell-from _ _ _ _ (c .before .before .before .pre)
 
 smaller-requires : tie.Need-smaller-requires
-smaller-requires c κs = search spelling
+smaller-requires c κs = search needs
 
 add-end : tie.Need-add-end
-add-end c = search spelling
+add-end c = search needs
 
 more-requires : tie.Need-more-requires
 more-requires c κs =
@@ -33,16 +34,16 @@ add-put-in-2 c =
     spell-fits _ _ _ _ (c .before .before .before .before .before .before .before .before .before .before .before .pre)
 
 sub-put-in : tie.Need-sub-put-in
-sub-put-in c = search spelling
+sub-put-in c = search needs
 
 part-put-in-start : tie.Need-part-put-in-start
-part-put-in-start c = search spelling
+part-put-in-start c = search needs
 
 part-put-in-end : tie.Need-part-put-in-end
-part-put-in-end c = search spelling
+part-put-in-end c = search needs
 
 put-in-requires : tie.Need-put-in-requires
-put-in-requires c κs = search spelling
+put-in-requires c κs = search needs
 
 same-length : tie.Need-same-length
 same-length c =

@@ -1,3 +1,4 @@
+use borrow.Author.Needs.{needs}
 use Rattle.writer.proofs.Pens.{changing, changes-short, changes-measured, changes-laid}
 use Rattle.writer.proofs.pen.change.Statement.{statement}
 use Rattle.writer.proofs.pen.change.Tie as tie
@@ -7,28 +8,28 @@ returns c =
     changes-short _ _ _ _ (c .before .before .before .pre .1 .1) (c .before .before .before .pre .0) (c .before .before .before .pre .1 .0) (c .if1 .taken)
 
 add-t9 : tie.Need-add-t9
-add-t9 c = search changing
+add-t9 c = search needs
 
 mul-t11 : tie.Need-mul-t11
-mul-t11 c = search changing
+mul-t11 c = search needs
 
 shared-slice-read-t13 : tie.Need-shared-slice-read-t13
-shared-slice-read-t13 c = search changing
+shared-slice-read-t13 c = search needs
 
 add-t14 : tie.Need-add-t14
-add-t14 c = search changing
+add-t14 c = search needs
 
 add-t15 : tie.Need-add-t15
-add-t15 c = search changing
+add-t15 c = search needs
 
 mul-part-of : tie.Need-mul-part-of
-mul-part-of c = search changing
+mul-part-of c = search needs
 
 add-part-of : tie.Need-add-part-of
-add-part-of c = search changing
+add-part-of c = search needs
 
 part-of-requires : tie.Need-part-of-requires
-part-of-requires c κs = search changing
+part-of-requires c κs = search needs
 
 put-change-requires : tie.Need-put-change-requires
 put-change-requires c κs = search changing

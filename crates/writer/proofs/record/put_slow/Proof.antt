@@ -1,18 +1,19 @@
+use borrow.Author.Needs.{needs}
 use Rattle.writer.proofs.Records.{slows}
 use Rattle.writer.proofs.record.put_slow.Statement.{statement}
 use Rattle.writer.proofs.record.put_slow.Tie as tie
 
 add-end : tie.Need-add-end
-add-end c = search slows
+add-end c = search needs
 
 sub-put-pieces : tie.Need-sub-put-pieces
-sub-put-pieces c = search slows
+sub-put-pieces c = search needs
 
 part-put-pieces-start : tie.Need-part-put-pieces-start
-part-put-pieces-start c = search slows
+part-put-pieces-start c = search needs
 
 part-put-pieces-end : tie.Need-part-put-pieces-end
-part-put-pieces-end c = search slows
+part-put-pieces-end c = search needs
 
 put-pieces-requires : tie.Need-put-pieces-requires
 put-pieces-requires c κs = search slows

@@ -1,15 +1,16 @@
+use borrow.Author.Needs.{needs}
 use Rattle.writer.proofs.Filing.{setBegins}
 use Rattle.writer.proofs.set.begin_set.Statement.{statement}
 use Rattle.writer.proofs.set.begin_set.Tie as tie
 
 shared-slice-read-t8 : tie.Need-shared-slice-read-t8
-shared-slice-read-t8 c = search setBegins
+shared-slice-read-t8 c = search needs
 
 slice-aggregate-part-of : tie.Need-slice-aggregate-part-of
-slice-aggregate-part-of c = search setBegins
+slice-aggregate-part-of c = search needs
 
 part-of-requires : tie.Need-part-of-requires
-part-of-requires c κs = search setBegins
+part-of-requires c κs = search needs
 
 put-head-requires : tie.Need-put-head-requires
 put-head-requires c κs = search setBegins

@@ -1,3 +1,4 @@
+use borrow.Author.Needs.{needs}
 use Rattle.writer.proofs.Origins.{cursors}
 use Rattle.writer.proofs.set.cursor_at.Statement.{statement}
 use Rattle.writer.proofs.set.cursor_at.Tie as tie
@@ -12,7 +13,7 @@ shared-slice-read-wide : tie.Need-shared-slice-read-wide
 shared-slice-read-wide c = search cursors
 
 wide-requires : tie.Need-wide-requires
-wide-requires c κs = search cursors
+wide-requires c κs = search needs
 
 add-t10 : tie.Need-add-t10
 add-t10 c = search cursors

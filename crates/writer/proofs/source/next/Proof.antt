@@ -1,3 +1,4 @@
+use borrow.Author.Needs.{needs}
 use Rattle.writer.proofs.Sources.{listed}
 use Rattle.writer.proofs.source.next.Statement.{statement}
 use Rattle.writer.proofs.source.next.Tie as tie
@@ -9,7 +10,7 @@ returns : tie.Need-returns
 returns c = search listed
 
 nothing-requires : tie.Need-nothing-requires
-nothing-requires c κs = search listed
+nothing-requires c κs = search needs
 
 returns-2 : tie.Need-returns-2
 returns-2 c = search listed
@@ -24,13 +25,13 @@ shared-slice-read-wide : tie.Need-shared-slice-read-wide
 shared-slice-read-wide c = search listed
 
 wide-requires : tie.Need-wide-requires
-wide-requires c κs = search listed
+wide-requires c κs = search needs
 
 add-t8 : tie.Need-add-t8
 add-t8 c = search listed
 
 sub-t11 : tie.Need-sub-t11
-sub-t11 c = search listed
+sub-t11 c = search needs
 
 returns-3 : tie.Need-returns-3
 returns-3 c = search listed

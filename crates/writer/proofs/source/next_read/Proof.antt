@@ -1,24 +1,25 @@
+use borrow.Author.Needs.{needs}
 use Rattle.writer.proofs.Sources.{read}
 use Rattle.writer.proofs.source.next_read.Statement.{statement}
 use Rattle.writer.proofs.source.next_read.Tie as tie
 
 walk-of-requires : tie.Need-walk-of-requires
-walk-of-requires c κs = search read
+walk-of-requires c κs = search needs
 
 at-block-requires : tie.Need-at-block-requires
-at-block-requires c κs = search read
+at-block-requires c κs = search needs
 
 whole-at-requires : tie.Need-whole-at-requires
-whole-at-requires c κs = search read
+whole-at-requires c κs = search needs
 
 next-far-requires : tie.Need-next-far-requires
-next-far-requires c κs = search read
+next-far-requires c κs = search needs
 
 returns : tie.Need-returns
 returns c = search read
 
 word-of-requires : tie.Need-word-of-requires
-word-of-requires c κs = search read
+word-of-requires c κs = search needs
 
 add-t9 : tie.Need-add-t9
 add-t9 c = search read

@@ -1,3 +1,4 @@
+use borrow.Author.Needs.{needs}
 use Prim.Native.Nat.{_-_}
 use lib.ListN.{length}
 use Rattle.writer.specs.Pass.{jobOf}
@@ -18,16 +19,16 @@ loop-holds : tie.Need-loop-holds Inv-loop μ-loop
 loop-holds c = search splits
 
 add-end : tie.Need-add-end Inv-loop μ-loop
-add-end c = search splits
+add-end c = search needs
 
 sub-put-pieces : tie.Need-sub-put-pieces Inv-loop μ-loop
-sub-put-pieces c = search splits
+sub-put-pieces c = search needs
 
 part-put-pieces-start : tie.Need-part-put-pieces-start Inv-loop μ-loop
-part-put-pieces-start c = search splits
+part-put-pieces-start c = search needs
 
 part-put-pieces-end : tie.Need-part-put-pieces-end Inv-loop μ-loop
-part-put-pieces-end c = search splits
+part-put-pieces-end c = search needs
 
 put-pieces-requires : tie.Need-put-pieces-requires Inv-loop μ-loop
 put-pieces-requires c κs =
