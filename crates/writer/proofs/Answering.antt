@@ -33,7 +33,7 @@ use Rattle.writer.specs.declared.set.Place.{Place}
 use Rattle.writer.specs.Pass.{overLong, reelsFrom, reelsAt, inked, behind, inkedAt, Outcome, outcome, laidFrom, imaged, imageFrom}
 use Rattle.writer.specs.Sets.{Origin, originOf, Task, task, taskOf, Sheeted, meaningAt, Writable, setLaid, SetReady, sheetAt, Ordered}
 use Rattle.writer.proofs.Files.{laid-short}
-use Rattle.writer.proofs.Rows.{set-in, names-in}
+use Rattle.writer.proofs.LabelParts.{set-in, names-in}
 use Rattle.writer.proofs.FromSheet.{sheet-ordered, sheet-answers}
 
 -- ---- what a pass has found out
@@ -314,15 +314,15 @@ module _ (image : Bool) (files counts set lengths bytes : List ℕ) (g : Place) 
           λ i.
           task from (set-in set names titled labels (y .six) few-bytes t l i) lengths bytes rooms (names-in set names titled labels (y .six) few-bytes t l (length rooms) names-whole i)
 
-      pub row-writable : Writable (taskOf image files counts lengths bytes labels rooms) g
-      row-writable = subst (λ (s : Task). Writable s g) (sym task-is) (quota-writable from set lengths bytes g quota names y n e rooms r)
+      pub parts-writable : Writable (taskOf image files counts lengths bytes labels rooms) g
+      parts-writable = subst (λ (s : Task). Writable s g) (sym task-is) (quota-writable from set lengths bytes g quota names y n e rooms r)
 
-      pub row-answers : (o : List ℕ) (a : Answer) (q : List ℕ) → Answers (storedLaid (setLaid (taskOf image files counts lengths bytes labels rooms) g) o) a q
+      pub parts-answers : (o : List ℕ) (a : Answer) (q : List ℕ) → Answers (storedLaid (setLaid (taskOf image files counts lengths bytes labels rooms) g) o) a q
           → Answers (writeSheet (sheetAt from set lengths bytes g quota names) o) a q
-      row-answers o a q m =
+      parts-answers o a q m =
           quota-answers from set lengths bytes g quota names y n e rooms r o a q (subst (λ (s : Task). Answers (storedLaid (setLaid s g) o) a q) task-is m)
 
-pub ruleset quotas = (set-room, names-room, quota-within, row-writable, row-answers, needs)
+pub ruleset quotas = (set-room, names-room, quota-within, parts-writable, parts-answers, needs)
 
 -- ---- a flat sheet
 

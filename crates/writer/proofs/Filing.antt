@@ -186,9 +186,6 @@ module _ (lay : Bool) (t : Task) (g : Place) (p : Pen) (o : List ℕ) where
     pub along-all : x .place .on ≡ false → AllFiled lay t g p o q x
     along-all off = record { filed = m .filed; off = off }
 
-    pub along-kept : length q ≡ length o
-    along-kept = m .filed .kept
-
     module _ (s : List ℕ) (v : Filing) (n : OneFiled lay t (x .place) (x .pen) q s v) where
       pub along-more : Along lay t g p o s v
       along-more =
@@ -330,9 +327,6 @@ module _ (lay : Bool) (t : Task) (g : Place) (o : List ℕ) (y : SetReady lay t 
 
   abbrev first : ℕ
   first = getD (t .rooms) 0 0
-
-  pub set-one : 1 ≤ length (t .rooms)
-  set-one = y .writable .one
 
   -- the whole set is its first reel's label and all files
   set-is : put (block (madeVolume name) ∷ []) (layAt t g (firstPen first)) ≡ setLaid t g

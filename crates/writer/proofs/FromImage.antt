@@ -1,16 +1,15 @@
 -- The files of an accepted image: how they are met one after the other, and what each step of the code over them does. Assumes nothing.
-use mathlib.Core.Path.{_≡_, refl, sym, ap, ap₂, _∙_, subst}
+use mathlib.Core.Path.{_≡_, refl, sym, ap, _∙_, subst}
 use mathlib.Core.Bool.{Bool, true, false, false≢true}
-use mathlib.Core.List.{List, [], _∷_, _++_, append-nil, append-assoc}
+use mathlib.Core.List.{List, [], _∷_}
 use Prim.Native.Nat.{ℕ, _+_, _-_, _≤_, _<_}
 use native.Mathlib.Omega.{arith}
 use native.Mathlib.Numerals.{add-one}
 use borrow.Author.Needs.{needs}
-use lib.ListN.{length, drop, getD, replicate, length-append, length-drop, drop-of-length-le}
+use lib.ListN.{length, drop, getD, length-drop}
 use lib.Seq.{drop-cons}
-use Rattle.base.specs.If.{if-true, if-false, if-case}
-use Rattle.base.specs.Part.{part, putAt}
-use Rattle.base.proofs.Parts.{length-part, put-put}
+use Rattle.base.specs.If.{if-true}
+use Rattle.base.specs.Part.{part}
 use Rattle.label.specs.Field.{setOf}
 use Rattle.volume.specs.Run.{imageVerdict}
 use Rattle.volume.specs.Meaning.{File, fieldsFrom, content}

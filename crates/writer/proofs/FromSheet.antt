@@ -2,13 +2,10 @@
 use mathlib.Core.Path.{_≡_, refl, sym, ap, _∙_, subst}
 use mathlib.Core.Bool.{Bool, true, false, false≢true}
 use mathlib.Core.List.{List, [], _∷_}
-use Prim.Native.Nat.{ℕ, suc, _+_, _*_, _-_, _/_, _^_, _≤_, _<_}
+use Prim.Native.Nat.{ℕ, suc, _+_, _*_, _-_, _/_, _≤_, _<_}
 use native.Mathlib.Omega.{arith}
 use native.Mathlib.Numerals.{add-one}
-use borrow.Author.Needs.{needs}
 use borrow.Author.Tests.{eqb-true, ltb-true, ltb-false}
-use mir.Val.{Fits}
-use mir.Syntax.{w64}
 use lib.Dec.{eqb, ltb}
 use lib.ListN.{length, take, drop, getD, length-drop, take-append-drop}
 use lib.Seq.{drop-drop, drop-cons}
@@ -34,7 +31,7 @@ use Rattle.writer.specs.declared.set.Place.{Place}
 use Rattle.writer.specs.Pass.{job}
 use Rattle.writer.specs.Source.{lengthsAt, recordsOf, endAt, Good}
 use Rattle.writer.specs.Files.{FileReady, FilePut}
-use Rattle.writer.specs.Sets.{Origin, listed, originOf, totalOf, filesAt, Placed, listedAt, passed, Task, task, Fileable, Filing, OneFiled, sheetAt, Ordered}
+use Rattle.writer.specs.Sets.{Origin, listed, originOf, totalOf, filesAt, Placed, listedAt, passed, Task, task, Fileable, OneFiled, sheetAt, Ordered}
 use Rattle.writer.proofs.Filing.{legal-set, legal-others, file-ready, one-filed, no-counts}
 
 abbrev place : FileAt → ℕ → ℕ → ℕ → Bool → Place
@@ -284,5 +281,3 @@ module _ (set files counts lengths bytes : List ℕ) (quota : ℕ) (names : List
       → Answers (writeSheet (sheetOf (flat set files counts lengths bytes quota names)) out) a p
   unfolding sheetAt sheetOf filesAt
   sheet-answers out a p m = subst (λ (o : Origin). Answers (writeSheet (sheetAt o set lengths bytes start quota names) out) a p) is-from m
-
-pub ruleset sheets = (sheet-ordered, sheet-answers, needs)

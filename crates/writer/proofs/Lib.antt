@@ -6,6 +6,7 @@ pub mod Dues
 pub mod Pens
 pub mod Blocks
 pub mod Units
+pub mod Steps
 pub mod Packs
 pub mod Pieces
 pub mod Records
@@ -16,6 +17,6 @@ pub mod Splits
 pub mod Filing
 pub mod FromSheet
 pub mod FromImage
-pub mod Rows
+pub mod LabelParts
 pub mod Origins
 pub mod Answering

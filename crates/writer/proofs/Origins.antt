@@ -1,8 +1,8 @@
 -- The file at a place, of a sheet or of an image: what each step of the code over it does. Assumes nothing.
 use mathlib.Core.Path.{_≡_, refl, sym, ap, _∙_, subst}
-use mathlib.Core.Bool.{Bool, true, false, false≢true}
+use mathlib.Core.Bool.{Bool, true, false}
 use mathlib.Core.List.{List}
-use Prim.Native.Nat.{ℕ, _+_, _*_, _^_, _≤_, _<_}
+use Prim.Native.Nat.{ℕ, _+_, _^_, _<_}
 use native.Mathlib.Omega.{arith}
 use borrow.Author.Needs.{needs}
 use mir.Val.{Fits as FitsIn}
@@ -23,7 +23,7 @@ use Rattle.writer.specs.Pass.{Job, job, setIn, namesIn, jobOf}
 use Rattle.writer.specs.Files.{FileReady, FilePut}
 use Rattle.writer.specs.Sets.{Origin, listed, read, originOf, totalOf, listedAt, walkAt, cursorAt, Countable, entryAt, Enterable, Entered, passed, followedBy, behindFile, Task, task, taskOf, Fileable, OneFiled}
 use Rattle.writer.proofs.Filing.{filesOn, Along, along-fileable, along-more, files-fall}
-use Rattle.writer.proofs.Rows.{row-ready, row-put}
+use Rattle.writer.proofs.LabelParts.{parts-ready, parts-put}
 use Rattle.writer.proofs.FromSheet.{nth-small, stop-within, entry-within, entry-ready, listed-filed}
 use Rattle.writer.proofs.FromImage.{first-within, second-within, read-small, read-ready, read-filed, read-short}
 
@@ -147,11 +147,11 @@ module _ (lay image : Bool) (files counts lengths bytes labels rooms : List ℕ)
         (entry-ready files counts (setIn labels) lengths bytes rooms names g (from-sheet i .placed) (nth-within i) _ _ refl refl c (listed-at i) lay p o (from-sheet i)))
 
     place-ready : FileReady lay (jobOf r rooms) lengths bytes c p o
-    place-ready = row-ready labels (entryAt image files bytes g) (g .nth + 1) r rooms e lay lengths bytes c p o ready
+    place-ready = parts-ready labels (entryAt image files bytes g) (g .nth + 1) r rooms e lay lengths bytes c p o ready
 
     module _ (q : List ℕ) (x : Body) (m : FilePut lay (jobOf r rooms) lengths bytes c p o q x) where
       put : FilePut lay j lengths bytes c p o q x
-      put = row-put labels (entryAt image files bytes g) (g .nth + 1) r rooms e lay lengths bytes c p o q x m
+      put = parts-put labels (entryAt image files bytes g) (g .nth + 1) r rooms e lay lengths bytes c p o q x m
 
       abbrev next : Place
       next = behindFile image counts bytes g (c .stop) (x .end) (x .pen .short)

@@ -298,7 +298,7 @@ module _ (lay : Bool) (j : Job) (p : Pen) (o : List ℕ) (ready : Ready lay j p 
   pub place-small : p .at ≤ 1000000000000000
   place-small = omega (arith, sound .place, sound .within, sound .reels .few, sound .turn)
 
--- the name of the next reel, as the row of labels has it
+-- the name of the next reel, as the label parts have it
 pub changes-laid : (lay : Bool) (labels rooms : List ℕ) (p : Pen) (o : List ℕ) → Ready lay (jobOf labels rooms) p o → p .on ≡ false → p .room ≡ 0 → p .next < length rooms
     → (q name : List ℕ) → lay ≡ true → name ≡ part (53 + 6 * p .next) 6 labels
     → Puts o (p .at) (encode (volumeEnd (setIn labels) (entryIn labels) (p .section) (sequenceIn labels) (p .count) ++ (block (madeVolume name) ∷ headers (setIn labels) (entryIn labels) (suc (p .section)) (sequenceIn labels)))) q

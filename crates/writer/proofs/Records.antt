@@ -33,7 +33,7 @@ use Rattle.writer.proofs.Passes.{ink-none, ink-length}
 use Rattle.writer.proofs.Pens.{closable, opens-here}
 use Rattle.writer.proofs.Dues.{enter-fill, enter-left, some-fill, some-left, over-fill, over-left}
 use Rattle.writer.proofs.Blocks.{penned-on, penned-short, room-unit, penned-unit, more-sound, blocked-here, wanting-ready, blocked-next}
-use Rattle.writer.proofs.Packs.{flowed-in, flowed-out}
+use Rattle.writer.proofs.Steps.{flowed-in, flowed-out}
 
 -- ---- which records go whole
 

@@ -35,7 +35,7 @@ use Rattle.writer.specs.Segments.{behindOf, GoesOn, Segmented}
 use Rattle.writer.specs.Pass.{Job, Outcome, Fits, between, penned}
 use Rattle.writer.specs.Packs.{flowed, Packable, Packed}
 use Rattle.writer.specs.Records.{Splittable, Recorded}
-use Rattle.writer.proofs.Packs.{flowed-out}
+use Rattle.writer.proofs.Steps.{flowed-out}
 use Rattle.writer.proofs.Pieces.{reset, Splitting, pieces-in, pieces-same, pieces-out}
 use Rattle.writer.proofs.Records.{flow-over, flow-short}
 

@@ -140,5 +140,3 @@ module _ (lay : Bool) (piece : List ℕ) (s : Flow) (o : List ℕ) (y : Partable
 
     pub spell-kept : (q : List ℕ) → lay ≡ true → q ≡ putIn o (s .pen .at + 3 + s .pen .used) bytes → length q ≡ length o
     spell-kept q l h = ink-in-kept lay o (s .pen .at + 3 + s .pen .used) bytes q spell-room l h
-
-pub ruleset spelling = (spell-from, spell-end, spell-less, spell-seg, spell-more, spell-laid, spell-measured, spell-kept, spell-at-fits, spell-fits, needs)

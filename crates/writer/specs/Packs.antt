@@ -12,7 +12,6 @@ use Rattle.writing.specs.Pack.{going, enters, taken, indicatorOf, controlWord, 
 use Rattle.writing.specs.Lay.{Next}
 use Rattle.writer.specs.declared.pen.Pen.{Pen}
 use Rattle.writer.specs.declared.pack.Flow.{Flow}
-use Rattle.writer.specs.Pens.{Closable}
 use Rattle.writer.specs.Pass.{Job, Outcome, Fits, Sound, inkAt, Due, between, within, penned}
 
 -- ---- a block for a record

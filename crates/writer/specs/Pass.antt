@@ -51,7 +51,7 @@ pub record Job : Type 0 where
 abbrev pub job : List ℕ → List ℕ → ℕ → List ℕ → List ℕ → Job
 job set e sequence rooms names = record { set = set; entry = e; sequence = sequence; rooms = rooms; names = names }
 
--- what the labels are made of as one row of bytes: the file's entry, its number, the set entry, and the names of n reels
+-- the label parts, one behind the other: the file's entry, its number, the set entry, and the names of n reels
 abbrev pub entryIn : List ℕ → List ℕ
 entryIn labels = part 0 46 labels
 

@@ -8,7 +8,6 @@ use Rattle.base.specs.Part.{part}
 use Rattle.content.specs.Walk.{Inside, restAt}
 use Rattle.content.specs.Measure.{isEnded, bytesBehind}
 use Rattle.content.specs.declared.Walk.{Walk}
-use Rattle.writer.specs.declared.pack.Flow.{Flow}
 use Rattle.writer.specs.declared.source.Cursor.{Cursor}
 use Rattle.writer.specs.declared.split.Segment.{Segment}
 use Rattle.writer.specs.Source.{walkOf, movedTo}

@@ -24,7 +24,6 @@ use Rattle.content.specs.declared.NextFile.the-variants.{At, Nowhere}
 use Rattle.writing.specs.Lay.{Laid, laid, layFiles, layOn}
 use Rattle.writer.specs.declared.pen.Pen.{Pen}
 use Rattle.writer.specs.declared.source.Cursor.{Cursor}
-use Rattle.writer.specs.declared.body.Body.{Body}
 use Rattle.writer.specs.declared.set.Place.{Place}
 use Rattle.writer.specs.Pass.{entryIn, sequenceIn, setIn, namesIn, reelsAt, Reels, laidFrom, imageFrom, Fits, Between}
 
@@ -92,7 +91,7 @@ pub record Enterable (image : Bool) (entries size : ℕ) (g : Place) : Type 0 wh
   pub first : image ≡ true → g .file .first + 80 ≤ size
   pub second : image ≡ true → g .file .second + 80 ≤ size
 
--- a row with that entry and number, and otherwise as before
+-- label parts with that entry and number, and otherwise as before
 pub record Entered (labels e : List ℕ) (n : ℕ) (r : List ℕ) : Type 0 where
   pub entry : entryIn r ≡ e
   pub sequence : sequenceIn r ≡ n

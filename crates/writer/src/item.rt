@@ -18,7 +18,8 @@ use label::first_label;
 use label::second_label;
 use label::volume_label;
 
-// What the labels of a file are made of, as one row: the file's entry, its number in the set, the set entry, and the names of the reels.
+// What the labels of a file are made of, one behind the other: the file's entry, its number in the set, the set entry, and the names of the reels. Each
+// begins at the place of its name.
 pub(crate) type Labels = [u8; 149];
 
 pub(crate) const ENTRY: usize = 46;
@@ -34,7 +35,7 @@ pub(crate) const NAMES: usize = 53;
 // The bytes of a reel's name.
 pub(crate) const NAME: usize = 6;
 
-// The row with s at a place.
+// The label parts with s at a place.
 pub(crate) fn with_part(labels: Labels, at: usize, s: &[u8]) -> Labels
     requires { ⌜ at + length (now s) ≤ 149 ⌝ }
     ensures { λ r. ⌜ r ≡ putAt labels at (now (s .entry)) ⌝ }

@@ -74,7 +74,7 @@ fn cursor_at(counts: &[u64], lengths: &[u64], image: bool, g: Place) -> Cursor
     }
 }
 
-// The row with the number and the entry of the file at a place: of an image, the fields of its first HDR1 and HDR2.
+// The label parts with the number and the entry of the file at a place: of an image, the fields of its first HDR1 and HDR2.
 fn entered(labels: Labels, files: &[u8], bytes: &[u8], image: bool, g: Place) -> Labels
     requires { ⌜ Enterable image (length (now files)) (length (now bytes)) g ⌝ }
     ensures { λ r. ⌜ Entered labels (entryAt image (now (files .entry)) (now (bytes .entry)) g) (g .nth + 1) r ⌝ }

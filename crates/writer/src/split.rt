@@ -1,5 +1,4 @@
 // A record of an image that stands in several segments, packed segment after segment.
-ghost use mathlib.Core.Path.{_≡_};
 ghost use Prim.Native.Nat.{_<_};
 ghost use Rattle.content.specs.Measure.{bytesBehind};
 ghost use Rattle.writer.specs.Pass.{jobOf};

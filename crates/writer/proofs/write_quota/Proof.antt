@@ -1,6 +1,6 @@
 use mathlib.Core.Path.{refl}
 use Rattle.base.proofs.Parts.{counted}
-use Rattle.writer.proofs.Answering.{quotas, quota-within, row-writable, row-answers}
+use Rattle.writer.proofs.Answering.{quotas, quota-within, parts-writable, parts-answers}
 use Rattle.writer.proofs.write_quota.Statement.{statement}
 use Rattle.writer.proofs.write_quota.Tie as tie
 
@@ -19,14 +19,14 @@ slice-aggregate-write-set c =
 
 write-set-requires : tie.Need-write-set-requires
 write-set-requires c κs =
-    row-writable _ _ _ _ _ _ _ _ _ (c .before .before .before .before .before .before .before .before .before .before .before .pre) _ refl _ _ _ refl (c .before .before .before .with-part .ensures) (c .before .before .with-part2 .ensures)
+    parts-writable _ _ _ _ _ _ _ _ _ (c .before .before .before .before .before .before .before .before .before .before .before .pre) _ refl _ _ _ refl (c .before .before .before .with-part .ensures) (c .before .before .with-part2 .ensures)
 
 same-length : tie.Need-same-length
 same-length c = search quotas
 
 returns : tie.Need-returns
 returns c =
-    row-answers _ _ _ _ _ _ _ _ _ (c .before .before .before .before .before .before .before .before .before .before .before .before .before .before .pre) _ refl _ _ _ refl (c .before .before .before .before .before .before .with-part .ensures) (c .before .before .before .before .before .with-part2 .ensures) _ _ _ (c .before .before .write-set .ensures)
+    parts-answers _ _ _ _ _ _ _ _ _ (c .before .before .before .before .before .before .before .before .before .before .before .before .before .before .pre) _ refl _ _ _ refl (c .before .before .before .before .before .before .with-part .ensures) (c .before .before .before .before .before .with-part2 .ensures) _ _ _ (c .before .before .write-set .ensures)
 
 pub write-quota-spec : {M : Type 1} → statement M
 write-quota-spec =

@@ -1,5 +1,5 @@
 use borrow.Author.Needs.{needs}
-use Rattle.writer.proofs.Answering.{answering, measured-ready, measured-kept, answers-lacking, answers-over, answers-short, answers-done, done-kept}
+use Rattle.writer.proofs.Answering.{answering, measured-ready, measured-kept, answers-lacking, answers-over, answers-short}
 use Rattle.writer.proofs.write_set.Statement.{statement}
 use Rattle.writer.proofs.write_set.Tie as tie
 
@@ -37,7 +37,7 @@ same-length-3 c =
 
 returns-3 : tie.Need-returns-3
 returns-3 c =
-    answers-short _ _ _ _ _ (c .before .before .before .before .before .before .lay-set .ensures) (c .before .before .before .if1 .left) (c .before .before .if2 .left) _ (c .before .if3 .taken) (c .refusal3 .ensures)
+    search (answers-short _ _ _ _ _ (c .before .before .before .before .before .before .lay-set .ensures) (c .before .before .before .if1 .left) (c .before .before .if2 .left))
 
 lay-set-requires-2 : tie.Need-lay-set-requires-2
 lay-set-requires-2 c κs =

@@ -1,5 +1,5 @@
 use borrow.Author.Needs.{needs}
-use Rattle.writer.proofs.Files.{tails, tail-short, tailed-laid, tailed-measured, tail-all-kept, tail-kept}
+use Rattle.writer.proofs.Files.{tails, tail-short}
 use Rattle.writer.proofs.file.put_end.Statement.{statement}
 use Rattle.writer.proofs.file.put_end.Tie as tie
 
@@ -28,14 +28,14 @@ same-length c =
 
 returns-2 : tie.Need-returns-2
 returns-2 c =
-    tailed-laid _ _ _ _ _ _ _ (c .before .before .before .before .before .before .before .before .before .before .before .before .before .before .before .pre) (c .before .before .before .before .before .before .before .before .before .before .before .before .if1 .left) (c .before .before .before .before .before .before .before .before .before .before .close .ensures) (c .before .before .before .before .before .before .if2 .taken) (c .before .before .put-trailers .ensures)
+    search tails
 
 same-length-2 : tie.Need-same-length-2
 same-length-2 c = search tails
 
 returns-3 : tie.Need-returns-3
 returns-3 c =
-    tailed-measured _ _ _ _ _ _ (c .before .before .before .before .before .before .before .before .before .pre) (c .before .before .before .before .before .before .if1 .left) _ _ (c .before .before .before .before .close .ensures) (c .if2 .left)
+    search tails
 
 pub put-end-spec : {M : Type 1} → statement M
 put-end-spec =

@@ -1,4 +1,4 @@
-use Rattle.writer.proofs.Packs.{parting, part-closable, spelled-kept, part-over, part-in, part-kept, part-closed}
+use Rattle.writer.proofs.Steps.{parting, part-closable, spelled-kept, part-over, part-in, part-kept, part-closed}
 use Rattle.writer.proofs.pack.put_part.Statement.{statement}
 use Rattle.writer.proofs.pack.put_part.Tie as tie
 

@@ -1,5 +1,5 @@
 use borrow.Author.Needs.{needs}
-use Rattle.writer.proofs.Units.{spelling, spell-from, spell-less, spell-seg, spell-more, spell-at-fits, spell-fits, spell-kept, spell-laid, spell-measured}
+use Rattle.writer.proofs.Units.{spell-from, spell-less, spell-seg, spell-more, spell-at-fits, spell-fits, spell-kept, spell-laid, spell-measured}
 use Rattle.writer.proofs.pack.spell.Statement.{statement}
 use Rattle.writer.proofs.pack.spell.Tie as tie
 

@@ -1,5 +1,5 @@
 use borrow.Author.Needs.{needs}
-use Rattle.writer.proofs.Rows.{entering}
+use Rattle.writer.proofs.LabelParts.{entering}
 use Rattle.writer.proofs.set.entered.Statement.{statement}
 use Rattle.writer.proofs.set.entered.Tie as tie
 

@@ -1,4 +1,4 @@
--- The row of bytes of which the labels of a file are made: what is put into it, and what is then read from it. Assumes nothing.
+-- What the labels of a file are made of, as bytes one behind the other: what is put there, and what is then read from there. Assumes nothing.
 use mathlib.Core.Path.{_≡_, sym, ap, ap₂, _∙_, subst}
 use mathlib.Core.Bool.{Bool, true, false}
 use mathlib.Core.List.{List, _++_, append-assoc}
@@ -25,7 +25,7 @@ use Rattle.writer.specs.Sets.{Enterable, entryAt, Entered}
 label-long : (bytes l : List ℕ) (at : ℕ) → at + 80 ≤ length bytes → l ≡ part at 80 bytes → length l ≡ 80
 label-long bytes l at h e = ap length e ∙ length-part at 80 bytes h
 
--- a part of a label has room in the row
+-- a field of a label has room among the label parts
 part-room : (bytes l s : List ℕ) (i at from w : ℕ) → i + 80 ≤ length bytes → l ≡ part i 80 bytes → from + w ≤ 80 → at + w ≤ 46 → s ≡ part from w l → at + length s ≤ 149
 part-room bytes l s i at from w b h k m e =
     let n : length s ≡ w = ap length e ∙ length-part from w l (omega (arith, label-long bytes l i b h)) in omega arith
@@ -75,7 +75,7 @@ entered-by labels e n r l k h =
     }
 
 module _ (image : Bool) (files bytes : List ℕ) (g : Place) (y : Enterable image (length files) (length bytes) g) where
-  -- a part of the first label or the second has room in the row
+  -- a field of the first label or the second has room among the label parts
   pub first-room : (l s : List ℕ) (at from w : ℕ) → image ≡ true → l ≡ part (g .file .first) 80 bytes → from + w ≤ 80 → at + w ≤ 46 → s ≡ part from w l → at + length s ≤ 149
   first-room l s at from w i h k m e = part-room bytes l s (g .file .first) at from w (y .first i) h k m e
 
@@ -119,12 +119,12 @@ module _ (labels e : List ℕ) (n : ℕ) (r rooms : List ℕ) (y : Entered label
       record { set = same-part 0 6 i; entry = y .entry i; sequence = y .sequence i; rooms = rooms; names = same-part 6 (6 * length rooms) i }
 
   module _ (lay : Bool) (lengths bytes : List ℕ) (d : Cursor) (p : Pen) (o : List ℕ) where
-    pub row-ready : FileReady lay (job (setIn labels) e n rooms (namesIn (length rooms) labels)) lengths bytes d p o → FileReady lay (jobOf r rooms) lengths bytes d p o
-    row-ready k = subst (λ (j : Job). FileReady lay j lengths bytes d p o) (sym job-is) k
+    pub parts-ready : FileReady lay (job (setIn labels) e n rooms (namesIn (length rooms) labels)) lengths bytes d p o → FileReady lay (jobOf r rooms) lengths bytes d p o
+    parts-ready k = subst (λ (j : Job). FileReady lay j lengths bytes d p o) (sym job-is) k
 
-    pub row-put : (q : List ℕ) (x : Body) → FilePut lay (jobOf r rooms) lengths bytes d p o q x
+    pub parts-put : (q : List ℕ) (x : Body) → FilePut lay (jobOf r rooms) lengths bytes d p o q x
         → FilePut lay (job (setIn labels) e n rooms (namesIn (length rooms) labels)) lengths bytes d p o q x
-    row-put q x k = subst (λ (j : Job). FilePut lay j lengths bytes d p o q x) job-is k
+    parts-put q x k = subst (λ (j : Job). FilePut lay j lengths bytes d p o q x) job-is k
 
 -- ---- the set entry and the names
 
