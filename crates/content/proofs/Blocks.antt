@@ -26,7 +26,7 @@ use Rattle.block.proofs.Units.{unit-stands}
 use Rattle.block.proofs.Cuts.{cut-unit, cut-end}
 use Rattle.volume.specs.Meaning.{onFirst, joined}
 use Rattle.volume.specs.Step.{segmentsOf}
-use Rattle.sheet.proofs.Assembled.{InTurn, starts, follows, in-turn}
+use Rattle.reading.proofs.Assembled.{InTurn, starts, follows, in-turn}
 use Rattle.content.specs.Section.{dataFrom}
 use Rattle.content.specs.Walk.{moved, leftOf, Inside, taken, unitHere, opened, blockNext, unitIn, unitNext, orNext, unitFrom, Rest, ends, fails, before, restBy, restAt, Record, splitBy, begunBy, recordAt}
 use Rattle.content.specs.Walked.{handed, Walks}

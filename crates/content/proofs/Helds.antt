@@ -28,7 +28,7 @@ use Rattle.block.specs.declared.Outcome.{Outcome}
 use Rattle.block.proofs.Helds.{ends-begun, ends-still, ends-one, Fitting, held-fits}
 use Rattle.volume.specs.Meaning.{onFirst, joined}
 use Rattle.volume.specs.Step.{segmentsOf}
-use Rattle.sheet.proofs.Assembled.{InTurn, starts, follows, in-turn}
+use Rattle.reading.proofs.Assembled.{InTurn, starts, follows, in-turn}
 use Rattle.content.specs.Section.{dataFrom}
 use Rattle.content.specs.Held.{plus, Room, adding, heldBy, heldF, heldFrom, fileHeld}
 use Rattle.content.specs.declared.Walk.{Walk}

@@ -25,7 +25,7 @@ use Rattle.volume.specs.Step.{kindIn}
 use Rattle.order.proofs.Laws.{Each, nine, chosen}
 use Rattle.order.proofs.Groups.{groupOf}
 use Rattle.volume.proofs.Reels.{block-other}
-use Rattle.sheet.proofs.Entries.{Rows, label-rows}
+use Rattle.reading.proofs.Entries.{Rows, label-rows}
 
 -- ---- the table of what is due
 

@@ -18,8 +18,8 @@ use Rattle.order.specs.declared.Due.{Due}
 use Rattle.order.specs.declared.Due.the-variants.{To}
 use Rattle.order.proofs.Laws.{kind-is}
 use Rattle.volume.specs.Step.{kindIn, bytesIn}
-use Rattle.sheet.proofs.Moves.{Stage, stage, before, named, within, fileOver, reelOver, Numbered, Quiet, Move, stays, nextReel, header1, nextFile, header2, datum, eof1, eov1, finish, due-goes}
-use Rattle.sheet.proofs.Stages.{isOpen}
+use Rattle.order.proofs.Moves.{Stage, stage, before, named, within, fileOver, reelOver, Numbered, Quiet, Move, stays, nextReel, header1, nextFile, header2, datum, eof1, eov1, finish, due-goes}
+use Rattle.reading.proofs.Stages.{isOpen}
 use Rattle.content.specs.Section.{placeBehind, seenAt, turnOf, turnTo, follow, dataFrom}
 use Rattle.content.specs.File.{beginsFile, goesOnBehind, firstBehind, onward, headerFrom}
 use Rattle.content.specs.declared.NextFile.{NextFile}

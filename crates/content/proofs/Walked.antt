@@ -38,10 +38,10 @@ use Rattle.volume.specs.Run.{Run, ended, stopped, further, next, runs, imageVer
 use Rattle.volume.specs.Meaning.{File, joined, collect, setFrom, fieldsFrom, meaningOf, handedOut, content}
 use Rattle.volume.specs.Accepted.{Faultless, All, MayEnd, behind}
 use Rattle.volume.proofs.Accepted.{Ends, faultless-runs, all-ends, accepted-iff}
-use Rattle.sheet.proofs.Moves.{Stage, stage, before, within, fileOver, reelOver, Numbered, Quiet, Move, stays, nextReel, header1, nextFile as newFile, header2, datum, eof1, eov1, finish, due-goes}
-use Rattle.sheet.proofs.Stages.{View, view, Holds, isOpen, second-same, end-idle}
-use Rattle.sheet.proofs.Steps.{view-quiet, events-quiet, label-none, context-none}
-use Rattle.sheet.proofs.Legality.{header-long, Kept, kept-start, kept-step, image-end}
+use Rattle.order.proofs.Moves.{Stage, stage, before, within, fileOver, reelOver, Numbered, Quiet, Move, stays, nextReel, header1, nextFile as newFile, header2, datum, eof1, eov1, finish, due-goes}
+use Rattle.reading.proofs.Stages.{View, view, Holds, isOpen, second-same, end-idle}
+use Rattle.reading.proofs.Steps.{view-quiet, events-quiet, label-none, context-none}
+use Rattle.reading.proofs.Legality.{header-long, Kept, kept-start, kept-step, image-end}
 use Rattle.content.specs.Section.{placeBehind, dataFrom}
 use Rattle.content.specs.Walk.{opened, unitIn, begunBy}
 use Rattle.content.specs.File.{markFrom, walkFrom, beginsFile, goesOnBehind, firstBehind, headerFrom, firstFile, nextFile, fileBehind, fromFile, filesOn, fileNumbered, begunAt}

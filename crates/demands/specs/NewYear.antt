@@ -30,7 +30,7 @@ use Rattle.volume.specs.Run.{further, next, runs, answerOf, imageVerdict}
 use Rattle.volume.specs.State.{start}
 use Rattle.volume.specs.Step.{isDue, kindIn, bytesIn, namesAfter, filesAfter, goesOnAfter, firstAfter, secondAfter, countAfter, pendingAfter, stateAfter, segmentsOf, segmentsIn, eventsOf, judged, ordered, step}
 use Rattle.sheet.specs.Flat.{inPartsF, inParts}
-use Rattle.sheet.specs.Legal.{formatFrom, blockLengthFrom}
+use Rattle.reading.specs.Legal.{formatFrom, blockLengthFrom}
 use Rattle.writing.specs.Lay.{reelsOf, laid, put, headers, fileEnd, volumeEnd, rest, layFiles, layOn, lay}
 use Rattle.writing.specs.Pack.{enters, taken, indicatorOf, controlWord, startOf, unitIn, fill, after, weights, weight, blocksF, blocksLeft, blocksOf}
 use Rattle.writing.specs.Rewrite.{sheetFrom}

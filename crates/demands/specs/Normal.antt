@@ -17,7 +17,7 @@ use Rattle.volume.specs.Run.{imageVerdict}
 use Rattle.volume.specs.Accepted.{Accepted}
 use Rattle.volume.specs.Meaning.{Meaning, content, Means}
 use Rattle.volume.proofs.Accepted.{accepted-iff}
-use Rattle.sheet.specs.Legal.{Sheet}
+use Rattle.reading.specs.Legal.{Sheet}
 use Rattle.sheet.specs.Flat.{Flat, inParts, reelsNumber, sheetOf, sheetNumber}
 use Rattle.writing.specs.Lay.{Laid, laid, short, lay}
 use Rattle.writing.specs.Write.{stored, storedLaid, writeSheet, write}

@@ -16,7 +16,7 @@ use Rattle.image.specs.Framing.{head, mostImage, framing}
 use Rattle.output.specs.Output.{Written, refused, fitted, Result, refusedWith, placed}
 use Rattle.simh.specs.Set.{tapeVerdict, imageOf, fromSimh, filesOf, Converted, kept as keptBy, stored as storedTapes, toSimh}
 use Rattle.volume.specs.Run.{imageVerdict}
-use Rattle.sheet.specs.Legal.{legalSheet, legalQuota, legalNames}
+use Rattle.reading.specs.Legal.{legalSheet, legalQuota, legalNames}
 use Rattle.sheet.specs.Flat.{Flat, inParts, addsUp, sheetOf, sheetNumber, reelsNumber}
 use Rattle.content.specs.Walk.{Record, whole, split, nothing as noRecordHere, recordAt, stepBy, joinBy, stepAt, joinAt}
 use Rattle.content.specs.Row.{stays, stepsBy, stepsAt, rowOf}

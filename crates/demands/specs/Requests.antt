@@ -21,7 +21,7 @@ use Rattle.volume.specs.Meaning.{content}
 use Rattle.volume.specs.Dates.{undated, undatedFrom, SameDates}
 use Rattle.volume.proofs.Accepted.{accepted-iff}
 use Rattle.sheet.specs.Flat.{reelsNumber}
-use Rattle.sheet.proofs.Dates.{header-same, trailer-dates, later-dates}
+use Rattle.reading.proofs.Dates.{header-same, trailer-dates, later-dates}
 use Rattle.writing.specs.Rewrite.{sheetFrom, rewrite}
 use Rattle.simh.specs.Set.{reelsIn, tapeVerdict, imageOf, fromSimh, toSimh, tapeIn, lengthsIn}
 use Rattle.simh.proofs.Inverse.{ours-again, theirs-again, room-in, room-out}

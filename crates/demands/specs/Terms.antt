@@ -13,7 +13,7 @@ use Rattle.image.specs.Item.{Item, encode}
 use Rattle.image.specs.Framing.{head, mostImage}
 use Rattle.output.specs.Output.{Written, refused}
 use Rattle.volume.specs.Meaning.{File, fieldsFrom}
-use Rattle.sheet.specs.Legal.{Sheet}
+use Rattle.reading.specs.Legal.{Sheet}
 use Rattle.content.specs.Walk.{Record, whole, split, recordAt}
 use Rattle.content.specs.Row.{Steps as Row, stays, ahead}
 use Rattle.content.specs.Found.{passed}

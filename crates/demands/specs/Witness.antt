@@ -34,7 +34,7 @@ use Rattle.volume.specs.Step.{isDue, kindIn, bytesIn, namesAfter, filesAfter, g
 use Rattle.volume.specs.Accepted.{Accepted}
 use Rattle.volume.proofs.Accepted.{done-accepted}
 use Rattle.sheet.specs.Flat.{Flat, inPartsF, inParts, filesFrom, addsUp, sheetOf, sheetNumber, reelsNumber}
-use Rattle.sheet.specs.Legal.{formatFrom, blockLengthFrom, recordLengthFrom, isSound, legalEntry, legalRecord, legalRecords, legalFile, legalFiles, legalMeaning, legalName, freshNames, legalNames, legalQuota, legalSheet}
+use Rattle.reading.specs.Legal.{formatFrom, blockLengthFrom, recordLengthFrom, isSound, legalEntry, legalRecord, legalRecords, legalFile, legalFiles, legalMeaning, legalName, freshNames, legalNames, legalQuota, legalSheet}
 use Rattle.writing.specs.Lay.{reelsOf, laid, put, headers, fileEnd, volumeEnd, rest, layFiles, layOn, lay}
 use Rattle.writing.specs.Pack.{enters, taken, indicatorOf, controlWord, startOf, unitIn, fill, after, weights, weight, blocksF, blocksLeft, blocksOf}
 use Rattle.writing.specs.Rewrite.{sheetFrom}

@@ -20,8 +20,8 @@ use Rattle.volume.specs.Run.{imageVerdict}
 use Rattle.volume.specs.Accepted.{Accepted, FirstFault, overLong, noImage, unframed, wrong}
 use Rattle.volume.specs.Meaning.{content}
 use Rattle.volume.proofs.Accepted.{accepted-iff, done-accepted}
-use Rattle.sheet.proofs.Dates.{later-dates}
-use Rattle.sheet.specs.Legal.{Sheet}
+use Rattle.reading.proofs.Dates.{later-dates}
+use Rattle.reading.specs.Legal.{Sheet}
 use Rattle.sheet.specs.Flat.{Flat, sheetNumber}
 use Rattle.content.specs.Walk.{recordAt, stepBy, stepAt}
 use Rattle.content.specs.Row.{Steps, stays, stepsBy, stepsAt, stepsIn, rowOf}

@@ -24,7 +24,7 @@ use Rattle.block.specs.declared.Held.{Held}
 use Rattle.volume.specs.Step.{kindIn, bytesIn}
 use Rattle.volume.specs.Run.{imageVerdict}
 use Rattle.volume.specs.Meaning.{File, content}
-use Rattle.sheet.proofs.Entries.{entry-name, entry-second}
+use Rattle.reading.proofs.Entries.{entry-name, entry-second}
 use Rattle.content.specs.Section.{placeBehind}
 use Rattle.content.specs.File.{headerFrom, beginsFile, goesOnBehind, firstBehind, onward, firstFile, nextFile, fileBehind}
 use Rattle.content.specs.Held.{fileHeld}

@@ -17,8 +17,8 @@ use Rattle.output.specs.Text.{bytes}
 use Rattle.volume.specs.Run.{imageVerdict}
 use Rattle.volume.specs.Meaning.{File, Meaning, content}
 use Rattle.volume.proofs.Accepted.{accepted-iff}
-use Rattle.sheet.specs.Legal.{legalMeaning, legalFiles}
-use Rattle.sheet.proofs.Legality.{accepted-legal}
+use Rattle.reading.specs.Legal.{legalMeaning, legalFiles}
+use Rattle.reading.proofs.Legality.{accepted-legal}
 use Rattle.content.specs.Held.{fileHeld}
 use Rattle.content.specs.File.{firstFile, nextFile}
 use Rattle.content.specs.Walked.{FileIs, Filed}

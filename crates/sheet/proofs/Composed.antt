@@ -7,7 +7,7 @@ use Rattle.base.proofs.Bytes.{same-second}
 use Rattle.base.specs.declared.Fault.{Fault}
 use Rattle.order.specs.declared.Kind.{Kind}
 use Rattle.label.specs.Judged.{labelFault}
-use Rattle.sheet.specs.Legal.{isSound}
+use Rattle.reading.specs.Legal.{isSound}
 
 pub sound-is : (f : Fault) (k : Kind) (x y : List ℕ) → f ≡ labelFault k x → x ≡ y → eqb (f .number) 0 ≡ isSound (labelFault k y)
 unfolding isSound

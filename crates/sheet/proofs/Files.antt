@@ -18,7 +18,7 @@ use Rattle.charset.specs.declared.Number.{Number}
 use Rattle.charset.specs.declared.Number.the-variants.{Value, Wrong}
 use Rattle.volume.specs.Fault.{valueOf}
 use Rattle.volume.specs.Meaning.{File}
-use Rattle.sheet.specs.Legal.{formatFrom, recordLengthFrom, legalEntry, legalRecords, legalFile, legalFiles}
+use Rattle.reading.specs.Legal.{formatFrom, recordLengthFrom, legalEntry, legalRecords, legalFile, legalFiles}
 use Rattle.sheet.specs.Flat.{inParts, filesFrom}
 use Rattle.sheet.specs.Passing.{Behind}
 use Rattle.sheet.specs.declared.file.Passed.{Passed}

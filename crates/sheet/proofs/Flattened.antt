@@ -14,7 +14,7 @@ use Rattle.base.specs.Sum.{sum, cutBy}
 use Rattle.base.proofs.Sums.{sum-append, length-map, sum-lengths, cut-back}
 use Rattle.volume.specs.Fault.{isAmong}
 use Rattle.volume.specs.Meaning.{File, Meaning}
-use Rattle.sheet.specs.Legal.{Sheet, legalEntry, legalFile, legalFiles, legalMeaning, legalName, freshNames, legalNames, legalQuota, legalSheet}
+use Rattle.reading.specs.Legal.{Sheet, legalEntry, legalFile, legalFiles, legalMeaning, legalName, freshNames, legalNames, legalQuota, legalSheet}
 use Rattle.sheet.specs.Flat.{inParts, filesFrom, addsUp, sheetOf, sheetNumber, allLong, flatten}
 use Rattle.sheet.proofs.Cutting.{parts-none, parts-cons}
 use Rattle.sheet.proofs.Names.{legal-long}

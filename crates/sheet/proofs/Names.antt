@@ -17,7 +17,7 @@ use Rattle.order.specs.Kind.{vol}
 use Rattle.label.specs.Judged.{labelFault}
 use Rattle.label.specs.Made.{madeVolume}
 use Rattle.volume.specs.Fault.{isAmong}
-use Rattle.sheet.specs.Legal.{isSound, legalName, freshNames}
+use Rattle.reading.specs.Legal.{isSound, legalName, freshNames}
 use Rattle.sheet.specs.Flat.{inParts}
 use Rattle.sheet.proofs.Cutting.{drop-past, parts-none, parts-some, parts-append}
 

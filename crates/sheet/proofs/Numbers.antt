@@ -12,7 +12,7 @@ use lib.ListN.{length}
 use Rattle.base.specs.If.{ifB, if-true, if-false, if-case, if-same}
 use Rattle.base.specs.Sum.{sum}
 use Rattle.volume.specs.Meaning.{Meaning}
-use Rattle.sheet.specs.Legal.{legalFiles, legalMeaning, freshNames, legalNames, legalQuota, legalSheet}
+use Rattle.reading.specs.Legal.{legalFiles, legalMeaning, freshNames, legalNames, legalQuota, legalSheet}
 use Rattle.sheet.specs.Flat.{Flat, inParts, filesFrom, addsUp, sheetOf, sheetNumber, reelsNumber}
 use Rattle.sheet.specs.Passing.{fillBytes, saysFiles}
 use Rattle.sheet.proofs.Cutting.{length-parts}

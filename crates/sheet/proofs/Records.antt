@@ -14,7 +14,7 @@ use lib.ListN.{length, take, drop, getD, drop-of-length-le}
 use lib.Seq.{drop-cons, drop-drop}
 use Rattle.base.specs.If.{ifB, if-true, if-false, if-case}
 use Rattle.base.specs.Part.{part, allAre}
-use Rattle.sheet.specs.Legal.{legalRecord, legalRecords}
+use Rattle.reading.specs.Legal.{legalRecord, legalRecords}
 use Rattle.sheet.specs.Passing.{Behind, tooLong}
 use Rattle.sheet.specs.declared.file.Passed.{Passed}
 use Rattle.base.specs.Sum.{sum, cutBy}

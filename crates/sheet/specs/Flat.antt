@@ -10,7 +10,7 @@ use Rattle.base.specs.Sum.{sum, cutBy}
 use Rattle.image.specs.Framing.{mostReels}
 use Rattle.volume.specs.Fault.{mostFiles}
 use Rattle.volume.specs.Meaning.{File, Meaning}
-use Rattle.sheet.specs.Legal.{Sheet, legalQuota, legalNames, legalSheet}
+use Rattle.reading.specs.Legal.{Sheet, legalQuota, legalNames, legalSheet}
 
 pub record Flat : Type 0 where
   pub set : List ℕ

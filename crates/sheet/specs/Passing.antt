@@ -8,7 +8,7 @@ use lib.ListN.{length}
 use Rattle.base.specs.If.{ifB}
 use Rattle.base.specs.Format.{D}
 use Rattle.base.specs.Sum.{sum}
-use Rattle.sheet.specs.Legal.{legalFiles}
+use Rattle.reading.specs.Legal.{legalFiles}
 use Rattle.sheet.specs.Flat.{inParts, filesFrom}
 use Rattle.sheet.specs.declared.file.Passed.{Passed}
 

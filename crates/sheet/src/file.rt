@@ -7,7 +7,7 @@ ghost use Rattle.order.specs.Kind.{hdr};
 ghost use Rattle.label.specs.Name.{HDR1, HDR2};
 ghost use Rattle.label.specs.Judged.{labelFault};
 ghost use Rattle.label.specs.Made.{madeFirst, madeSecond};
-ghost use Rattle.sheet.specs.Legal.{isSound, formatFrom, recordLengthFrom, legalEntry, legalRecord, legalRecords, legalFile, legalFiles};
+ghost use Rattle.reading.specs.Legal.{isSound, formatFrom, recordLengthFrom, legalEntry, legalRecord, legalRecords, legalFile, legalFiles};
 ghost use Rattle.sheet.specs.Flat.{inParts, filesFrom};
 ghost use Rattle.sheet.specs.Passing.{Behind, tooLong};
 use crate::sum::past;

@@ -3,7 +3,7 @@ ghost use mathlib.Core.Path.{_≡_};
 ghost use mathlib.Core.List.{[]};
 ghost use Rattle.base.specs.Part.{part, same};
 ghost use Rattle.volume.specs.Fault.{isAmong};
-ghost use Rattle.sheet.specs.Legal.{legalName, legalQuota, freshNames};
+ghost use Rattle.reading.specs.Legal.{legalName, legalQuota, freshNames};
 ghost use Rattle.sheet.specs.Flat.{inParts};
 use crate::sum::past;
 use base::equal;

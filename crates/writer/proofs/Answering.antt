@@ -16,7 +16,7 @@ use Rattle.base.proofs.Parts.{put-none}
 use Rattle.image.specs.Item.{Item, encodeBy, encode}
 use Rattle.image.specs.Framing.{head, mostImage}
 use Rattle.volume.specs.Run.{imageVerdict}
-use Rattle.sheet.specs.Legal.{freshNames, legalNames, legalQuota}
+use Rattle.reading.specs.Legal.{freshNames, legalNames, legalQuota}
 use Rattle.sheet.specs.Flat.{Flat, inParts, sheetNumber, sheetOf, reelsNumber, allLong}
 use Rattle.sheet.proofs.Cutting.{parts-none, parts-some}
 use Rattle.sheet.proofs.Flattened.{names-long}

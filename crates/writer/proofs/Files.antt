@@ -17,7 +17,7 @@ use Rattle.image.specs.Item.{Item, mark, encode}
 use Rattle.image.proofs.RoundTrip.{encode-append}
 use Rattle.label.specs.Name.{HDR1, HDR2, EOF1, EOF2}
 use Rattle.volume.specs.Fault.{valueOf}
-use Rattle.sheet.specs.Legal.{formatFrom, blockLengthFrom}
+use Rattle.reading.specs.Legal.{formatFrom, blockLengthFrom}
 use Rattle.writing.specs.Pack.{Left, finished, startOf, blocksLeft, blocksF, weight, blocksOf}
 use Rattle.writing.specs.Lay.{Laid, laid, short, put, headers, fileEnd, Next, rest}
 use Rattle.writing.proofs.Packing.{by-test}

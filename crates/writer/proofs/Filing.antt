@@ -17,7 +17,7 @@ use Rattle.image.specs.Framing.{head}
 use Rattle.image.proofs.RoundTrip.{encode-append}
 use Rattle.label.specs.Made.{madeVolume}
 use Rattle.volume.specs.Meaning.{File, content}
-use Rattle.sheet.specs.Legal.{formatFrom, blockLengthFrom, recordLengthFrom, legalFiles}
+use Rattle.reading.specs.Legal.{formatFrom, blockLengthFrom, recordLengthFrom, legalFiles}
 use Rattle.sheet.specs.Flat.{inParts, filesFrom}
 use Rattle.writing.specs.Pack.{blocksOf, Room}
 use Rattle.writing.specs.Lay.{Laid, laid, short, put, headers, Next, rest, layFiles, layOn}

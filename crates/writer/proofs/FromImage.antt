@@ -15,7 +15,7 @@ use Rattle.volume.specs.Run.{imageVerdict}
 use Rattle.volume.specs.Meaning.{File, fieldsFrom, content}
 use Rattle.output.specs.declared.Written.{Written as Answer}
 use Rattle.output.specs.Output.{Answers}
-use Rattle.sheet.specs.Legal.{legalFiles}
+use Rattle.reading.specs.Legal.{legalFiles}
 use Rattle.sheet.specs.Flat.{inParts, reelsNumber}
 use Rattle.content.specs.File.{firstFile, nextFile, fileBehind}
 use Rattle.content.specs.Records.{recordsAt}

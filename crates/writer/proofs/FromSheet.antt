@@ -15,7 +15,7 @@ use Rattle.base.specs.Sum.{sum, cutBy}
 use Rattle.base.proofs.Sums.{sum-at, sum-append}
 use Rattle.output.specs.declared.Written.{Written as Answer}
 use Rattle.output.specs.Output.{Answers}
-use Rattle.sheet.specs.Legal.{legalFiles, legalNames, legalQuota, legalSheet}
+use Rattle.reading.specs.Legal.{legalFiles, legalNames, legalQuota, legalSheet}
 use Rattle.sheet.specs.Flat.{Flat, inParts, filesFrom, addsUp, sheetOf, sheetNumber}
 use Rattle.sheet.proofs.Cutting.{parts-some}
 use Rattle.content.specs.declared.Walk.{Walk}

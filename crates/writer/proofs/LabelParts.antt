@@ -11,7 +11,7 @@ use Rattle.base.specs.If.{if-true, if-false}
 use Rattle.base.specs.Part.{part, putAt}
 use Rattle.base.proofs.Parts.{length-part, part-drop, drop-take, length-put, take-put, part-put, drop-put, put-put}
 use Rattle.volume.specs.Meaning.{fieldsFrom}
-use Rattle.sheet.proofs.Entries.{length-entry}
+use Rattle.reading.proofs.Entries.{length-entry}
 use Rattle.writer.specs.declared.pen.Pen.{Pen}
 use Rattle.writer.specs.declared.source.Cursor.{Cursor}
 use Rattle.writer.specs.declared.body.Body.{Body}

@@ -5,7 +5,7 @@ use mathlib.Core.List.{List}
 use Prim.Native.Nat.{ℕ, _+_, _≤_}
 use lib.ListN.{length}
 use Rattle.image.specs.Item.{encode}
-use Rattle.sheet.specs.Legal.{formatFrom, blockLengthFrom}
+use Rattle.reading.specs.Legal.{formatFrom, blockLengthFrom}
 use Rattle.writing.specs.Pack.{finished, blocksOf, Room}
 use Rattle.writing.specs.Lay.{Reel, Laid, put, headers, Next, rest}
 use Rattle.writer.specs.declared.pen.Pen.{Pen}

@@ -13,7 +13,7 @@ use Rattle.image.specs.Item.{block, mark, reelEnd, encode}
 use Rattle.image.specs.Framing.{head}
 use Rattle.label.specs.Made.{madeVolume}
 use Rattle.volume.specs.Meaning.{File, Meaning, fieldsFrom, content}
-use Rattle.sheet.specs.Legal.{Sheet, legalFiles, legalNames, legalQuota}
+use Rattle.reading.specs.Legal.{Sheet, legalFiles, legalNames, legalQuota}
 use Rattle.sheet.specs.Flat.{inParts, filesFrom}
 use Rattle.content.specs.File.{fileBehind}
 use Rattle.content.specs.Walked.{Filed as Met}

@@ -1,7 +1,7 @@
 // A file laid down on reels: its header labels, its records in blocks, and its trailer labels. It knows nothing of the files before and behind.
 ghost use mathlib.Core.Path.{_≡_};
 ghost use lib.ListN.{length};
-ghost use Rattle.sheet.specs.Legal.{blockLengthFrom};
+ghost use Rattle.reading.specs.Legal.{blockLengthFrom};
 ghost use Rattle.writer.specs.Pass.{entryIn, sequenceIn, setIn, jobOf};
 ghost use Rattle.writer.specs.Files.{Beginnable, Begins, Tailable, Tailed, FileReady, FilePut};
 use crate::body::Body;

@@ -25,7 +25,7 @@ use Rattle.label.specs.Judged.{labelFault}
 use Rattle.label.specs.Made.{madeFirst, madeSecond, formatIn, blockLengthIn, recordLengthIn}
 use Rattle.volume.specs.Fault.{valueOf}
 use Rattle.volume.specs.Meaning.{fieldsFrom}
-use Rattle.sheet.specs.Legal.{formatFrom, blockLengthFrom, recordLengthFrom, isSound, legalEntry}
+use Rattle.reading.specs.Legal.{formatFrom, blockLengthFrom, recordLengthFrom, isSound, legalEntry}
 use Rattle.writing.proofs.Units.{Format, isF, isD, isS, both}
 use Rattle.writing.proofs.Packed.{Suited}
 use Rattle.writing.proofs.Labels.{GoodFirst, GoodSecond, good-first, good-second, byte-of, first-identifier, first-generation, first-version, first-created, first-expires, second-format, second-block, second-record}

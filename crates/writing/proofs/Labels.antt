@@ -30,7 +30,7 @@ use Rattle.label.specs.Field.{good, isPositive, isFormat, isRecordLength, hasRe
 use Rattle.label.specs.Table.{vol1, hdr1, second, fieldsOf, trailerFirst, trailerSecond, sectionFirst, sectionSecond}
 use Rattle.label.specs.Judged.{firstBad, goodAt, agreeAt, wrongFrom, unequalFrom, accessOf, accessAt, fieldFault, labelFault}
 use Rattle.label.specs.Made.{fitted, laid, madeVolume, madeFirst, madeSecond, identifierIn, generationIn, versionIn, createdIn, expiresIn, formatIn, blockLengthIn, recordLengthIn}
-use Rattle.sheet.specs.Legal.{formatFrom}
+use Rattle.reading.specs.Legal.{formatFrom}
 use Rattle.label.proofs.Laid.{placeOf, widthOf, fieldAt, filled-back, fitted-all, length-laid, eighty-vol1, eighty-hdr1, eighty-second}
 
 -- ---- the rows of a table, one by one

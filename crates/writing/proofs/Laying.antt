@@ -28,7 +28,7 @@ use Rattle.volume.specs.Fault.{isAmong}
 use Rattle.volume.specs.Step.{Event, begins, holds, isDue, Next, go, step}
 use Rattle.volume.specs.Run.{ended, further, next, runs}
 use Rattle.volume.specs.Meaning.{File}
-use Rattle.sheet.specs.Legal.{formatFrom, blockLengthFrom, recordLengthFrom, isSound, legalName, freshNames, legalFile, legalFiles, legalEntry, legalRecords}
+use Rattle.reading.specs.Legal.{formatFrom, blockLengthFrom, recordLengthFrom, isSound, legalName, freshNames, legalFile, legalFiles, legalEntry, legalRecords}
 use Rattle.writing.specs.Pack.{blocksOf}
 use Rattle.writing.specs.Lay.{Reel, Laid, laid, short, put, headers, fileEnd, volumeEnd, rest, layFiles}
 use Rattle.writing.proofs.Units.{both}

@@ -21,7 +21,7 @@ use Rattle.block.specs.declared.Unit.the-variants.{Of, None}
 use Rattle.block.proofs.Units.{unit-stands}
 use Rattle.block.proofs.Cuts.{cut-end}
 use Rattle.volume.specs.Meaning.{onFirst, joined}
-use Rattle.sheet.specs.Legal.{legalRecord, legalRecords}
+use Rattle.reading.specs.Legal.{legalRecord, legalRecords}
 use Rattle.writing.specs.Pack.{enters, taken, indicatorOf, Left, finished, going, startOf, unitIn, fill, after, weights, weight, blocksF, blocksLeft, blocksOf, Room, RoomLeft}
 use Rattle.writing.proofs.Packing.{by-test, Entered, entered, segment-enters, whole-enters, segmentIn, segmentsFrom, Said, Ways, by-ways, after-lighter}
 use Rattle.block.proofs.Wholes.{word-fixed, word-variable}

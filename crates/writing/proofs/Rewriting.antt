@@ -8,9 +8,9 @@ use borrow.Author.Tests.{ltb-false}
 use lib.ListN.{length}
 use Rattle.base.specs.If.{if-case}
 use Rattle.volume.specs.Run.{imageVerdict}
-use Rattle.sheet.specs.Legal.{legalSheet, legalQuota, legalNames}
+use Rattle.reading.specs.Legal.{legalSheet, legalQuota, legalNames}
 use Rattle.sheet.specs.Flat.{inParts, reelsNumber}
-use Rattle.sheet.proofs.Legality.{accepted-sheet}
+use Rattle.reading.proofs.Legality.{accepted-sheet}
 use Rattle.writing.specs.Rewrite.{sheetFrom}
 
 pub record LegalReels (quota : ℕ) (names : List ℕ) : Type 0 where

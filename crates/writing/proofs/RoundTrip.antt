@@ -27,7 +27,7 @@ use Rattle.volume.specs.Step.{Event, isDue}
 use Rattle.volume.specs.Run.{Run, ended, runs, answerOf, imageVerdict}
 use Rattle.volume.specs.Meaning.{File, Meaning, joined, Collected, fieldsFrom, collect, setFrom, meaningOf, handedOut, content, Means}
 use Rattle.volume.proofs.Accepted.{done-accepted}
-use Rattle.sheet.specs.Legal.{Sheet, formatFrom, blockLengthFrom, recordLengthFrom, freshNames, legalFiles, legalMeaning, legalNames, legalQuota, legalSheet}
+use Rattle.reading.specs.Legal.{Sheet, formatFrom, blockLengthFrom, recordLengthFrom, freshNames, legalFiles, legalMeaning, legalNames, legalQuota, legalSheet}
 use Rattle.sheet.specs.Flat.{Flat, addsUp, sheetOf, sheetNumber}
 use Rattle.writing.specs.Lay.{Reel, reelsOf, Laid, laid, short, layFiles, layOn, lay}
 use Rattle.output.specs.Output.{Written, refused}

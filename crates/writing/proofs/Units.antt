@@ -20,7 +20,7 @@ use Rattle.block.proofs.Wholes.{word-fixed, word-variable, word-segmented}
 use Rattle.block.specs.Cut.{segmentOf, onto, cut}
 use Rattle.block.specs.declared.Unit.the-variants.{Of}
 use Rattle.block.proofs.Cuts.{cut-unit}
-use Rattle.sheet.specs.Legal.{legalRecord}
+use Rattle.reading.specs.Legal.{legalRecord}
 use Rattle.writing.specs.Pack.{enters, taken, indicatorOf, controlWord, unitIn}
 use Rattle.writing.proofs.Packing.{by-test, Entered, entered, taken-whole, segmentIn}
 

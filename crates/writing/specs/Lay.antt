@@ -9,7 +9,7 @@ use Rattle.image.specs.Item.{Item, block, mark, reelEnd}
 use Rattle.label.specs.Name.{HDR1, HDR2, EOV1, EOV2, EOF1, EOF2}
 use Rattle.label.specs.Made.{madeVolume, madeFirst, madeSecond}
 use Rattle.volume.specs.Meaning.{File, Meaning}
-use Rattle.sheet.specs.Legal.{Sheet, formatFrom, blockLengthFrom}
+use Rattle.reading.specs.Legal.{Sheet, formatFrom, blockLengthFrom}
 use Rattle.writing.specs.Pack.{blocksOf}
 
 -- a reel that may be written: its name, and the data blocks for which it has room, 1 or more

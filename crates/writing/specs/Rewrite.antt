@@ -8,7 +8,7 @@ use Rattle.base.specs.Answer.{verdict}
 use Rattle.output.specs.Output.{Result, refusedWith, placed}
 use Rattle.volume.specs.Run.{imageVerdict}
 use Rattle.volume.specs.Meaning.{content}
-use Rattle.sheet.specs.Legal.{Sheet}
+use Rattle.reading.specs.Legal.{Sheet}
 use Rattle.sheet.specs.Flat.{inParts, reelsNumber}
 use Rattle.writing.specs.Write.{writeSheet}
 

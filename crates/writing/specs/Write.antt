@@ -8,7 +8,7 @@ use Rattle.base.specs.If.{ifB}
 use Rattle.output.specs.Output.{Written, refused, fitted}
 use Rattle.image.specs.Item.{encode}
 use Rattle.image.specs.Framing.{head, mostImage}
-use Rattle.sheet.specs.Legal.{Sheet}
+use Rattle.reading.specs.Legal.{Sheet}
 use Rattle.sheet.specs.Flat.{Flat, sheetOf, sheetNumber}
 use Rattle.writing.specs.Lay.{Laid, laid, short, lay}
 

@@ -1,4 +1,4 @@
-use Rattle.sheet.specs.Legal.{legalEntry}
+use Rattle.reading.specs.Legal.{legalEntry}
 use Rattle.base.proofs.Rules.{ifs}
 use Rattle.sheet.proofs.file.is_legal_entry.Statement.{statement}
 use Rattle.sheet.proofs.file.is_legal_entry.Tie as tie

@@ -1,4 +1,4 @@
-use Rattle.sheet.specs.Legal.{legalQuota}
+use Rattle.reading.specs.Legal.{legalQuota}
 use Rattle.base.proofs.Rules.{ifs}
 use Rattle.sheet.proofs.reels.is_legal_quota.Statement.{statement}
 use Rattle.sheet.proofs.reels.is_legal_quota.Tie as tie

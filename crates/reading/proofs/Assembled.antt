@@ -31,7 +31,7 @@ use Rattle.block.specs.declared.Outcome.{Outcome}
 use Rattle.block.proofs.Units.{If-any}
 use Rattle.volume.specs.Meaning.{onFirst, joined}
 use Rattle.volume.specs.Step.{segmentsOf}
-use Rattle.sheet.specs.Legal.{legalRecord, legalRecords}
+use Rattle.reading.specs.Legal.{legalRecord, legalRecords}
 
 -- ---- a legal record, format by format
 

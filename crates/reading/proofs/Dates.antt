@@ -33,10 +33,10 @@ use Rattle.volume.specs.Meaning.{meaningOf, handedOut, content}
 use Rattle.volume.specs.Accepted.{Faultless, All, MayEnd, behind}
 use Rattle.volume.specs.Dates.{isDated, undated, undatedIn, undatedBehind, undatedFrom, SameDates}
 use Rattle.volume.proofs.Accepted.{faultless-go, faultless-runs, accepted-iff}
-use Rattle.sheet.proofs.Entries.{Rows, bad-rows, byte-part}
-use Rattle.sheet.proofs.Stages.{crossed-none, lower-first}
-use Rattle.sheet.proofs.Steps.{events-quiet}
-use Rattle.sheet.proofs.Moves.{Stage, stage, before, named, within, fileOver, reelOver, Numbered, Quiet, Move, Goes, stays, nextReel, header1, nextFile, header2, datum, eof1, eov1, finish, due-goes}
+use Rattle.reading.proofs.Entries.{Rows, bad-rows, byte-part}
+use Rattle.reading.proofs.Stages.{crossed-none, lower-first}
+use Rattle.reading.proofs.Steps.{events-quiet}
+use Rattle.order.proofs.Moves.{Stage, stage, before, named, within, fileOver, reelOver, Numbered, Quiet, Move, Goes, stays, nextReel, header1, nextFile, header2, datum, eof1, eov1, finish, due-goes}
 
 -- ---- a label without its dates
 

@@ -23,10 +23,10 @@ use Rattle.volume.specs.Run.{Run, ended, stopped, further, next, runs, imageVer
 use Rattle.volume.specs.Meaning.{collect, setFrom, meaningOf, handedOut, content}
 use Rattle.volume.specs.Accepted.{Faultless, behind}
 use Rattle.volume.proofs.Accepted.{by-step, Ends, all-ends, accepted-iff}
-use Rattle.sheet.specs.Legal.{legalFiles, legalMeaning, legalQuota, legalNames, legalSheet}
-use Rattle.sheet.proofs.Moves.{Stage, stage, fileOver, Numbered, Move, stays, nextReel, header1, nextFile, header2, datum, eof1, eov1, finish, due-goes}
-use Rattle.sheet.proofs.Stages.{view, Holds, Promised, none-promise}
-use Rattle.sheet.proofs.Steps.{step-holds, step-promise}
+use Rattle.reading.specs.Legal.{legalFiles, legalMeaning, legalQuota, legalNames, legalSheet}
+use Rattle.order.proofs.Moves.{Stage, stage, fileOver, Numbered, Move, stays, nextReel, header1, nextFile, header2, datum, eof1, eov1, finish, due-goes}
+use Rattle.reading.proofs.Stages.{view, Holds, Promised, none-promise}
+use Rattle.reading.proofs.Steps.{step-holds, step-promise}
 
 -- ---- what an item is
 

@@ -12,9 +12,9 @@ use Rattle.label.specs.Judged.{labelFault}
 use Rattle.volume.specs.State.{State}
 use Rattle.volume.specs.Fault.{contextFault, itemFault, blockFault}
 use Rattle.volume.specs.Step.{Event, segmentsIn, filesAfter, goesOnAfter, firstAfter, secondAfter, pendingAfter, stateAfter, eventsOf}
-use Rattle.sheet.proofs.Moves.{Stage, within, reelOver, Quiet, Move, stays, nextReel, header1, nextFile, header2, datum, eof1, eov1, finish}
+use Rattle.order.proofs.Moves.{Stage, within, reelOver, Quiet, Move, stays, nextReel, header1, nextFile, header2, datum, eof1, eov1, finish}
 use Rattle.base.proofs.Faults.{or-first, or-second}
-use Rattle.sheet.proofs.Stages.{View, view, viewOf, Holds, Promised, Outside, file-outside, reel-outside, end-idle, first-holds, first-promise, second-holds, second-promise, block-promise, end-promise, reel-promise}
+use Rattle.reading.proofs.Stages.{View, view, viewOf, Holds, Promised, Outside, file-outside, reel-outside, end-idle, first-holds, first-promise, second-holds, second-promise, block-promise, end-promise, reel-promise}
 
 -- ---- a quiet item changes nothing that the meaning hangs on, and hands out nothing
 

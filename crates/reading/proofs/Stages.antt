@@ -26,10 +26,10 @@ use Rattle.volume.specs.State.{State}
 use Rattle.volume.specs.Fault.{valueOf, says, lower, crossed, newFilePlace, laterPlace, fileFault, firstHeaderFault, secondHeaderFault, firstTrailerFault, openFault, fileEndFault, outcomeIn}
 use Rattle.volume.specs.Step.{Event, begins, holds, segmentsOf}
 use Rattle.volume.specs.Meaning.{File, joined, collect, setFrom, fieldsFrom}
-use Rattle.sheet.specs.Legal.{formatFrom, recordLengthFrom, legalEntry, legalRecords, legalFile, legalFiles}
-use Rattle.sheet.proofs.Assembled.{Owed, units-fair, block-owed}
-use Rattle.sheet.proofs.Entries.{Rows, bad-rows, byte-part, entry-legal, entry-format, entry-record}
-use Rattle.sheet.proofs.Moves.{Stage, before, named, within, fileOver, reelOver}
+use Rattle.reading.specs.Legal.{formatFrom, recordLengthFrom, legalEntry, legalRecords, legalFile, legalFiles}
+use Rattle.reading.proofs.Assembled.{Owed, units-fair, block-owed}
+use Rattle.reading.proofs.Entries.{Rows, bad-rows, byte-part, entry-legal, entry-format, entry-record}
+use Rattle.order.proofs.Moves.{Stage, before, named, within, fileOver, reelOver}
 
 -- ---- what the meaning hangs on
 

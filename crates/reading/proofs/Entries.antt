@@ -31,7 +31,7 @@ use Rattle.label.specs.Made.{fitted, identifierIn, generationIn, versionIn, cre
 use Rattle.label.proofs.Laid.{placeOf, widthOf, fieldAt, fitted-all, filled-back}
 use Rattle.volume.specs.Fault.{valueOf}
 use Rattle.volume.specs.Meaning.{fieldsFrom}
-use Rattle.sheet.specs.Legal.{formatFrom, recordLengthFrom, isSound, legalEntry}
+use Rattle.reading.specs.Legal.{formatFrom, recordLengthFrom, isSound, legalEntry}
 
 -- ---- a label without fault: each row of its table holds
 
