@@ -1,5 +1,5 @@
 use Rattle.writer.specs.Sets.{originOf, taskOf}
-use Rattle.writer.proofs.Filing.{sets, filesOn, Along, along-closing, along-sheeted}
+use Rattle.writer.proofs.Filing.{sets, filesOn, Along, along-closing, along-sheeted, begun-along, along-all-kept}
 use Rattle.writer.proofs.Origins.{turn-small, turn-countable, turn-enterable, turn-ready, turn-more, turn-falls}
 use Rattle.writer.proofs.set.lay_set.Statement.{statement}
 use Rattle.writer.proofs.set.lay_set.Tie as tie
@@ -15,7 +15,8 @@ begin-set-requires : tie.Need-begin-set-requires Inv-loop μ-loop
 begin-set-requires c κs = search sets
 
 loop-holds : tie.Need-loop-holds Inv-loop μ-loop
-loop-holds c = search sets
+loop-holds c =
+    begun-along _ _ _ _ _ _ _ _ _ _ (c .before .before .before .before .before .before .before .before .before .before .pre) _ _ (c .before .before .begin-set .ensures)
 
 cursor-at-requires : tie.Need-cursor-at-requires Inv-loop μ-loop
 cursor-at-requires c κs =
@@ -46,7 +47,8 @@ end-set-requires c κs =
     along-closing _ _ _ _ _ _ _ _ _ _ (c .before .before .before .before .before .before .before .before .before .before .before .before .before .pre) _ _ (c .before .before .before .before .before .begin-set .ensures) _ _ (c .before .before .loop .inv) (c .before .loop-test .left)
 
 same-length : tie.Need-same-length Inv-loop μ-loop
-same-length c = search sets
+same-length c =
+    along-all-kept _ _ _ _ _ _ _ _ _ _ (c .before .before .before .before .before .before .before .before .before .before .before .before .before .before .before .before .pre) _ _ (c .before .before .before .before .before .before .before .before .begin-set .ensures) _ _ (c .before .before .before .before .before .loop .inv) (c .before .before .before .before .loop-test .left) _ _ (c .before .before .end-set .ensures)
 
 returns : tie.Need-returns Inv-loop μ-loop
 returns c =
