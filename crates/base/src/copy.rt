@@ -260,12 +260,12 @@ fn put_middling(out: &mut [u8], at: usize, s: &[u8])
     }
 }
 
-// The same, for a caller who has most often 16 to 128 bytes.
-pub fn put_some(out: &mut [u8], at: usize, s: &[u8])
+// The same, for a caller who has most often up to 128 bytes.
+pub fn put_short(out: &mut [u8], at: usize, s: &[u8])
     ensures { λ _. ⌜ now (out .exit) ≡ putIn (now (out .entry)) at (now (s .entry)) ⌝ }
 {
     if s.len() < FEW {
-        put_in(out, at, s);
+        put_few(out, at, s);
         return;
     }
     if SOME < s.len() {

@@ -4,7 +4,7 @@ mod copy; // copy.rt: bytes into a lent buffer
 
 pub use copy::put_few;
 pub use copy::put_in;
-pub use copy::put_some;
+pub use copy::put_short;
 ghost use mathlib.Core.Path.{_≡_};
 ghost use lib.Dec.{eqb};
 ghost use Rattle.base.specs.Part.{part, same};

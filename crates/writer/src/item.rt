@@ -18,21 +18,20 @@ use label::first_label;
 use label::second_label;
 use label::volume_label;
 
-// What the labels of a file are made of, one behind the other: the file's entry, its number in the set, the set entry, and the names of the reels. Each
-// begins at the place of its name.
+// What the labels of a file are made of, one behind the other: the file's entry, its number in the set, the set entry, and the names of the reels.
 pub(crate) type Labels = [u8; 149];
 
+// The bytes of the entry, which stands first; the places of the number, of the set entry and of the names; the bytes of the set entry, and of a name.
 pub(crate) const ENTRY: usize = 46;
 
 pub(crate) const SEQUENCE: usize = 46;
 
 pub(crate) const SET: usize = 47;
 
-const SET_ENTRY: usize = 6;
-
 pub(crate) const NAMES: usize = 53;
 
-// The bytes of a reel's name.
+const SET_ENTRY: usize = 6;
+
 pub(crate) const NAME: usize = 6;
 
 // The label parts with s at a place.

@@ -13,16 +13,12 @@ ghost use Rattle.writer.specs.Pens.{mostOf, wordWith, Unitable};
 use crate::unit::word_of;
 use base::FIXED;
 use base::VARIABLE;
-use base::put_few;
-use base::put_some;
+use base::put_short;
 use output::figures;
 use output::four_digits;
 
 // The bytes of a length word.
 pub(crate) const WORD: usize = 3;
-
-// Records of less than so many bytes are short: each length has the copy that is quick for it.
-const FEW: usize = 16;
 
 // Writes the few bytes of a word or a label at a place where they have room.
 pub(crate) fn copy_to(out: &mut [u8], at: usize, s: &[u8])
@@ -86,11 +82,7 @@ fn put_unit(f: u8, i: u8, bytes: &[u8], from: usize, n: usize, out: &mut [u8], a
     let w = word_of(f);
     let d = figures(n + w);
     put_digits(out, at, f, i, &d);
-    if n < FEW {
-        put_few(out, at + w, &bytes[from..end]);
-        return;
-    }
-    put_some(out, at + w, &bytes[from..end]);
+    put_short(out, at + w, &bytes[from..end]);
 }
 
 // The same where the pass lays.
