@@ -6,6 +6,7 @@ pub use copy::put_few;
 pub use copy::put_in;
 pub use copy::put_short;
 ghost use mathlib.Core.Path.{_≡_};
+ghost use Prim.Native.Nat.{_<_};
 ghost use lib.Dec.{eqb};
 ghost use Rattle.base.specs.Part.{part, same};
 ghost use Rattle.base.specs.Sum.{sum};
@@ -29,6 +30,13 @@ pub struct Verdict {
     pub number: u32,
     pub item: u32,
     pub byte: u32,
+}
+
+// A byte as a number.
+pub fn wide(b: u8) -> usize
+    ensures { λ r. ⌜ (r ≡ b) × (r < 256) ⌝ }
+{
+    b as usize
 }
 
 // The n bytes of s from place a on, as many of them as there are.

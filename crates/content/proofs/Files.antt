@@ -25,7 +25,6 @@ use Rattle.order.specs.declared.Phase.{Phase}
 use Rattle.order.specs.declared.Phase.the-variants.{Reel, Header, Data}
 use Rattle.order.specs.declared.Due.{Due}
 use Rattle.order.specs.declared.Due.the-variants.{To, Wrong}
-use Rattle.volume.proofs.Faults.{value-some, value-none}
 use Rattle.volume.specs.Step.{kindIn, bytesIn}
 use Rattle.content.specs.Section.{placeBehind, seenAt}
 use Rattle.content.specs.File.{markFrom, walkFrom, beginsFile, goesOnBehind, firstBehind, onward, headerFrom, firstFile, nextFile, fileBehind, fromFile, filesOn, fileNumbered}
@@ -37,8 +36,6 @@ use Rattle.content.specs.declared.NextFile.{NextFile}
 use Rattle.content.specs.declared.NextFile.the-variants.{At, Nowhere}
 use Rattle.content.proofs.Sections.{start-fits, end-fits, sees, unseen, item-within, item-start, item-end, item-falls}
 use Rattle.content.proofs.Cases.{said}
-
-pub ruleset values = (value-some, value-none, needs)
 
 -- ---- up to the mark
 

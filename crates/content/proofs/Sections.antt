@@ -24,7 +24,6 @@ use Rattle.order.specs.declared.Phase.the-variants.{Data}
 use Rattle.order.specs.declared.Due.{Due}
 use Rattle.order.specs.declared.Due.the-variants.{To, Wrong}
 use Rattle.volume.specs.Step.{isDue, kindIn, bytesIn}
-use Rattle.volume.proofs.Walks.{kind-label, kind-data}
 use Rattle.content.specs.Section.{placeBehind, seenBy, seenAt, turnTo, turnOf, follow, dataFrom}
 use Rattle.content.specs.declared.section.Seen.{Seen}
 use Rattle.content.specs.declared.section.Seen.the-variants.{Item as Of, Nothing}
@@ -32,8 +31,6 @@ use Rattle.content.specs.declared.section.Turn.{Turn}
 use Rattle.content.specs.declared.section.Turn.the-variants.{Here, Over, On}
 use Rattle.content.specs.declared.section.Extent.{Extent}
 use Rattle.content.specs.declared.section.Extent.the-variants.{At, Nowhere}
-
-pub ruleset kinds = (kind-label, kind-data, needs)
 
 -- ---- what stands at a place
 

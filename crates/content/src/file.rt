@@ -5,7 +5,6 @@ ghost use Prim.Native.Nat.{_+_, _≤_};
 ghost use lib.ListN.{length, drop};
 ghost use Rattle.base.specs.Part.{part};
 ghost use Rattle.image.specs.Item.{decode};
-ghost use Rattle.volume.specs.Fault.{valueOf};
 ghost use Rattle.content.specs.File.{markFrom, walkFrom, beginsFile, goesOnBehind, firstBehind, headerFrom, firstFile, nextFile, fileBehind, filesOn, fileNumbered};
 ghost use Rattle.content.specs.Numbers.{fileOf, Said};
 use crate::FileAt;
@@ -14,7 +13,6 @@ use crate::Walk;
 use crate::section::Seen;
 use crate::section::seen_at;
 use base::part_of;
-use charset::Number;
 use image::Shape;
 use image::shape_at;
 use label::format_of;
@@ -28,16 +26,7 @@ use order::Kind;
 use order::Phase;
 use order::due_after;
 use order::is;
-
-// What a field says.
-fn value_of(x: Number) -> u32
-    ensures { λ r. ⌜ r ≡ valueOf x ⌝ }
-{
-    match x {
-        Number::Value(n) => n,
-        Number::Wrong => 0,
-    }
-}
+use volume::value_of;
 
 // The place behind the mark that ends a group of labels.
 fn behind_mark(image: &[u8], from: usize) -> usize

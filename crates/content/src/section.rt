@@ -1,8 +1,7 @@
 // The next data block of a file, over sections and reels. It knows the order of a reel, and no byte of a data block.
 ghost use mathlib.Core.Path.{_≡_};
 ghost use lib.ListN.{drop};
-ghost use Rattle.image.specs.Item.{block, decode};
-ghost use Rattle.volume.specs.Step.{kindIn};
+ghost use Rattle.image.specs.Item.{decode};
 ghost use Rattle.content.specs.Section.{seenAt, turnOf, dataFrom};
 use image::Shape;
 use image::shape_at;
@@ -15,6 +14,7 @@ use order::Phase;
 use order::TAPE_MARK;
 use order::due_after;
 use order::is;
+use volume::kind_in;
 
 // What stands at a place: a kind of item and the number of its bytes, or nothing that is an item.
 pub enum Seen {
@@ -33,20 +33,6 @@ pub enum Turn {
 pub enum Extent {
     At(usize, usize),
     Nowhere,
-}
-
-// What a block is in that phase: data where data is due, else a label.
-fn kind_in(phase: Phase, l: &[u8]) -> Kind
-    ensures { λ r. ⌜ r ≡ kindIn phase (block (now (l .entry))) ⌝ }
-{
-    let k = Kind {
-        family: DATA_BLOCK,
-        number: 0,
-    };
-    match due_after(phase, k) {
-        Due::Wrong => label::kind(l),
-        Due::To(_) => k,
-    }
 }
 
 // What stands at a place, in that phase.

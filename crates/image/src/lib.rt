@@ -1,5 +1,6 @@
 // The container of a set: items from bytes. It knows lengths, and nothing of what a block holds.
 use base::Verdict;
+use base::wide;
 ghost use mathlib.Core.Path.{_≡_};
 ghost use mathlib.Core.Bool.{false};
 ghost use Prim.Native.Nat.{_≤_, _<_};
@@ -35,13 +36,6 @@ pub struct Frame {
     pub reels: usize,
     pub item: u32,
     pub closed: bool,
-}
-
-// A byte as a number.
-pub fn wide(b: u8) -> usize
-    ensures { λ r. ⌜ (r ≡ b) × (r < 256) ⌝ }
-{
-    b as usize
 }
 
 // What a length word leads that has n bytes behind it.

@@ -10,9 +10,9 @@ use super::table::SECTION_FIRST;
 use super::table::SECTION_SECOND;
 use super::table::TRAILER_FIRST;
 use super::table::TRAILER_SECOND;
-use super::table::wide;
 use base::equal;
 use base::part_of;
+use base::wide;
 
 // Whether the w bytes at a place are the same in both labels.
 fn same_part(a: &[u8], b: &[u8], at: usize, w: usize) -> bool

@@ -1,16 +1,6 @@
 // The fields of each label as constant tables: a width and a rule in turn, the same data as the definitions' lists.
 // Byte positions stand here, as comments, and nowhere else in the code but where a single field is read.
 
-ghost use mathlib.Core.Path.{_≡_};
-ghost use Prim.Native.Nat.{_<_};
-
-// A width of a table as a number of bytes.
-pub(crate) fn wide(w: u8) -> usize
-    ensures { λ r. ⌜ (r ≡ w) × (r < 256) ⌝ }
-{
-    w as usize
-}
-
 // ---- the rules of a field
 
 pub(crate) const FREE: u8 = 0;

@@ -9,7 +9,7 @@ use super::table::SECOND_FIELDS;
 use super::table::TRAILER1_FIELDS;
 use super::table::USER_FIELDS;
 use super::table::VOL1_FIELDS;
-use super::table::wide;
+use base::wide;
 use order::EOF;
 use order::EOV;
 use order::HDR;

@@ -5,9 +5,9 @@ ghost use lib.ListN.{length, drop};
 ghost use Rattle.base.specs.Part.{part, allAre};
 ghost use Rattle.image.specs.Item.{mostBytes};
 ghost use Rattle.simh.specs.Tape.{word, spanOf, isWhole, ledBy, shape};
+use base::wide;
 use image::MOST_BYTES;
 use image::Shape;
-use image::wide;
 
 // The length word that ends the medium.
 pub(crate) const END_WORD: usize = 4294967295;

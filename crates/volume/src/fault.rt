@@ -60,7 +60,7 @@ fn says(n: u64, x: Number) -> bool
 }
 
 // What a field says.
-pub(crate) fn value_of(x: Number) -> u32
+pub fn value_of(x: Number) -> u32
     ensures { λ r. ⌜ r ≡ valueOf x ⌝ }
 {
     match x {

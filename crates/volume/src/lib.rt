@@ -7,6 +7,8 @@ mod fault; // fault.rt: the fault of an item against what was read before it
 mod frame; // frame.rt: the framing from a wrong item on
 mod walk; // walk.rt: the items of an image, one after the other
 
+pub use fault::value_of;
+pub use walk::kind_in;
 ghost use mathlib.Core.Path.{_≡_};
 ghost use Rattle.volume.specs.Run.{imageVerdict};
 use base::Verdict;

@@ -144,7 +144,7 @@ fn end_turn(image: &[u8], x: Spot) -> Turn
 }
 
 // What a block is in that phase: data where data is due, else a label.
-fn kind_in(phase: Phase, l: &[u8]) -> Kind
+pub fn kind_in(phase: Phase, l: &[u8]) -> Kind
     ensures { λ r. ⌜ r ≡ kindIn phase (block (now (l .entry))) ⌝ }
 {
     let k = Kind {
