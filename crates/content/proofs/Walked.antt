@@ -33,11 +33,12 @@ use Rattle.block.specs.Turn.{blockOutcome}
 use Rattle.block.specs.declared.Held.{Held}
 use Rattle.volume.specs.State.{State, start}
 use Rattle.volume.specs.Fault.{valueOf, secondHeaderFault, outcomeIn, blockFault, contextFault, itemFault}
-use Rattle.volume.specs.Step.{Event, begins, holds, kindIn, bytesIn, segmentsOf, segmentsIn, goesOnAfter, firstAfter, secondAfter, pendingAfter, stateAfter, eventsOf}
-use Rattle.volume.specs.Run.{Run, ended, stopped, further, next, runs, imageVerdict}
+use Rattle.volume.specs.Step.{Event, begins, continues, holds, kindIn, bytesIn, segmentsOf, segmentsIn, goesOnAfter, firstAfter, secondAfter, pendingAfter, stateAfter, eventsOf}
+use Rattle.volume.specs.Run.{runs, imageVerdict}
 use Rattle.volume.specs.Meaning.{File, joined, collect, setFrom, fieldsFrom, meaningOf, handedOut, content}
-use Rattle.volume.specs.Accepted.{Faultless, All, MayEnd, behind}
-use Rattle.volume.proofs.Accepted.{Ends, faultless-runs, all-ends, accepted-iff}
+use Rattle.volume.specs.Accepted.{All, MayEnd, behind}
+use Rattle.volume.proofs.Accepted.{accepted-iff}
+use Rattle.volume.proofs.Events.{handed-more, handed-none}
 use Rattle.order.proofs.Moves.{Stage, stage, before, within, fileOver, reelOver, Numbered, Quiet, Move, stays, nextReel, header1, nextFile as newFile, header2, datum, eof1, eov1, finish, due-goes}
 use Rattle.reading.proofs.Stages.{View, view, Holds, isOpen, second-same, end-idle}
 use Rattle.reading.proofs.Steps.{view-quiet, events-quiet, label-none, context-none}
@@ -161,13 +162,15 @@ same-lengths second l h =
     λ i. record { format = sym (c .0) i; size = valueOf (sym (c .1) i); offset = valueOf (sym (c .2) i); at = 0; left = 0 }
 
 -- HDR2 of a file that goes on
-told-again : (s : List ℕ) (p r : Phase) (at : ℕ) (x : Item) (xs : List Item) (first : ℕ) (second : List ℕ) (q : ℕ) (es : List Event) → kindIn p x ≡ hdr 2
+told-again : (s : List ℕ) (p r : Phase) (at : ℕ) (x : Item) (xs : List Item) (first : ℕ) (label second : List ℕ) (q : ℕ) (es : List Event) → kindIn p x ≡ hdr 2
     → dueAfter p (hdr 2) ≡ To r → secondHeaderFault true second (bytesIn x) .number ≡ 0
-    → Told s true r (placeBehind at x) xs first true (walkFrom (bytesIn x) 0) q es → Told s true p at (x ∷ xs) first true (walkFrom second 0) q es
-unfolding isKind beginsFile goesOnBehind firstBehind ifB
-told-again s p r at x xs first second q es e d f h =
-    told-on s true p r at x xs (hdr 2) first true true (walkFrom second 0) q es e d refl refl refl refl
-    (subst (λ (w : Walk). Told s true r (placeBehind at x) xs first true w q es) (same-lengths second (bytesIn x) f) h)
+    → Told s true r (placeBehind at x) xs first true (walkFrom (bytesIn x) 0) q es
+    → Told s true p at (x ∷ xs) first true (walkFrom second 0) q (continues label (bytesIn x) ∷ es)
+unfolding collect setFrom isKind beginsFile goesOnBehind firstBehind ifB
+told-again s p r at x xs first label second q es e d f h =
+    let told = told-on s true p r at x xs (hdr 2) first true true (walkFrom second 0) q es e d refl refl refl refl
+    (subst (λ (w : Walk). Told s true r (placeBehind at x) xs first true w q es) (same-lengths second (bytesIn x) f) h) in
+    record { owed = told .owed; none = told .none; comes = told .comes }
 
 -- among the labels before the data of an open file, the next data block and the next file are those behind their mark
 record Marked (s : List ℕ) (r : Phase) (at : ℕ) (xs : List Item) (m : ℕ) : Type 0 where
@@ -279,7 +282,7 @@ told-block : (s : List ℕ) (p r : Phase) (at : ℕ) (x : Item) (xs : List Item)
     → kindIn p x ≡ dataBlock → dueAfter p dataBlock ≡ To r → (valueOf (recordLengthOf second) ≡ 0 → ⊥) → outcomeIn second q (bytesIn x) .number ≡ 0
     → Told s true r (placeBehind at x) xs first g (walkFrom second 0) (outcomeIn second q (bytesIn x) .pending) es
     → Told s true p at (x ∷ xs) first g (walkFrom second 0) q
-    (holds (segmentsOf (units (formatOf second) (valueOf (blockLengthOf second)) (valueOf (recordLengthOf second)) (valueOf (offsetOf second)) (bytesIn x))) ∷ es)
+    (holds (bytesIn x) (segmentsOf (units (formatOf second) (valueOf (blockLengthOf second)) (valueOf (recordLengthOf second)) (valueOf (offsetOf second)) (bytesIn x))) ∷ es)
 unfolding collect setFrom outcomeIn isKind beginsFile goesOnBehind firstBehind ifB placeBehind
 told-block s p r at x xs first g second q es c e d some' f h = record {
   owed = λ on.
@@ -358,9 +361,9 @@ second-step : (s : List ℕ) (g : Bool) (p r : Phase) (at : ℕ) (x : Item) (xs 
     → kindIn p x ≡ hdr 2 → dueAfter p (hdr 2) ≡ To r → (g ≡ false → q ≡ 0) → labelFault (hdr 2) (bytesIn x) .number ≡ 0
     → secondHeaderFault g second (bytesIn x) .number ≡ 0 → part first 80 s ≡ label → length label ≡ 80 → Body s r (placeBehind at x) xs
     → Told s true r (placeBehind at x) xs first g (walkFrom (bytesIn x) 0) q es
-    → Told s g p at (x ∷ xs) first g (walkFrom second 0) q (ifB g [] (begins label (bytesIn x) ∷ []) ++ es)
+    → Told s g p at (x ∷ xs) first g (walkFrom second 0) q (ifB g (continues label (bytesIn x)) (begins label (bytesIn x)) ∷ es)
 unfolding ifB
-second-step s true p r at x xs first label second q es i e d idle f c here long body h = told-again s p r at x xs first second q es e d c h
+second-step s true p r at x xs first label second q es i e d idle f c here long body h = told-again s p r at x xs first label second q es e d c h
 second-step s false p r at x xs first label second q es i e d idle f c here long body h =
     told-new s p r at x xs first label (walkFrom second 0) q es i e d (idle refl) f here long body h
 
@@ -444,21 +447,6 @@ body s (block l ∷ xs) p at (q, c, d, o) e fits h num =
     }
 
 -- ---- a whole reading
-
-handed-further : (es : List Event) (r : Run) → Ends r → handedOut (further es r) ≡ es ++ handedOut r
-unfolding Ends further handedOut
-handed-further es (ended fs) h = refl
-handed-further es (stopped k i b) h = absurd h
-
-handed-more : (t : State) (x : Item) (xs : List Item) (q : Phase) → Faultless t x q → All MayEnd (behind t x q) xs
-    → handedOut (runs t (x ∷ xs)) ≡ eventsOf t (kindIn (t .phase) x) (bytesIn x) ++ handedOut (runs (behind t x q) xs)
-handed-more t x xs q f all =
-    ap handedOut (faultless-runs t x xs q f)
-    ∙ handed-further (eventsOf t (kindIn (t .phase) x) (bytesIn x)) (runs (behind t x q) xs) (all-ends (behind t x q) xs all)
-
-handed-none : (t : State) → MayEnd t → handedOut (runs t []) ≡ []
-unfolding runs handedOut
-handed-none t h = ap handedOut (if-true _ _ _ h)
 
 -- where the image may end nothing more is handed out
 told-none : (s : List ℕ) (t : State) (at first : ℕ) → Kept t → MayEnd t → Tells s (stage (t .phase)) (t .phase) at [] first (t .goesOn) (t .second) (t .pending) []

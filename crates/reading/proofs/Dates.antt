@@ -1,8 +1,8 @@
 -- Dates are compared between a trailer and its header alone, and those of later sections are no part of the meaning: two accepted sets which are the same
--- without them hand out the same. Assumes nothing.
+-- without them have one meaning. Assumes nothing.
 use mathlib.Core.Path.{_≡_, refl, sym, ap, ap₂, _∙_, subst}
 use mathlib.Core.Bool.{Bool, true, false, false≢true, _&&_}
-use mathlib.Core.List.{List, [], _∷_}
+use mathlib.Core.List.{List, [], _∷_, _++_}
 use Prim.Native.Nat.{ℕ, suc, _+_, _-_, _≤_}
 use native.Mathlib.Omega.{arith}
 use borrow.Author.Tests.{eqb-true, leb-true}
@@ -27,12 +27,13 @@ use Rattle.label.specs.Name.{named as namedKind, kindOf}
 use Rattle.label.specs.Table.{equal, sectionFirst, trailerFirst}
 use Rattle.volume.specs.State.{State, start}
 use Rattle.volume.specs.Fault.{crossed, newFilePlace, laterPlace, fileFault, firstHeaderFault, firstTrailerFault}
-use Rattle.volume.specs.Step.{Event, begins, holds, Next, kindIn, bytesIn, isDue, stateAfter, namesAfter, filesAfter, goesOnAfter, firstAfter, secondAfter, countAfter, pendingAfter, segmentsIn, eventsOf}
-use Rattle.volume.specs.Run.{Run, further, runs, imageVerdict}
-use Rattle.volume.specs.Meaning.{meaningOf, handedOut, content}
+use Rattle.volume.specs.Step.{Event, begins, continues, holds, Next, kindIn, bytesIn, isDue, stateAfter, namesAfter, filesAfter, goesOnAfter, firstAfter, secondAfter, countAfter, pendingAfter, segmentsIn, eventsOf}
+use Rattle.volume.specs.Run.{runs, imageVerdict}
+use Rattle.volume.specs.Meaning.{Collected, meaningOf, handedOut, content}
 use Rattle.volume.specs.Accepted.{Faultless, All, MayEnd, behind}
 use Rattle.volume.specs.Dates.{isDated, undated, undatedIn, undatedBehind, undatedFrom, SameDates}
-use Rattle.volume.proofs.Accepted.{faultless-go, faultless-runs, accepted-iff}
+use Rattle.volume.proofs.Accepted.{faultless-go, accepted-iff}
+use Rattle.volume.proofs.Events.{handed-more, OneMeaning, meaning-behind, meaning-continued}
 use Rattle.reading.proofs.Entries.{Rows, bad-rows, byte-part}
 use Rattle.reading.proofs.Stages.{crossed-none, lower-first}
 use Rattle.reading.proofs.Steps.{events-quiet}
@@ -218,9 +219,13 @@ withFirst s f =
 abbrev Begun : Stage → Bool → List ℕ → List ℕ → Type 0
 Begun a g f h = a ≡ named → g ≡ false → f ≡ h
 
--- an item of kind k, with bytes l for the one and m for the other, leaves it so, and both hand out the same
+-- what has one meaning has it with these events before it too
+abbrev OneBehind : List Event → List Event → Type 0
+OneBehind gs hs = (es fs : List Event) → OneMeaning es fs → OneMeaning (gs ++ es) (hs ++ fs)
+
+-- an item of kind k, with bytes l for the one and m for the other, leaves it so, and the meaning of both is one
 record Alike (s : State) (f : List ℕ) (p : Phase) (k : Kind) (b : Stage) (l m : List ℕ) : Type 0 where
-  pub events : eventsOf s k l ≡ eventsOf (withFirst s f) k m
+  pub events : OneBehind (eventsOf s k l) (eventsOf (withFirst s f) k m)
   pub state : stateAfter (withFirst s f) p k m ≡ withFirst (stateAfter s p k l) (firstAfter (withFirst s f) k m)
   pub begun : Begun b (goesOnAfter s k) (firstAfter s k l) (firstAfter (withFirst s f) k m)
 
@@ -244,43 +249,54 @@ same-state : (s : State) (f : List ℕ) (p : Phase) (k : Kind) (l m : List ℕ) 
 unfolding stateAfter namesAfter filesAfter goesOnAfter secondAfter countAfter pendingAfter
 same-state s f p k l m e = ap (λ (x : List ℕ). withFirst (stateAfter s p k x) (firstAfter (withFirst s f) k m)) (sym e)
 
-begins-same : (g : Bool) (f h l m : List ℕ) → (g ≡ false → f ≡ h) → l ≡ m → ifB g [] (begins f l ∷ []) ≡ ifB g [] (begins h m ∷ [])
+-- nothing is handed out by either
+none-behind : (gs hs : List Event) → gs ≡ [] → hs ≡ [] → OneBehind gs hs
+none-behind gs hs p q es fs h =
+    subst (λ (xs : List Event). OneMeaning (xs ++ es) (hs ++ fs)) (sym p) (subst (λ (xs : List Event). OneMeaning es (xs ++ fs)) (sym q) h)
+
+-- one event is handed out by both
+one-behind : (x y : Event) → x ≡ y → OneBehind (x ∷ []) (y ∷ [])
+one-behind x y e es fs h = subst (λ (z : Event). OneMeaning (x ∷ es) (z ∷ fs)) e (meaning-behind x es fs h)
+
+-- a section: a file begins with the same HDR1, or goes on, with any
+section-behind : (g : Bool) (f h l m : List ℕ) → (g ≡ false → f ≡ h) → l ≡ m
+    → OneBehind (ifB g (continues f l) (begins f l) ∷ []) (ifB g (continues h m) (begins h m) ∷ [])
 unfolding ifB
-begins-same true f h l m e q = refl
-begins-same false f h l m e q = ap (λ (x : List ℕ). begins x l ∷ []) (e refl) ∙ ap (λ (x : List ℕ). begins h x ∷ []) q
+section-behind true f h l m e q = meaning-continued f l h m
+section-behind false f h l m e q = one-behind _ _ (ap₂ begins (e refl) q)
 
 alike : (s : State) (f : List ℕ) (p : Phase) (l m : List ℕ) {k : Kind} {a b : Stage} → Move k a b → Begun a (s .goesOn) (s .first) f
     → (s .goesOn ≡ false → l ≡ m) → (isDated k ≡ false → l ≡ m) → Alike s f p k b l m
 unfolding stateAfter namesAfter filesAfter goesOnAfter firstAfter secondAfter countAfter pendingAfter segmentsIn eventsOf isDated isKind ifB
 alike s f p l m {k} (stays {a = a} c) h new e =
     record {
-      events = events-quiet s k l c ∙ sym (events-quiet (withFirst s f) k m c);
+      events = none-behind _ _ (events-quiet s k l c) (events-quiet (withFirst s f) k m c);
       state = same-state s f p k l m (e (quiet-undated k c));
       begun = λ n g. if-false _ _ _ (c .first) ∙ h n (sym (if-false _ _ _ (c .reelEnd) ∙ if-false _ _ _ (c .fileEnd)) ∙ g) ∙ sym (if-false _ _ _ (c .first));
     }
 alike s f p l m {k} (nextReel c) h new e =
     record {
-      events = events-quiet s k l c ∙ sym (events-quiet (withFirst s f) k m c);
+      events = none-behind _ _ (events-quiet s k l c) (events-quiet (withFirst s f) k m c);
       state = same-state s f p k l m (e (quiet-undated k c));
       begun = λ n. absurd (not-named before refl n);
     }
-alike s f p l m header1 h new e = record { events = refl; state = refl; begun = λ _ g. new g }
-alike s f p l m nextFile h new e = record { events = refl; state = refl; begun = λ _ g. new g }
+alike s f p l m header1 h new e = record { events = λ es fs h. h; state = refl; begun = λ _ g. new g }
+alike s f p l m nextFile h new e = record { events = λ es fs h. h; state = refl; begun = λ _ g. new g }
 alike s f p l m header2 h new e =
     record {
-      events = begins-same (s .goesOn) (s .first) f l m (h refl) (e refl);
+      events = section-behind (s .goesOn) (s .first) f l m (h refl) (e refl);
       state = same-state s f p (hdr 2) l m (e refl);
       begun = λ n. absurd (not-named within refl n);
     }
 alike s f p l m datum h new e =
     record {
-      events = ap (λ (x : List ℕ). holds (segmentsIn s x) ∷ []) (e refl);
+      events = one-behind _ _ (ap (λ (x : List ℕ). holds x (segmentsIn s x)) (e refl));
       state = same-state s f p dataBlock l m (e refl);
       begun = λ n. absurd (not-named within refl n);
     }
-alike s f p l m eof1 h new e = record { events = refl; state = refl; begun = λ n. absurd (not-named fileOver refl n) }
-alike s f p l m eov1 h new e = record { events = refl; state = refl; begun = λ n. absurd (not-named reelOver refl n) }
-alike s f p l m finish h new e = record { events = refl; state = refl; begun = λ n. absurd (not-named fileOver refl n) }
+alike s f p l m eof1 h new e = record { events = λ es fs h. h; state = refl; begun = λ n. absurd (not-named fileOver refl n) }
+alike s f p l m eov1 h new e = record { events = λ es fs h. h; state = refl; begun = λ n. absurd (not-named reelOver refl n) }
+alike s f p l m finish h new e = record { events = λ es fs h. h; state = refl; begun = λ n. absurd (not-named fileOver refl n) }
 
 -- ---- whole readings
 
@@ -304,9 +320,10 @@ undated-go s x xs p h =
     ap (λ (r : Next). undatedIn (s .goesOn) (s .phase) x ∷ undatedBehind r (λ t. undatedFrom t xs)) (faultless-go s x p h)
 
 same-runs : (xs ys : List Item) (s : State) (f : List ℕ) → Numbered (s .phase) → Begun (stage (s .phase)) (s .goesOn) (s .first) f
-    → undatedFrom s xs ≡ undatedFrom (withFirst s f) ys → All MayEnd s xs → All MayEnd (withFirst s f) ys → runs s xs ≡ runs (withFirst s f) ys
+    → undatedFrom s xs ≡ undatedFrom (withFirst s f) ys → All MayEnd s xs → All MayEnd (withFirst s f) ys
+    → OneMeaning (handedOut (runs s xs)) (handedOut (runs (withFirst s f) ys))
 unfolding undatedFrom runs stateAfter
-same-runs [] [] s f n b e u v = refl
+same-runs [] [] s f n b e u v = record { collected = refl; set = refl }
 same-runs [] (y ∷ ys) s f n b e u v = absurd (some-items _ _ e)
 same-runs (x ∷ xs) [] s f n b e u v = absurd (some-items _ _ (sym e))
 same-runs (x ∷ xs) (y ∷ ys) s f n b e (p, u, us) (q, v, vs) =
@@ -323,14 +340,14 @@ same-runs (x ∷ xs) (y ∷ ys) s f n b e (p, u, us) (q, v, vs) =
     (λ d. same-bytes (s .goesOn) (s .phase) x y item (and-right (s .goesOn) (isDated k) d)) in
     let m : List ℕ = bytesIn y in
     let state : behind t y q ≡ withFirst (behind s x p) (firstAfter t k m) = sym (ap₂ (λ (r : Phase) (j : Kind). stateAfter t r j m) phase kind) ∙ a .state in
-    let events : eventsOf s k (bytesIn x) ≡ eventsOf t (kindIn (s .phase) y) m = a .events ∙ ap (λ (j : Kind). eventsOf t j m) kind in
-    let rest : runs (behind s x p) xs ≡ runs (withFirst (behind s x p) (firstAfter t k m)) ys
+    let rest : OneMeaning (handedOut (runs (behind s x p) xs)) (handedOut (runs (withFirst (behind s x p) (firstAfter t k m)) ys))
     = same-runs xs ys (behind s x p) (firstAfter t k m) (moved .numbered) (a .begun)
     (rest-items _ _ _ _ both ∙ ap (λ (r : State). undatedFrom r ys) state) us (subst (λ (r : State). All MayEnd r ys) state vs) in
-    faultless-runs s x xs p u
-    ∙ ap (further (eventsOf s k (bytesIn x))) (rest ∙ ap (λ (r : State). runs r ys) (sym state))
-    ∙ ap (λ (es : List Event). further es (runs (behind t y q) ys)) events
-    ∙ sym (faultless-runs t y ys q v)
+    let here : OneMeaning (eventsOf s k (bytesIn x) ++ handedOut (runs (behind s x p) xs)) (eventsOf t k m ++ handedOut (runs (behind t y q) ys))
+    = a .events _ _ (subst (λ (r : State). OneMeaning (handedOut (runs (behind s x p) xs)) (handedOut (runs r ys))) (sym state) rest) in
+    subst (λ (es : List Event). OneMeaning es (handedOut (runs t (y ∷ ys)))) (sym (handed-more s x xs p u us))
+    (subst (OneMeaning (eventsOf s k (bytesIn x) ++ handedOut (runs (behind s x p) xs)))
+    (ap (λ (j : Kind). eventsOf t j m ++ handedOut (runs (behind t y q) ys)) kind ∙ sym (handed-more t y ys q v vs)) here)
   where
     t : State
     t = withFirst s f
@@ -340,7 +357,8 @@ same-runs (x ∷ xs) (y ∷ ys) s f n b e (p, u, us) (q, v, vs) =
 -- two accepted sets that are the same without the dates of their later sections have one meaning
 pub later-dates : (a b : List ℕ) → imageVerdict a .number ≡ 0 → imageVerdict b .number ≡ 0 → undatedFrom start (items a) ≡ undatedFrom start (items b)
     → content a ≡ content b
-unfolding content start
+unfolding content meaningOf start
 later-dates a b h k e =
-    ap (λ (r : Run). meaningOf (handedOut r))
-    (same-runs (items a) (items b) start [] tt (λ n. absurd (not-named before refl n)) e (accepted-iff a .0 h .followed) (accepted-iff b .0 k .followed))
+    let one : OneMeaning (handedOut (runs start (items a))) (handedOut (runs start (items b)))
+    = same-runs (items a) (items b) start [] tt (λ n. absurd (not-named before refl n)) e (accepted-iff a .0 h .followed) (accepted-iff b .0 k .followed) in
+    ap₂ (λ (set : List ℕ) (c : Collected). record { set = set; files = c .files }) (one .set) (one .collected)

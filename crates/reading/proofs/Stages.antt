@@ -2,7 +2,7 @@
 -- An invariant goes forwards over the items, a promise backwards over the events. Assumes nothing.
 use mathlib.Core.Path.{_≡_, refl, sym, ap, ap₂, _∙_, subst}
 use mathlib.Core.Bool.{Bool, true, false, false≢true}
-use mathlib.Core.List.{List, [], _∷_, _++_}
+use mathlib.Core.List.{List, [], _∷_}
 use Prim.Native.Nat.{ℕ, _+_, _≤_, _<_}
 use native.Mathlib.Omega.{arith}
 use borrow.Author.Tests.{ne-eqb, eqb-true, eqb-false, leb-false}
@@ -24,7 +24,7 @@ use Rattle.block.specs.Cut.{Segment, units}
 use Rattle.block.specs.Turn.{blockOutcome}
 use Rattle.volume.specs.State.{State}
 use Rattle.volume.specs.Fault.{valueOf, says, lower, crossed, newFilePlace, laterPlace, fileFault, firstHeaderFault, secondHeaderFault, firstTrailerFault, openFault, fileEndFault, outcomeIn}
-use Rattle.volume.specs.Step.{Event, begins, holds, segmentsOf}
+use Rattle.volume.specs.Step.{Event, begins, continues, holds, segmentsOf}
 use Rattle.volume.specs.Meaning.{File, joined, collect, setFrom, fieldsFrom}
 use Rattle.reading.specs.Legal.{formatFrom, recordLengthFrom, legalEntry, legalRecords, legalFile, legalFiles}
 use Rattle.reading.proofs.Assembled.{Owed, units-fair, block-owed}
@@ -216,7 +216,8 @@ second-holds n g f s q l h =
     }
 
 again-promise : (n : ℕ) (f s : List ℕ) (q : ℕ) (l : List ℕ) (es : List Event) → secondHeaderFault true s l .number ≡ 0
-    → Promise true (viewOf n true f l q) es → Promise true (viewOf n true f s q) es
+    → Promise true (viewOf n true f l q) es → Promise true (viewOf n true f s q) (continues f l ∷ es)
+unfolding collect setFrom
 again-promise n f s q l es e h =
     record {
       some = h .some;
@@ -268,7 +269,7 @@ begun-promise n f s q l es start long sound h =
 
 pub second-promise : (g : Bool) (n : ℕ) (f s : List ℕ) (q : ℕ) (l : List ℕ) (es : List Event) → Named (viewOf n g f s q) → length l ≡ 80
     → labelFault (hdr 2) l .number ≡ 0 → secondHeaderFault g s l .number ≡ 0
-    → Promise true (viewOf (ifB g n (n + 1)) g f l q) es → Promise g (viewOf n g f s q) (ifB g [] (begins f l ∷ []) ++ es)
+    → Promise true (viewOf (ifB g n (n + 1)) g f l q) es → Promise g (viewOf n g f s q) (ifB g (continues f l) (begins f l) ∷ es)
 unfolding ifB
 second-promise true n f s q l es start long sound e h = again-promise n f s q l es e h
 second-promise false n f s q l es start long sound e h = begun-promise n f s q l es start long sound h
@@ -276,7 +277,7 @@ second-promise false n f s q l es start long sound e h = begun-promise n f s q l
 -- a data block
 pub block-promise : (n : ℕ) (g : Bool) (f s : List ℕ) (q : ℕ) (l : List ℕ) (es : List Event) → outcomeIn s q l .number ≡ 0
     → Promise true (viewOf n g f s (outcomeIn s q l .pending)) es
-    → Promise true (viewOf n g f s q) (holds (segmentsOf (units (formatOf s) (valueOf (blockLengthOf s)) (valueOf (recordLengthOf s)) (valueOf (offsetOf s)) l)) ∷ es)
+    → Promise true (viewOf n g f s q) (holds l (segmentsOf (units (formatOf s) (valueOf (blockLengthOf s)) (valueOf (recordLengthOf s)) (valueOf (offsetOf s)) l)) ∷ es)
 unfolding collect setFrom outcomeIn blockOutcome
 block-promise n g f s q l es e h =
     record {

@@ -1,5 +1,6 @@
 pub mod Runs
 pub mod Accepted
+pub mod Events
 pub mod Refusals
 pub mod Bodies
 pub mod Afters

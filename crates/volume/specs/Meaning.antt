@@ -10,7 +10,7 @@ use Rattle.label.specs.Field.{setOf}
 use Rattle.block.specs.Cut.{Segment}
 use Rattle.image.specs.Framing.{items}
 use Rattle.volume.specs.State.{start}
-use Rattle.volume.specs.Step.{Event, begins, holds}
+use Rattle.volume.specs.Step.{Event, begins, continues, holds}
 use Rattle.volume.specs.Run.{Run, ended, stopped, runs}
 use Rattle.volume.specs.Accepted.{Accepted}
 
@@ -51,13 +51,15 @@ unfoldable pub collect : List Event → Collected
 collect [] = record { segments = []; files = [] }
 collect (begins f s ∷ es) =
     record { segments = []; files = record { fields = fieldsFrom f s; records = joined (collect es .segments) } ∷ collect es .files }
-collect (holds xs ∷ es) = record { segments = xs ++ collect es .segments; files = collect es .files }
+collect (continues f s ∷ es) = collect es
+collect (holds l xs ∷ es) = record { segments = xs ++ collect es .segments; files = collect es .files }
 
 -- the set identifier: that of the first file
 unfoldable pub setFrom : List Event → List ℕ
 setFrom [] = []
 setFrom (begins f s ∷ es) = setOf f
-setFrom (holds xs ∷ es) = setFrom es
+setFrom (continues f s ∷ es) = setFrom es
+setFrom (holds l xs ∷ es) = setFrom es
 
 unfoldable pub meaningOf : List Event → Meaning
 meaningOf es = record { set = setFrom es; files = collect es .files }

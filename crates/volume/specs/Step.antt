@@ -21,10 +21,12 @@ use Rattle.block.specs.declared.Outcome.{Outcome}
 use Rattle.volume.specs.State.{State}
 use Rattle.volume.specs.Fault.{itemFault, outcomeIn, valueOf}
 
--- what reading hands out: a file begins, with its first HDR1 and HDR2; a block of it holds segments
+-- what reading hands out: a file begins, with its first HDR1 and HDR2; a later section of it begins, with its own HDR1 and HDR2; a data block of it,
+-- with its bytes as they stand on the reel and its segments
 pub data Event : Type 0 where
   begins : List ℕ → List ℕ → Event
-  holds : List Segment → Event
+  continues : List ℕ → List ℕ → Event
+  holds : List ℕ → List Segment → Event
 
 -- ---- what an item is
 
@@ -92,9 +94,11 @@ unfoldable pub segmentsIn : State → List ℕ → List Segment
 segmentsIn s l =
     segmentsOf (units (formatOf (s .second)) (valueOf (blockLengthOf (s .second))) (valueOf (recordLengthOf (s .second))) (valueOf (offsetOf (s .second))) l)
 
+-- a data block; at HDR2 a section, which begins a file or goes on with one
 unfoldable pub eventsOf : State → Kind → List ℕ → List Event
 eventsOf s k l =
-    ifB (isKind k dataBlock) (holds (segmentsIn s l) ∷ []) (ifB (isKind k (hdr 2)) (ifB (s .goesOn) [] (begins (s .first) l ∷ [])) [])
+    ifB (isKind k dataBlock) (holds l (segmentsIn s l) ∷ [])
+    (ifB (isKind k (hdr 2)) (ifB (s .goesOn) (continues (s .first) l) (begins (s .first) l) ∷ []) [])
 
 -- ---- the step
 

@@ -32,7 +32,7 @@ use Rattle.block.specs.Turn.{outcome, turned, blockOutcome}
 use Rattle.block.specs.declared.Outcome.{Outcome}
 use Rattle.volume.specs.State.{State}
 use Rattle.volume.specs.Fault.{says, valueOf, lower, crossed, isAmong, volumeFault, newFilePlace, laterPlace, fileFault, firstHeaderFault, secondHeaderFault, firstTrailerFault, openFault, fileEndFault, secondTrailerFault, outcomeIn, blockFault, contextFault, itemFault}
-use Rattle.volume.specs.Step.{begins, holds, isDue, kindIn, bytesIn, namesAfter, filesAfter, goesOnAfter, firstAfter, secondAfter, countAfter, pendingAfter, stateAfter, segmentsOf, segmentsIn, eventsOf, go, judged, ordered, step}
+use Rattle.volume.specs.Step.{begins, continues, holds, isDue, kindIn, bytesIn, namesAfter, filesAfter, goesOnAfter, firstAfter, secondAfter, countAfter, pendingAfter, stateAfter, segmentsOf, segmentsIn, eventsOf, go, judged, ordered, step}
 use Rattle.reading.specs.Legal.{formatFrom, blockLengthFrom, recordLengthFrom}
 use Rattle.writing.proofs.Packed.{Block}
 use Rattle.writing.proofs.Labels.{GoodFirst, GoodSecond, header-sound, header-kind, volume-end-sound, volume-end-kind, file-end-sound, file-end-kind, section-back, sequence-back, count-back, set-back, trailer-agrees, section-agrees, second-agrees, second-section-agrees, format-back, block-back, record-back, offset-back, second-header-sound, second-header-kind, second-volume-end-sound, second-volume-end-kind, second-file-end-sound, second-file-end-kind, volume-back, volume-kind}
@@ -152,7 +152,7 @@ act-second names files f s c o e g =
 
 pub act-second-later : (names : List (List ℕ)) (files : ℕ) (f : List ℕ) (c o : ℕ) (e : List ℕ) → GoodSecond e
     → step (at FirstHeader names files true f (madeSecond HDR2 e) c o) (block (madeSecond HDR2 e))
-    ≡ go (at (Header 2) names files true f (madeSecond HDR2 e) c o) []
+    ≡ go (at (Header 2) names files true f (madeSecond HDR2 e) c o) (continues f (madeSecond HDR2 e) ∷ [])
 unfolding dueAfter dues choose isDue contextFault secondHeaderFault isKind ifB stateAfter namesAfter filesAfter goesOnAfter firstAfter secondAfter countAfter pendingAfter eventsOf
 act-second-later names files f c o e g =
     labelled (at FirstHeader names files true f (madeSecond HDR2 e) c o) (madeSecond HDR2 e) (hdr 2) (Header 2) refl (second-header-kind e) refl
@@ -223,11 +223,11 @@ data-block s b h z =
 
 pub act-block : (names : List (List ℕ)) (files : ℕ) (on : Bool) (f e b : List ℕ) (c o p : ℕ) (g : List Segment) → GoodSecond e
     → Block (formatFrom e) (blockLengthFrom e) (recordLengthFrom e) o p b g
-    → step (at Data names files on f (madeSecond HDR2 e) c o) (block b) ≡ go (at Data names files on f (madeSecond HDR2 e) (suc c) p) (holds g ∷ [])
+    → step (at Data names files on f (madeSecond HDR2 e) c o) (block b) ≡ go (at Data names files on f (madeSecond HDR2 e) (suc c) p) (holds b g ∷ [])
 unfolding outcome isKind ifB stateAfter namesAfter filesAfter goesOnAfter firstAfter secondAfter countAfter pendingAfter eventsOf
 act-block names files on f e b c o p g s h =
     let out : outcomeIn (madeSecond HDR2 e) o b ≡ outcome 0 p = block-outcome e b o p g s h in
     data-block (at Data names files on f (madeSecond HDR2 e) c o) b refl (ap (λ (x : Outcome). x .number) out)
-    ∙ ap (λ (x : Outcome). go (at Data names files on f (madeSecond HDR2 e) (c + 1) (x .pending)) (holds (segmentsIn (at Data names files on f (madeSecond HDR2 e) c o) b) ∷ [])) out
-    ∙ ap (λ (x : List Segment). go (at Data names files on f (madeSecond HDR2 e) (c + 1) p) (holds x ∷ [])) (block-segments Data names files on f e b c o p g s h)
-    ∙ ap (λ (n : ℕ). go (at Data names files on f (madeSecond HDR2 e) n p) (holds g ∷ [])) (add-one c)
+    ∙ ap (λ (x : Outcome). go (at Data names files on f (madeSecond HDR2 e) (c + 1) (x .pending)) (holds b (segmentsIn (at Data names files on f (madeSecond HDR2 e) c o) b) ∷ [])) out
+    ∙ ap (λ (x : List Segment). go (at Data names files on f (madeSecond HDR2 e) (c + 1) p) (holds b x ∷ [])) (block-segments Data names files on f e b c o p g s h)
+    ∙ ap (λ (n : ℕ). go (at Data names files on f (madeSecond HDR2 e) n p) (holds b g ∷ [])) (add-one c)

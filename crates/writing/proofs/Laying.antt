@@ -1,8 +1,8 @@
 -- What the writer lays is read to its end: one law for each piece that is laid, one induction over the blocks of a file, one over the files.
 -- Assumes nothing.
-use mathlib.Core.Path.{_≡_, refl, sym, ap, _∙_, subst}
+use mathlib.Core.Path.{_≡_, refl, sym, ap, ap₂, _∙_, subst}
 use mathlib.Core.Bool.{Bool, true, false, false≢true}
-use mathlib.Core.List.{List, [], _∷_, _++_, map}
+use mathlib.Core.List.{List, [], _∷_, _++_, map, append-assoc, append-nil}
 use Prim.Native.Nat.{ℕ, zero, suc, _+_, _≤_, _<_, pred}
 use native.Mathlib.Omega.{arith}
 use borrow.Author.Tests.{ne-eqb, le-leb, eqb-true}
@@ -25,16 +25,16 @@ use Rattle.label.specs.Made.{madeVolume, madeFirst, madeSecond}
 use Rattle.block.specs.Cut.{Segment}
 use Rattle.volume.specs.State.{State}
 use Rattle.volume.specs.Fault.{isAmong}
-use Rattle.volume.specs.Step.{Event, begins, holds, isDue, Next, go, step}
+use Rattle.volume.specs.Step.{Event, begins, continues, holds, isDue, Next, go, step}
 use Rattle.volume.specs.Run.{ended, further, next, runs}
-use Rattle.volume.specs.Meaning.{File}
+use Rattle.volume.specs.Meaning.{File, joined, Collected, fieldsFrom, collect, setFrom}
 use Rattle.reading.specs.Legal.{formatFrom, blockLengthFrom, recordLengthFrom, isSound, legalName, freshNames, legalFile, legalFiles, legalEntry, legalRecords}
 use Rattle.writing.specs.Pack.{blocksOf}
 use Rattle.writing.specs.Lay.{Reel, Laid, laid, short, put, headers, fileEnd, volumeEnd, rest, layFiles}
 use Rattle.writing.proofs.Units.{both}
-use Rattle.writing.proofs.Packed.{Block, Blocks, held, file-blocks}
+use Rattle.writing.proofs.Packed.{Block, Blocks, held, flat, file-blocks, file-records}
 use Rattle.writing.proofs.Labels.{GoodFirst, GoodSecond, length-first, length-second, length-volume, set-back}
-use Rattle.writing.proofs.Entry.{legal-first, legal-second, suited}
+use Rattle.writing.proofs.Entry.{legal-first, legal-second, suited, entry-back}
 use Rattle.writing.proofs.Acts.{at, OneSet, act-mark, act-reel-end, act-volume, act-header, act-header-later, act-second, act-second-later, act-eof1, act-eov1, act-eof2, act-eov2, act-block}
 
 -- ---- read to the end
@@ -91,9 +91,9 @@ read-label s t r l xs fs es e h m d = read-block s t r l xs fs es e (label-item 
 
 -- ---- what is laid
 
--- whatever is laid from here is read to its end
-abbrev pub Ends : State → ℕ → Laid → List Event → Type 0
-Ends s r l es = (xs : List Item) → l ≡ laid xs → Read s r xs es
+-- whatever is laid from here is read to its end, and P holds of what it hands out
+abbrev pub Ends : State → ℕ → Laid → (List Event → Type 0) → Type 0
+Ends s r l P = (xs : List Item) → l ≡ laid xs → (es : List Event) × Read s r xs es × P es
 
 abbrev pub IsLaid : Laid → Type 0
 IsLaid (laid xs) = Unit {0}
@@ -103,12 +103,15 @@ abbrev pub itemsOf : Laid → List Item
 itemsOf (laid xs) = xs
 itemsOf short = []
 
--- a piece before the rest
-pub ends-put : (s t : State) (r q : ℕ) (ys : List Item) (l : Laid) (es fs : List Event) → ((zs : List Item) → Read t q zs fs → Read s r (ys ++ zs) es)
-    → Ends t q l fs → Ends s r (put ys l) es
+-- a piece before the rest, which hands out `more` of what the rest hands out
+pub ends-put : (s t : State) (r q : ℕ) (ys : List Item) (l : Laid) (P Q : List Event → Type 0) (more : List Event → List Event)
+    → ((zs : List Item) (es : List Event) → Read t q zs es → Read s r (ys ++ zs) (more es)) → ((es : List Event) → Q es → P (more es))
+    → Ends t q l Q → Ends s r (put ys l) P
 unfolding put
-ends-put s t r q ys (laid zs) es fs k h xs e = subst (λ (l : List Item). Read s r l es) (ap itemsOf e) (k zs (h zs refl))
-ends-put s t r q ys short es fs k h xs e = absurd (subst IsLaid (sym e) tt)
+ends-put s t r q ys (laid zs) P Q more k m h xs e =
+    let (es, d, z) = h zs refl in
+    (more es, subst (λ (l : List Item). Read s r l (more es)) (ap itemsOf e) (k zs es d), m es z)
+ends-put s t r q ys short P Q more k m h xs e = absurd (subst IsLaid (sym e) tt)
 
 -- the headers of a file's first section
 read-headers : (p : Phase) (names : List (List ℕ)) (files : ℕ) (f s : List ℕ) (c r : ℕ) (set e : List ℕ) (xs : List Item) (es : List Event)
@@ -143,22 +146,22 @@ read-change : (names : List (List ℕ)) (files : ℕ) (on : Bool) (set e : List 
     → length n ≡ 6 → labelFault (vol 1) (madeVolume n) .number ≡ 0 → isAmong n names ≡ false
     → Read (at Data (names ++ (n ∷ [])) files true (madeFirst HDR1 set e (suc a) q 0) (madeSecond HDR2 e) 0 o) (r + 1) xs es
     → Read (at Data names files on (madeFirst HDR1 set e a q 0) (madeSecond HDR2 e) c o) r
-    (volumeEnd set e a q c ++ (block (madeVolume n) ∷ headers set e (suc a) q) ++ xs) es
+    (volumeEnd set e a q c ++ (block (madeVolume n) ∷ headers set e (suc a) q) ++ xs) (continues (madeFirst HDR1 set e (suc a) q 0) (madeSecond HDR2 e) ∷ es)
 unfolding volumeEnd headers dueAfter dues choose upToNine isKind ifB
 read-change names files on set e a q c o r n xs es g k h b m w i v u z =
     let f : List ℕ = madeFirst HDR1 set e a q 0 in
     let t : List ℕ = madeFirst HDR1 set e (suc a) q 0 in
     let s : List ℕ = madeSecond HDR2 e in
     let here : r < 16 = omega arith in
-    read-mark _ _ r _ es (act-mark Data Trailer names files on f s c o refl) here
-    (read-label _ _ r _ _ [] es (act-eov1 names files on s set e a q c o g h) (length-first EOV1 set e a q c) here
-    (read-label _ _ r _ _ [] es (act-eov2 names files true f e c o k) (length-second EOV2 e) here
-    (read-mark _ _ r _ es (act-mark (Eov 2) VolumeEnd names files true f s c o refl) here
-    (read-mark _ _ r _ es (act-mark VolumeEnd ReelClosed names files true f s c o refl) here
-    (read-end _ _ r _ es (act-reel-end ReelClosed ReelDue names files true f s c o refl) here
-    (read-label _ _ (r + 1) _ _ [] es (act-volume names files true f s c o n i v w u) (length-volume n) m
-    (read-label _ _ (r + 1) _ _ [] es (act-header-later (names ++ (n ∷ [])) files s c o set e a q g b) (length-first HDR1 set e (suc a) q 0) m
-    (read-label _ _ (r + 1) _ _ [] es (act-second-later (names ++ (n ∷ [])) files t 0 o e k) (length-second HDR2 e) m
+    read-mark _ _ r _ _ (act-mark Data Trailer names files on f s c o refl) here
+    (read-label _ _ r _ _ [] _ (act-eov1 names files on s set e a q c o g h) (length-first EOV1 set e a q c) here
+    (read-label _ _ r _ _ [] _ (act-eov2 names files true f e c o k) (length-second EOV2 e) here
+    (read-mark _ _ r _ _ (act-mark (Eov 2) VolumeEnd names files true f s c o refl) here
+    (read-mark _ _ r _ _ (act-mark VolumeEnd ReelClosed names files true f s c o refl) here
+    (read-end _ _ r _ _ (act-reel-end ReelClosed ReelDue names files true f s c o refl) here
+    (read-label _ _ (r + 1) _ _ [] _ (act-volume names files true f s c o n i v w u) (length-volume n) m
+    (read-label _ _ (r + 1) _ _ [] _ (act-header-later (names ++ (n ∷ [])) files s c o set e a q g b) (length-first HDR1 set e (suc a) q 0) m
+    (read-label _ _ (r + 1) _ _ (continues t s ∷ []) es (act-second-later (names ++ (n ∷ [])) files t 0 o e k) (length-second HDR2 e) m
     (read-mark _ _ (r + 1) xs es (act-mark (Header 2) Data (names ++ (n ∷ [])) files true t s 0 o refl) m z)))))))))
 
 -- ---- the blocks of a file
@@ -200,11 +203,6 @@ usable-next {A} used t reels h k =
     (λ c d. if-case (λ (z : Bool). z ≡ true → A) (isAmong n used) false others (λ _ q. absurd (false≢true q))
     (λ u q. k (eqb-true _ _ c) (eqb-true _ _ d) u (h .rooms .0) (h .rooms .1) (record { few = omega arith; fresh = q; rooms = h .rooms .2 })) b) a) (h .fresh)
 
--- the events of some blocks before others
-unfoldable pub heldBy : List (List Segment) → List Event → List Event
-heldBy [] es = es
-heldBy (g ∷ gs) es = holds g ∷ heldBy gs es
-
 -- the change of reels with the block for which it is made
 read-change-block : (names : List (List ℕ)) (files : ℕ) (on : Bool) (set e : List ℕ) (a q c o p r : ℕ) (n b : List ℕ) (g : List Segment) (xs : List Item)
     (es : List Event) → GoodFirst set e → GoodSecond e → c < 1000000 → a < 9999 → r + 1 < 16 → length names < 16
@@ -212,32 +210,47 @@ read-change-block : (names : List (List ℕ)) (files : ℕ) (on : Bool) (set e :
     → Block (formatFrom e) (blockLengthFrom e) (recordLengthFrom e) o p b g
     → Read (at Data (names ++ (n ∷ [])) files true (madeFirst HDR1 set e (suc a) q 0) (madeSecond HDR2 e) 1 p) (r + 1) xs es
     → Read (at Data names files on (madeFirst HDR1 set e a q 0) (madeSecond HDR2 e) c o) r
-    (volumeEnd set e a q c ++ (block (madeVolume n) ∷ headers set e (suc a) q) ++ (block b ∷ []) ++ xs) (holds g ∷ es)
+    (volumeEnd set e a q c ++ (block (madeVolume n) ∷ headers set e (suc a) q) ++ (block b ∷ []) ++ xs)
+    (continues (madeFirst HDR1 set e (suc a) q 0) (madeSecond HDR2 e) ∷ holds b g ∷ es)
 unfolding volumeEnd headers
 read-change-block names files on set e a q c o p r n b g xs es f k h i m w l v u x z =
-    read-change names files on set e a q c o r n (block b ∷ xs) (holds g ∷ es) f k h i m w l v u
-    (read-block _ _ (r + 1) b xs (holds g ∷ []) es (act-block (names ++ (n ∷ [])) files true (madeFirst HDR1 set e (suc a) q 0) e b 0 o p g k x) (x .item) m z)
+    read-change names files on set e a q c o r n (block b ∷ xs) (holds b g ∷ es) f k h i m w l v u
+    (read-block _ _ (r + 1) b xs (holds b g ∷ []) es (act-block (names ++ (n ∷ [])) files true (madeFirst HDR1 set e (suc a) q 0) e b 0 o p g k x) (x .item) m z)
 
-module _ (set e : List ℕ) (q : ℕ) (later : ℕ → List Reel → Laid) (es : List Event) (g : GoodFirst set e) (k : GoodSecond e)
+-- what is handed out is folded to this
+abbrev Collects : Collected → List Event → Type 0
+Collects c es = collect es ≡ c
+
+-- blocks of these segments before the rest
+abbrev onto : List Segment → Collected → Collected
+onto g c = record { segments = g ++ c .segments; files = c .files }
+
+collects-block : (b : List ℕ) (g : List Segment) (gs : List (List Segment)) (c : Collected) (es : List Event)
+    → Collects (onto (flat gs) c) es → Collects (onto (flat (g ∷ gs)) c) (holds b g ∷ es)
+unfolding collect flat
+collects-block b g gs c es h =
+    ap (onto g) h ∙ ap (λ (l : List Segment). record { segments = l; files = c .files }) (sym (append-assoc g (flat gs) (c .segments)))
+
+module _ (set e : List ℕ) (q : ℕ) (later : ℕ → List Reel → Laid) (d : Collected) (g : GoodFirst set e) (k : GoodSecond e)
     (ends : (room r a c : ℕ) (used : List (List ℕ)) (left : List Reel) → Reels r used left → room ≤ 999999
-    → Ends (at FileEnd used q false (madeFirst HDR1 set e a q 0) (madeSecond HDR2 e) c 0) r (later room left) es) where
+    → Ends (at FileEnd used q false (madeFirst HDR1 set e a q 0) (madeSecond HDR2 e) c 0) r (later room left) (Collects d)) where
   -- whatever is laid behind the file, its blocks are read to its end
   rest-ends : (bs : List (List ℕ)) (gs : List (List Segment)) (a c room o r : ℕ) (on : Bool) (used : List (List ℕ)) (left : List Reel)
       → Blocks (formatFrom e) (blockLengthFrom e) (recordLengthFrom e) o bs gs → Reels r used left → a ≤ length used → c + room ≤ 999999
-      → Ends (at Data used q on (madeFirst HDR1 set e a q 0) (madeSecond HDR2 e) c o) r (rest set e q a c room left bs later) (heldBy gs es)
-  unfolding rest heldBy
+      → Ends (at Data used q on (madeFirst HDR1 set e a q 0) (madeSecond HDR2 e) c o) r (rest set e q a c room left bs later) (Collects (onto (flat gs) d))
+  unfolding rest flat collect
   rest-ends [] [] a c room o r on used left h reels m w =
       let here : r < 16 = reel-few r used left reels in
-      subst (λ (n : ℕ). Ends (at Data used q on (madeFirst HDR1 set e a q 0) (madeSecond HDR2 e) c n) r (put (fileEnd set e a q c) (later room left)) es) (sym h)
-      (ends-put _ _ r r (fileEnd set e a q c) (later room left) es es (λ zs d. read-file-end used q on set e a q c r zs es g k (omega arith) here d)
-      (ends room r a c used left reels (omega arith)))
+      subst (λ (n : ℕ). Ends (at Data used q on (madeFirst HDR1 set e a q 0) (madeSecond HDR2 e) c n) r (put (fileEnd set e a q c) (later room left)) (Collects d)) (sym h)
+      (ends-put _ _ r r (fileEnd set e a q c) (later room left) (Collects d) (Collects d) (λ es. es)
+      (λ zs es z. read-file-end used q on set e a q c r zs es g k (omega arith) here z) (λ es z. z) (ends room r a c used left reels (omega arith)))
   rest-ends [] (x ∷ gs) a c room o r on used left h reels m w = absurd h
   rest-ends (b ∷ bs) [] a c room o r on used left h reels m w = absurd h
   rest-ends (b ∷ bs) (x ∷ gs) a c (suc room) o r on used left (p, h, i) reels m w =
       let here : r < 16 = reel-few r used left reels in
-      ends-put _ _ r r (block b ∷ []) (rest set e q a (suc c) room left bs later) (holds x ∷ heldBy gs es) (heldBy gs es)
-      (λ zs d. read-block _ _ r b zs (holds x ∷ []) (heldBy gs es) (act-block used q on (madeFirst HDR1 set e a q 0) e b c o p x k h) (h .item) here d)
-      (rest-ends bs gs a (suc c) room p r on used left i reels m (omega arith))
+      ends-put _ _ r r (block b ∷ []) (rest set e q a (suc c) room left bs later) (Collects (onto (flat (x ∷ gs)) d)) (Collects (onto (flat gs) d)) (λ es. holds b x ∷ es)
+      (λ zs es z. read-block _ _ r b zs (holds b x ∷ []) es (act-block used q on (madeFirst HDR1 set e a q 0) e b c o p x k h) (h .item) here z)
+      (collects-block b x gs d) (rest-ends bs gs a (suc c) room p r on used left i reels m (omega arith))
   rest-ends (b ∷ bs) (x ∷ gs) a c zero o r on used [] h reels m w = λ xs z. absurd (subst IsLaid (sym z) tt)
   rest-ends (b ∷ bs) (x ∷ gs) a c zero o r on used (t ∷ left) (p, h, i) reels m w =
       let n : List ℕ = t .name in
@@ -246,18 +259,17 @@ module _ (set e : List ℕ) (q : ℕ) (later : ℕ → List Reel → Laid) (es :
       let long : length (used ++ (n ∷ [])) ≡ length used + 1 = length-append used (n ∷ []) in
       usable-next used t left (reels .left)
       (λ six sound new some most usable.
-      ends-put _ _ r (r + 1) _ (rest set e q (suc a) 1 (pred (t .room)) left bs later) (holds x ∷ heldBy gs es) (heldBy gs es)
-      (λ zs d. read-change-block used q on set e a q c o p r n b x zs (heldBy gs es) g k (omega arith) (omega arith) (omega arith) (omega arith) six sound new h d)
+      ends-put _ _ r (r + 1) _ (rest set e q (suc a) 1 (pred (t .room)) left bs later) (Collects (onto (flat (x ∷ gs)) d)) (Collects (onto (flat gs) d))
+      (λ es. continues (madeFirst HDR1 set e (suc a) q 0) (madeSecond HDR2 e) ∷ holds b x ∷ es)
+      (λ zs es z. read-change-block used q on set e a q c o p r n b x zs es g k (omega arith) (omega arith) (omega arith) (omega arith) six sound new h z)
+      (collects-block b x gs d)
       (rest-ends bs gs (suc a) 1 (pred (t .room)) p (r + 1) true (used ++ (n ∷ [])) left i (record { begun = omega arith; left = usable }) (omega arith) (omega arith)))
 
 -- ---- all files
 
--- the events of files, of which the first has this sequence number
-unfoldable pub eventsFrom : List ℕ → ℕ → List File → List Event
-eventsFrom set q [] = []
-eventsFrom set q (d ∷ ds) =
-    begins (madeFirst HDR1 set (d .fields) 1 q 0) (madeSecond HDR2 (d .fields))
-    ∷ heldBy (held (formatFrom (d .fields)) (blockLengthFrom (d .fields)) (d .records)) (eventsFrom set (suc q) ds)
+-- what is handed out is folded to these files
+abbrev pub Files : List File → List Event → Type 0
+Files ds = Collects (record { segments = []; files = ds })
 
 -- the second mark and the end of the last reel
 read-last : (names : List (List ℕ)) (files : ℕ) (f s : List ℕ) (c r : ℕ) → r < 16 → Read (at FileEnd names files false f s c 0) r (mark ∷ reelEnd ∷ []) []
@@ -289,6 +301,23 @@ one-set files set e a q g =
     let other : suc files ≡ 0 → ⊥ = λ z. omega arith in
     if-false _ _ _ (ne-eqb (suc files) 0 other) ∙ ap (same set) (set-back HDR1 set e a q 0 (g .six)) ∙ same-refl set
 
+-- the labels of a legal file and the segments of its blocks are folded to this file
+file-collected : (set : List ℕ) (d : File) (ds : List File) (q : ℕ) (es : List Event) → GoodFirst set (d .fields) → GoodSecond (d .fields)
+    → legalRecords (formatFrom (d .fields)) (recordLengthFrom (d .fields)) (d .records) ≡ true
+    → Collects (onto (flat (held (formatFrom (d .fields)) (blockLengthFrom (d .fields)) (d .records))) (record { segments = []; files = ds })) es
+    → Files (d ∷ ds) (begins (madeFirst HDR1 set (d .fields) 1 q 0) (madeSecond HDR2 (d .fields)) ∷ es)
+unfolding collect
+file-collected set d ds q es g k records h =
+    let e : List ℕ = d .fields in
+    let segments : List Segment = flat (held (formatFrom e) (blockLengthFrom e) (d .records)) in
+    let again : joined (segments ++ []) ≡ d .records
+    = ap joined (append-nil segments) ∙ file-records (formatFrom e) (blockLengthFrom e) (recordLengthFrom e) (d .records) (suited e k) records in
+    ap (λ (c : Collected). filed (fieldsFrom (madeFirst HDR1 set e 1 q 0) (madeSecond HDR2 e)) (joined (c .segments)) (c .files)) h
+    ∙ ap₂ (λ (f : List ℕ) (xs : List (List ℕ)). filed f xs ds) (entry-back set e 1 q (g .long)) again
+  where
+    filed : List ℕ → List (List ℕ) → List File → Collected
+    filed f xs others = record { segments = []; files = record { fields = f; records = xs } ∷ others }
+
 module _ (set : List ℕ) where
   -- one file, where what is laid behind it is read to its end
   pub file-ends : (d : File) (ds : List File) (p : Phase) (files room r c : ℕ) (used : List (List ℕ)) (left : List Reel) (f s : List ℕ)
@@ -297,30 +326,38 @@ module _ (set : List ℕ) where
       → Reels r used left → room ≤ 999999
       → ((room r a c : ℕ) (used : List (List ℕ)) (left : List Reel) → Reels r used left → room ≤ 999999
       → Ends (at FileEnd used (suc files) false (madeFirst HDR1 set (d .fields) a (suc files) 0) (madeSecond HDR2 (d .fields)) c 0) r
-      (layFiles set (suc (suc files)) room left ds) (eventsFrom set (suc (suc files)) ds))
-      → Ends (at p used files false f s c 0) r (layFiles set (suc files) room left (d ∷ ds)) (eventsFrom set (suc files) (d ∷ ds))
-  unfolding layFiles eventsFrom
+      (layFiles set (suc (suc files)) room left ds) (Files ds))
+      → Ends (at p used files false f s c 0) r (layFiles set (suc files) room left (d ∷ ds)) (λ es. Files (d ∷ ds) es × (setFrom es ≡ set))
+  unfolding layFiles setFrom
   file-ends d ds p files room r c used left f s due first one few legal records reels h later =
       let e : List ℕ = d .fields in
       let g : GoodFirst set e = legal-first set e legal in
       let k : GoodSecond e = legal-second set e legal in
       let begun : suc r ≡ length used = reels .begun in
-      ends-put _ _ r r (headers set e 1 (suc files)) _ _ (heldBy (held (formatFrom e) (blockLengthFrom e) (d .records)) (eventsFrom set (suc (suc files)) ds))
-      (λ zs z. read-headers p used files f s c r set e zs _ due first g k one few (reel-few r used left reels) z)
-      (rest-ends set e (suc files) (λ rooms others. layFiles set (suc (suc files)) rooms others ds) (eventsFrom set (suc (suc files)) ds) g k later
-      (blocksOf (formatFrom e) (blockLengthFrom e) (d .records)) (held (formatFrom e) (blockLengthFrom e) (d .records)) 1 0 room 0 r false used left
+      let gs : List (List Segment) = held (formatFrom e) (blockLengthFrom e) (d .records) in
+      let behind : Collected = record { segments = []; files = ds } in
+      ends-put _ _ r r (headers set e 1 (suc files)) _ (λ es. Files (d ∷ ds) es × (setFrom es ≡ set)) (Collects (onto (flat gs) behind))
+      (λ es. begins (madeFirst HDR1 set e 1 (suc files) 0) (madeSecond HDR2 e) ∷ es)
+      (λ zs es z. read-headers p used files f s c r set e zs es due first g k one few (reel-few r used left reels) z)
+      (λ es z. (file-collected set d ds (suc files) es g k records z, set-back HDR1 set e 1 (suc files) 0 (g .six)))
+      (rest-ends set e (suc files) (λ rooms others. layFiles set (suc (suc files)) rooms others ds) behind g k later
+      (blocksOf (formatFrom e) (blockLengthFrom e) (d .records)) gs 1 0 room 0 r false used left
       (file-blocks (formatFrom e) (blockLengthFrom e) (recordLengthFrom e) (d .records) (suited e k) records) reels (omega arith) (omega arith))
 
   -- the files behind one that is ended
   pub files-end : (ds : List File) (files room r c : ℕ) (used : List (List ℕ)) (left : List Reel) (f s : List ℕ) → OneSet files set f → files + length ds ≤ 64
       → legalFiles set ds ≡ true → Reels r used left → room ≤ 999999
-      → Ends (at FileEnd used files false f s c 0) r (layFiles set (suc files) room left ds) (eventsFrom set (suc files) ds)
-  unfolding layFiles eventsFrom dueAfter dues choose isDue isKind ifB
-  files-end [] files room r c used left f s one few legal reels h = λ xs z.
-      subst (λ (l : List Item). Read (at FileEnd used files false f s c 0) r l []) (ap itemsOf z) (read-last used files f s c r (reel-few r used left reels))
+      → Ends (at FileEnd used files false f s c 0) r (layFiles set (suc files) room left ds) (Files ds)
+  unfolding layFiles collect dueAfter dues choose isDue isKind ifB
+  files-end [] files room r c used left f s one few legal reels h = λ xs z. (
+    [],
+    subst (λ (l : List Item). Read (at FileEnd used files false f s c 0) r l []) (ap itemsOf z) (read-last used files f s c r (reel-few r used left reels)),
+    refl,
+  )
   files-end (d ∷ ds) files room r c used left f s one few legal reels h =
       legal-file set d ds legal
-      (λ entry records others.
-      file-ends d ds FileEnd files room r c used left f s refl refl one (omega arith) entry records reels h
+      (λ entry records others xs z.
+      let (es, read, told) = file-ends d ds FileEnd files room r c used left f s refl refl one (omega arith) entry records reels h
       (λ room r a c used left reels h.
-      files-end ds (suc files) room r c used left _ _ (one-set files set (d .fields) a (suc files) (legal-first set (d .fields) entry)) (omega arith) others reels h))
+      files-end ds (suc files) room r c used left _ _ (one-set files set (d .fields) a (suc files) (legal-first set (d .fields) entry)) (omega arith) others reels h) xs z in
+      (es, read, told .0))

@@ -2,7 +2,7 @@
 -- meaning on any reels that can be written (`set-means`, `set-reads`), and a sheet's are such. Assumes nothing.
 use mathlib.Core.Path.{_≡_, refl, sym, ap, ap₂, _∙_, subst}
 use mathlib.Core.Bool.{true, false}
-use mathlib.Core.List.{List, [], _∷_, _++_, append-assoc, append-nil}
+use mathlib.Core.List.{List, [], _∷_, _++_}
 use Prim.Native.Nat.{ℕ, suc, _≤_}
 use native.Mathlib.Omega.{arith}
 use borrow.Author.Tests.{eq-eqb, eqb-true, eqb-false, leb-true}
@@ -18,26 +18,23 @@ use Rattle.image.proofs.RoundTrip.{items-image, framing-image}
 use Rattle.order.specs.Kind.{isKind}
 use Rattle.order.specs.Due.{dues, choose, upToNine, dueAfter}
 use Rattle.order.specs.declared.Phase.the-variants.{Volume}
-use Rattle.label.specs.Name.{HDR1, HDR2}
-use Rattle.label.specs.Made.{madeVolume, madeFirst, madeSecond}
-use Rattle.block.specs.Cut.{Segment}
+use Rattle.label.specs.Made.{madeVolume}
 use Rattle.volume.specs.State.{start}
 use Rattle.volume.specs.Fault.{mostFiles}
 use Rattle.volume.specs.Step.{Event, isDue}
 use Rattle.volume.specs.Run.{Run, ended, runs, answerOf, imageVerdict}
-use Rattle.volume.specs.Meaning.{File, Meaning, joined, Collected, fieldsFrom, collect, setFrom, meaningOf, handedOut, content, Means}
+use Rattle.volume.specs.Meaning.{File, Meaning, Collected, setFrom, meaningOf, handedOut, content, Means}
 use Rattle.volume.proofs.Accepted.{done-accepted}
-use Rattle.reading.specs.Legal.{Sheet, formatFrom, blockLengthFrom, recordLengthFrom, freshNames, legalFiles, legalMeaning, legalNames, legalQuota, legalSheet}
+use Rattle.reading.specs.Legal.{Sheet, freshNames, legalFiles, legalMeaning, legalNames, legalQuota, legalSheet}
 use Rattle.sheet.specs.Flat.{Flat, addsUp, sheetOf, sheetNumber}
 use Rattle.writing.specs.Lay.{Reel, reelsOf, Laid, laid, short, layFiles, layOn, lay}
 use Rattle.output.specs.Output.{Written, refused}
 use Rattle.writing.specs.Write.{stored, storedLaid, writeSheet, write}
 use Rattle.writing.proofs.Units.{both}
-use Rattle.writing.proofs.Packed.{held, flat, file-records}
-use Rattle.writing.proofs.Labels.{length-volume, set-back}
-use Rattle.writing.proofs.Entry.{legal-first, legal-second, suited, entry-back}
+use Rattle.writing.proofs.Labels.{length-volume}
+use Rattle.writing.proofs.Entry.{legal-first}
 use Rattle.writing.proofs.Acts.{at, act-volume}
-use Rattle.writing.proofs.Laying.{read-label, Ends, IsLaid, ends-put, namesOf, Rooms, Usable, usable-next, Reels, heldBy, eventsFrom, legal-file, one-set, file-ends, files-end}
+use Rattle.writing.proofs.Laying.{read-label, Ends, IsLaid, ends-put, namesOf, Rooms, Usable, usable-next, Reels, Files, legal-file, one-set, file-ends, files-end}
 
 -- ---- what a legal sheet says
 
@@ -115,7 +112,7 @@ sheet-reels s h =
 
 first-files : (set : List ℕ) (ds : List File) (n : List ℕ) (room : ℕ) (left : List Reel) → 1 ≤ length ds → length ds ≤ 64
     → legalFiles set ds ≡ true → Reels 0 (n ∷ []) left → room ≤ 999999
-    → Ends (at (Volume 1) (n ∷ []) 0 false [] [] 0 0) 0 (layFiles set 1 room left ds) (eventsFrom set 1 ds)
+    → Ends (at (Volume 1) (n ∷ []) 0 false [] [] 0 0) 0 (layFiles set 1 room left ds) (λ es. Files ds es × (setFrom es ≡ set))
 unfolding dueAfter dues choose upToNine isDue isKind ifB
 first-files set [] n room left one few legal reels h = absurd (omega arith)
 first-files set (d ∷ ds) n room left one few legal reels h =
@@ -125,10 +122,9 @@ first-files set (d ∷ ds) n room left one few legal reels h =
     (λ room r a c used left reels h.
     files-end set ds 1 room r c used left _ _ (one-set 0 set (d .fields) a 1 (legal-first set (d .fields) entry)) (omega arith) others reels h))
 
--- a legal meaning on reels that can be written
-pub set-ends : (m : Meaning) (reels : List Reel) → legalMeaning m ≡ true → Usable [] reels
-    → Ends start 0 (layOn m reels) (eventsFrom (m .set) 1 (m .files))
-unfolding layOn start
+-- a legal meaning on reels that can be written: what is laid is read to its end, and has this meaning
+pub set-ends : (m : Meaning) (reels : List Reel) → legalMeaning m ≡ true → Usable [] reels → Ends start 0 (layOn m reels) (λ es. meaningOf es ≡ m)
+unfolding layOn start meaningOf
 set-ends m [] legal h = λ xs z. absurd (subst IsLaid (sym z) tt)
 set-ends m (t ∷ reels) legal h =
     let n : List ℕ = t .name in
@@ -136,83 +132,34 @@ set-ends m (t ∷ reels) legal h =
     (λ one few files. usable-next [] t reels h
     (λ six sound new some most left.
     ends-put start (at (Volume 1) (n ∷ []) 0 false [] [] 0 0) 0 0 (block (madeVolume n) ∷ []) (layFiles (m .set) 1 (t .room) reels (m .files))
-    (eventsFrom (m .set) 1 (m .files)) (eventsFrom (m .set) 1 (m .files))
-    (λ zs d. read-label start _ 0 (madeVolume n) zs [] _ (act-volume [] 0 false [] [] 0 0 n six sound (omega arith) new) (length-volume n) (omega arith) d)
+    (λ es. meaningOf es ≡ m) (λ es. Files (m .files) es × (setFrom es ≡ m .set)) (λ es. es)
+    (λ zs es d. read-label start _ 0 (madeVolume n) zs [] es (act-volume [] 0 false [] [] 0 0 n six sound (omega arith) new) (length-volume n) (omega arith) d)
+    (λ es d. ap₂ (λ (x : List ℕ) (c : Collected). record { set = x; files = c .files }) (d .1) (d .0))
     (first-files (m .set) (m .files) n (t .room) reels one few files (record { begun = refl; left = left }) most)))
-
-pub sheet-ends : (s : Sheet) → legalSheet s ≡ true → Ends start 0 (lay s) (eventsFrom (s .meaning .set) 1 (s .meaning .files))
-unfolding lay
-sheet-ends s h = set-ends (s .meaning) (reelsOf (s .quota) (s .names)) (sheet-meaning s h) (sheet-reels s h)
-
--- ---- its meaning
-
-collect-held : (gs : List (List Segment)) (es : List Event)
-    → collect (heldBy gs es) ≡ record { segments = flat gs ++ collect es .segments; files = collect es .files }
-unfolding heldBy flat collect
-collect-held [] es = refl
-collect-held (g ∷ gs) es =
-    ap (λ (c : Collected). record { segments = g ++ c .segments; files = c .files }) (collect-held gs es)
-    ∙ ap (λ (l : List Segment). record { segments = l; files = collect es .files }) (sym (append-assoc g (flat gs) (collect es .segments)))
-
--- the events of legal files are collected to these files
-collect-files : (set : List ℕ) (q : ℕ) (ds : List File) → legalFiles set ds ≡ true → collect (eventsFrom set q ds) ≡ record { segments = []; files = ds }
-unfolding eventsFrom collect
-collect-files set q [] h = refl
-collect-files set q (d ∷ ds) h =
-    legal-file set d ds h
-    (λ entry records others.
-    let e : List ℕ = d .fields in
-    let gs : List (List Segment) = held (formatFrom e) (blockLengthFrom e) (d .records) in
-    let es : List Event = eventsFrom set (suc q) ds in
-    let rest : collect es ≡ record { segments = []; files = ds } = collect-files set (suc q) ds others in
-    let back : fieldsFrom (madeFirst HDR1 set e 1 q 0) (madeSecond HDR2 e) ≡ e = entry-back set e 1 q (legal-first set e entry .long) in
-    let again : joined (flat gs ++ []) ≡ d .records
-    = ap joined (append-nil (flat gs)) ∙ file-records (formatFrom e) (blockLengthFrom e) (recordLengthFrom e) (d .records) (suited e (legal-second set e entry)) records in
-    ap (λ (c : Collected). from set e q c) (collect-held gs es)
-    ∙ ap (λ (c : Collected). from set e q (record { segments = flat gs ++ c .segments; files = c .files })) rest
-    ∙ ap (λ (f : List ℕ). filed f (joined (flat gs ++ [])) ds) back
-    ∙ ap (λ (xs : List (List ℕ)). filed e xs ds) again)
-  where
-    filed : List ℕ → List (List ℕ) → List File → Collected
-    filed f xs ds = record { segments = []; files = record { fields = f; records = xs } ∷ ds }
-
-    from : List ℕ → List ℕ → ℕ → Collected → Collected
-    from set e q c = filed (fieldsFrom (madeFirst HDR1 set e 1 q 0) (madeSecond HDR2 e)) (joined (c .segments)) (c .files)
-
-set-of-files : (set : List ℕ) (q : ℕ) (ds : List File) → 1 ≤ length ds → legalFiles set ds ≡ true → setFrom (eventsFrom set q ds) ≡ set
-unfolding eventsFrom setFrom
-set-of-files set q [] one h = absurd (omega arith)
-set-of-files set q (d ∷ ds) one h =
-    legal-file set d ds h (λ entry records others. set-back HDR1 set (d .fields) 1 q 0 (legal-first set (d .fields) entry .six))
-
-pub meaning-back : (m : Meaning) → legalMeaning m ≡ true → meaningOf (eventsFrom (m .set) 1 (m .files)) ≡ m
-unfolding meaningOf
-meaning-back m h =
-    legal-meaning m h
-    (λ one few files.
-    ap₂ (λ (x : List ℕ) (c : Collected). record { set = x; files = c .files }) (set-of-files (m .set) 1 (m .files) one files) (collect-files (m .set) 1 (m .files) files))
 
 -- ---- the theorems
 
 -- The items of a legal sheet are a set that is read to its end, and its meaning is the sheet's.
 pub written-accepted : (s : Sheet) (xs : List Item) → legalSheet s ≡ true → lay s ≡ laid xs
     → (es : List Event) × (runs start xs ≡ ended es) × (meaningOf es ≡ s .meaning)
+unfolding lay
 written-accepted s xs h e =
-    (eventsFrom (s .meaning .set) 1 (s .meaning .files), sheet-ends s h xs e .ends, meaning-back (s .meaning) (sheet-meaning s h))
+    let (es, read, means) = set-ends (s .meaning) (reelsOf (s .quota) (s .names)) (sheet-meaning s h) (sheet-reels s h) xs e in
+    (es, read .ends, means)
 
 -- The image of a legal meaning on reels that can be written is an accepted set with this meaning, where it is not too long.
 pub set-means : (m : Meaning) (reels : List Reel) (xs : List Item) → legalMeaning m ≡ true → Usable [] reels → layOn m reels ≡ laid xs
     → length (head ++ encode xs) ≤ mostImage → Means (head ++ encode xs) m
 unfolding imageVerdict content answerOf handedOut verdict
 set-means m reels xs legal h e small =
-    let d = set-ends m reels legal h xs e in
+    let (es, d, means) = set-ends m reels legal h xs e in
     let image : List ℕ = head ++ encode xs in
     let same : items image ≡ xs = items-image xs (d .whole) in
-    let run : runs start (items image) ≡ ended (eventsFrom (m .set) 1 (m .files)) = ap (runs start) same ∙ d .ends in
+    let run : runs start (items image) ≡ ended es = ap (runs start) same ∙ d .ends in
     let framed : framing image ≡ verdict 0 0 0 = framing-image xs (d .whole) small ∙ d .framed 0 false in
     record {
       accepted = done-accepted image (if-true _ _ _ (eq-eqb (framing image .number) 0 (ap (λ (v : Verdict). v .number) framed)) ∙ ap (answerOf 0) run);
-      meaning = ap (λ (r : Run). meaningOf (handedOut r)) run ∙ meaning-back m legal;
+      meaning = ap (λ (r : Run). meaningOf (handedOut r)) run ∙ means;
     }
 
 -- The image of a legal sheet's items is an accepted set with the sheet's meaning, where it is not too long.
