@@ -13,7 +13,7 @@ use lib.ListN.{length, length-append}
 use Rattle.base.specs.If.{if-case}
 use Rattle.base.specs.Part.{part, putAt, putIn}
 use Rattle.base.proofs.Parts.{length-part, length-put, put-put}
-use Rattle.base.proofs.Copies.{put-in}
+use Rattle.base.proofs.Copies.{put-in, length-put-in}
 use Rattle.content.specs.Walk.{Inside, isInside, unitNext, unitFrom, Rest, ends, fails, before, restBy, restAt, Record, whole, split, nothing, splitBy, begunBy, recordAt}
 use Rattle.content.specs.Measure.{isEnded, restBytes, bytesBehind, GoesOn, recordBytes, isSplit, SplitAt}
 use Rattle.content.specs.declared.Walk.{Walk}
@@ -309,3 +309,26 @@ joined-behind s old start n v l out new h c e p q =
     ∙ put-put old 0 (part start n s) (bytesBehind s v) room
 
 pub ruleset joins-from = (first-room, still-goes, joined-behind, needs)
+
+-- ---- two segments
+
+pub joined-two : (s old : List ℕ) (start n next m : ℕ) (a b out new : List ℕ) → start + n ≤ length s → next + m ≤ length s → n + m ≤ length old
+    → a ≡ part start n s → out ≡ putIn old 0 a → b ≡ part next m s → new ≡ putIn out n b → new ≡ putAt old 0 (part start n s ++ part next m s)
+joined-two s old start n next m a b out new g h k e p f q =
+    let c : length (part start n s) ≡ n = length-part start n s g in
+    let d : length (part next m s) ≡ m = length-part next m s h in
+    let la : length a ≡ length (part start n s) = ap length e in
+    let lb : length b ≡ length (part next m s) = ap length f in
+    let first : 0 + length (part start n s) ≤ length old = omega arith in
+    let made : out ≡ putAt old 0 (part start n s) = p ∙ put-in old 0 a (omega arith) ∙ ap (putAt old 0) e in
+    let long : length out ≡ length old = ap length made ∙ length-put old 0 (part start n s) first in
+    let z : n ≡ 0 + length (part start n s) = omega arith in
+    q ∙ put-in out n b (omega arith) ∙ ap (putAt out n) f
+    ∙ ap₂ (λ (x : List ℕ) (j : ℕ). putAt x j (part next m s)) made z
+    ∙ put-put old 0 (part start n s) (part next m s) first
+
+-- the buffer keeps its length
+pub length-in : (old a : List ℕ) (at : ℕ) (out : List ℕ) → out ≡ putIn old at a → length out ≡ length old
+length-in old a at out p = ap length p ∙ length-put-in old at a
+
+pub ruleset joins-two = (joined-two, length-in, needs)

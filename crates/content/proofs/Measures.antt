@@ -38,7 +38,7 @@ rest-over : (s : List ℕ) (room : ℕ) (w : Walk) (i start n : ℕ) (v : Walk) 
 unfolding restBy
 rest-over s room w i start n v t e q h = rest-one s room w i start n v t e q ∙ if-false _ _ _ (lt-leb n room h)
 
-rest-ends : (s : List ℕ) (room : ℕ) (w : Walk) (i start n : ℕ) (v : Walk) (t : Taken) → t ≡ unitNext s w → t ≡ One i start n v → n ≤ room → i ≡ 3
+pub rest-ends : (s : List ℕ) (room : ℕ) (w : Walk) (i start n : ℕ) (v : Walk) (t : Taken) → t ≡ unitNext s w → t ≡ One i start n v → n ≤ room → i ≡ 3
     → restAt s room w ≡ ends (part start n s) v
 unfolding restBy
 rest-ends s room w i start n v t e q h z =
@@ -89,7 +89,7 @@ pub resting-other : (s : List ℕ) (most : ℕ) (from : Walk) (room total : ℕ)
 resting-other s most from room total w i start n v t c e q h z y = rest-fails s most from room total w c (rest-other s room w i start n v t e q h z y)
 
 -- the segment's bytes are as many as it says
-segment-long : (s : List ℕ) (w : Walk) (i start n : ℕ) (v : Walk) (t : Taken) → t ≡ unitNext s w → t ≡ One i start n v → length (part start n s) ≡ n
+pub segment-long : (s : List ℕ) (w : Walk) (i start n : ℕ) (v : Walk) (t : Taken) → t ≡ unitNext s w → t ≡ One i start n v → length (part start n s) ≡ n
 segment-long s w i start n v t e q = length-part start n s (next-behind s w i start n v (sym e ∙ q) .within)
 
 pub resting-ends : (s : List ℕ) (most : ℕ) (from : Walk) (room total : ℕ) (w : Walk) (i start n : ℕ) (v : Walk) (t : Taken) → Resting s most from room total w

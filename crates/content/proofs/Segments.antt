@@ -20,7 +20,7 @@ use Rattle.block.specs.declared.Unit.the-variants.{Of}
 use Rattle.block.proofs.Places.{head-at}
 use Rattle.block.proofs.Lengths.{unit-segment, segment-of, segment-least, segment-first, segment-fits}
 use Rattle.content.specs.Walk.{moved, leftOf, Inside, isInside, taken, unitHere, unitNext, orNext, unitFrom}
-use Rattle.content.specs.Whole.{atBlock, standsAt, segmentIn, begunIn, BegunAt}
+use Rattle.content.specs.Whole.{atBlock, standsAt, segmentIn, turnIn, begunIn, BegunAt}
 use Rattle.content.specs.declared.Walk.{Walk}
 use Rattle.content.specs.declared.unit.Taken.{Taken}
 use Rattle.content.specs.declared.unit.Taken.the-variants.{One}
@@ -172,39 +172,64 @@ segment-end s b f at left k m z h =
 
 pub ruleset next-segments = (next-segment, segment-there, segment-digit, segment-narrow, segment-word, segment-left, segment-start, segment-end, needs)
 
+-- ---- a segment whose turn it is
+
+pub turn-none : (s : List ℕ) (b d m : ℕ) (w : Walk) (k : ℕ) → k ≡ segmentIn s b w → k ≡ 0 → 0 ≡ turnIn s b d m w
+unfolding turnIn
+turn-none s b d m w k e z = sym (if-true _ _ _ (eq-eqb (segmentIn s b w) 0 (sym e ∙ z)))
+
+turn-by : (s : List ℕ) (b d m : ℕ) (w : Walk) (k : ℕ) → k ≡ segmentIn s b w → (k ≡ 0 → ⊥)
+    → turnIn s b d m w ≡ ifB (eqb (getD s (w .at) 0) d) (ifB (leb (k - 5) m) k 0) 0
+unfolding turnIn
+turn-by s b d m w k e z =
+    ap (λ (j : ℕ). ifB (eqb j 0) 0 (ifB (eqb (getD s (w .at) 0) d) (ifB (leb (j - 5) m) j 0) 0)) (sym e) ∙ if-false _ _ _ (ne-eqb k 0 z)
+
+pub turn-another : (s : List ℕ) (b d m f at left k : ℕ) → k ≡ segmentIn s b (standsAt f 0 at left) → (k ≡ 0 → ⊥) → (getD s at 0 ≡ d → ⊥)
+    → 0 ≡ turnIn s b d m (standsAt f 0 at left)
+turn-another s b d m f at left k e z h = sym (turn-by s b d m (standsAt f 0 at left) k e z ∙ if-false _ _ _ (ne-eqb (getD s at 0) d h))
+
+pub turn-long : (s : List ℕ) (b d m f at left k : ℕ) → k ≡ segmentIn s b (standsAt f 0 at left) → (k ≡ 0 → ⊥) → getD s at 0 ≡ d → m < k - 5
+    → 0 ≡ turnIn s b d m (standsAt f 0 at left)
+turn-long s b d m f at left k e z h l =
+    sym (turn-by s b d m (standsAt f 0 at left) k e z ∙ if-true _ _ _ (eq-eqb (getD s at 0) d h) ∙ if-false _ _ _ (lt-leb (k - 5) m l))
+
+pub turn-is : (s : List ℕ) (b d m f at left k : ℕ) → k ≡ segmentIn s b (standsAt f 0 at left) → (k ≡ 0 → ⊥) → getD s at 0 ≡ d → k - 5 ≤ m
+    → k ≡ turnIn s b d m (standsAt f 0 at left)
+turn-is s b d m f at left k e z h l =
+    sym (turn-by s b d m (standsAt f 0 at left) k e z ∙ if-true _ _ _ (eq-eqb (getD s at 0) d h) ∙ if-true _ _ _ (le-leb (k - 5) m l))
+
+pub ruleset turn-numbers = (turn-none, turn-another, turn-long, turn-is, segment-there, segment-word, needs)
+
+-- what stands at the head of what is left where that number is one
+pub record Turn (s : List ℕ) (b d m : ℕ) (v : Walk) (k : ℕ) : Type 0 where
+  pub is : k ≡ segmentIn s b v
+  pub digit : getD s (v .at) 0 ≡ d
+  pub short : k - 5 ≤ m
+
+pub turns : (s : List ℕ) (b d m : ℕ) (v : Walk) (k : ℕ) → k ≡ turnIn s b d m v → (k ≡ 0 → ⊥) → Turn s b d m v k
+unfolding turnIn
+turns s b d m v k e z =
+    if-case P (eqb (segmentIn s b v) 0) 0 _ (λ _ q. absurd (z q))
+    (λ _. if-case P (eqb (getD s (v .at) 0) d) _ 0
+    (λ h. if-case P (leb (segmentIn s b v - 5) m) (segmentIn s b v) 0
+    (λ l q. let short = leb-true (segmentIn s b v - 5) m l in record { is = q; digit = eqb-true (getD s (v .at) 0) d h; short = omega arith })
+    (λ _ q. absurd (z q)))
+    (λ _ q. absurd (z q))) e
+  where
+    P : ℕ → Type 0
+    P x = k ≡ x → Turn s b d m v k
+
 -- ---- a segment that begins a record
 
 pub begun-nowhere : (s : List ℕ) (f r at left : ℕ) → r ≡ 0 → 0 ≡ begunIn s (standsAt f r at left)
 unfolding begunIn
 begun-nowhere s f r at left h = sym (if-true _ _ _ (eq-eqb r 0 h))
 
-begun-by : (s : List ℕ) (f r at left k : ℕ) → (r ≡ 0 → ⊥) → k ≡ segmentIn s 0 (standsAt f 0 at left)
-    → begunIn s (standsAt f r at left) ≡ ifB (eqb k 0) 0 (ifB (eqb (getD s at 0) 49) (ifB (leb (k - 5) r) k 0) 0)
-unfolding begunIn
-begun-by s f r at left k o e =
-    if-false _ _ _ (ne-eqb r 0 o)
-    ∙ ap (λ (j : ℕ). ifB (eqb j 0) 0 (ifB (eqb (getD s at 0) 49) (ifB (leb (j - 5) r) j 0) 0))
-    (no-size s 0 (standsAt f 0 at left) r ∙ sym e)
+pub begun-is : (s : List ℕ) (f r at left k : ℕ) → (r ≡ 0 → ⊥) → k ≡ turnIn s 0 49 r (standsAt f 0 at left) → k ≡ begunIn s (standsAt f r at left)
+unfolding begunIn turnIn segmentIn isInside leftOf
+begun-is s f r at left k o e = e ∙ sym (if-false _ _ _ (ne-eqb r 0 o))
 
-pub begun-none : (s : List ℕ) (f r at left k : ℕ) → (r ≡ 0 → ⊥) → k ≡ segmentIn s 0 (standsAt f 0 at left) → k ≡ 0 → 0 ≡ begunIn s (standsAt f r at left)
-begun-none s f r at left k o e z = sym (begun-by s f r at left k o e ∙ if-true _ _ _ (eq-eqb k 0 z))
-
-pub begun-another : (s : List ℕ) (f r at left k : ℕ) → (r ≡ 0 → ⊥) → k ≡ segmentIn s 0 (standsAt f 0 at left) → (k ≡ 0 → ⊥) → (getD s at 0 ≡ 49 → ⊥)
-    → 0 ≡ begunIn s (standsAt f r at left)
-begun-another s f r at left k o e z d =
-    sym (begun-by s f r at left k o e ∙ if-false _ _ _ (ne-eqb k 0 z) ∙ if-false _ _ _ (ne-eqb (getD s at 0) 49 d))
-
-pub begun-long : (s : List ℕ) (f r at left k : ℕ) → (r ≡ 0 → ⊥) → k ≡ segmentIn s 0 (standsAt f 0 at left) → (k ≡ 0 → ⊥) → getD s at 0 ≡ 49 → r < k - 5
-    → 0 ≡ begunIn s (standsAt f r at left)
-begun-long s f r at left k o e z d h =
-    sym (begun-by s f r at left k o e ∙ if-false _ _ _ (ne-eqb k 0 z) ∙ if-true _ _ _ (eq-eqb (getD s at 0) 49 d) ∙ if-false _ _ _ (lt-leb (k - 5) r h))
-
-pub begun-is : (s : List ℕ) (f r at left k : ℕ) → (r ≡ 0 → ⊥) → k ≡ segmentIn s 0 (standsAt f 0 at left) → (k ≡ 0 → ⊥) → getD s at 0 ≡ 49 → k - 5 ≤ r
-    → k ≡ begunIn s (standsAt f r at left)
-begun-is s f r at left k o e z d h =
-    sym (begun-by s f r at left k o e ∙ if-false _ _ _ (ne-eqb k 0 z) ∙ if-true _ _ _ (eq-eqb (getD s at 0) 49 d) ∙ if-true _ _ _ (le-leb (k - 5) r h))
-
-pub ruleset begun-numbers = (begun-nowhere, begun-none, begun-another, begun-long, begun-is, segment-there, segment-word, needs)
+pub ruleset begun-numbers = (begun-nowhere, begun-is, needs)
 
 -- what stands at the head of what is left where that number is one
 pub record Begins (s : List ℕ) (v : Walk) (k : ℕ) : Type 0 where
@@ -217,23 +242,13 @@ pub begins : (s : List ℕ) (v : Walk) (k : ℕ) → BegunAt s v k → Begins s 
 unfolding begunIn
 begins s v k b =
     let z = b .some in
-    if-case P (eqb (v .size) 0) 0 _ (λ _ q. absurd (z q))
-    (λ o. if-case P (eqb (segmentIn s 0 v) 0) 0 _ (λ _ q. absurd (z q))
-    (λ _. if-case P (eqb (getD s (v .at) 0) 49) _ 0
-    (λ d. if-case P (leb (segmentIn s 0 v - 5) (v .size)) (segmentIn s 0 v) 0
-    (λ h q. let short = leb-true (segmentIn s 0 v - 5) (v .size) h in
-    record {
-      segment = standing-segment s 0 v k q z;
-      some = eqb-false (v .size) 0 o;
-      digit = eqb-true (getD s (v .at) 0) 49 d;
-      short = omega arith;
-    })
-    (λ _ q. absurd (z q)))
-    (λ _ q. absurd (z q)))) (b .is)
+    if-case P (eqb (v .size) 0) 0 (turnIn s 0 49 (v .size) v) (λ _ q. absurd (z q))
+    (λ o q. let t = turns s 0 49 (v .size) v k q z in
+    record { segment = standing-segment s 0 v k (t .is) z; some = eqb-false (v .size) 0 o; digit = t .digit; short = t .short }) (b .is)
   where
     P : ℕ → Type 0
     P x = k ≡ x → Begins s v k
 
 pub begun-no-offset : (s : List ℕ) (v : Walk) → begunIn s (standsAt (v .format) (v .size) (v .at) (v .left)) ≡ begunIn s v
-unfolding begunIn segmentIn isInside leftOf
+unfolding begunIn turnIn segmentIn isInside leftOf
 begun-no-offset s v = refl

@@ -45,6 +45,17 @@ pub(crate) fn join_from(image: &[u8], start: usize, n: usize, behind: Walk, join
     copy_rest(image, behind, join, n);
 }
 
+// A record of two segments, each known by its place and length.
+pub(crate) fn join_two(image: &[u8], start: usize, n: usize, next: usize, m: usize, join: &mut [u8])
+    requires { ⌜ start + n ≤ length (now image) ⌝ }
+    requires { ⌜ next + m ≤ length (now image) ⌝ }
+    requires { ⌜ n + m ≤ length (now join) ⌝ }
+    ensures { λ r. ⌜ now (join .exit) ≡ putAt (now (join .entry)) 0 (part start n (now (image .entry)) ++ part next m (now (image .entry))) ⌝ }
+{
+    put_in(join, 0, part_of(image, start, n));
+    put_in(join, n, part_of(image, next, m));
+}
+
 // The record of several segments at a walk's place, joined.
 pub(crate) fn join_record(image: &[u8], w: Walk, join: &mut [u8])
     requires { ⌜ SplitAt (now image) w (length (now join)) ⌝ }

@@ -42,7 +42,7 @@ ghost use mathlib.Core.Path.{_≡_};
 ghost use lib.ListN.{length};
 ghost use Rattle.base.specs.Answer.{verdict};
 ghost use Rattle.content.specs.Walk.{stepAt, joinAt};
-ghost use Rattle.content.specs.Whole.{BegunAt};
+ghost use Rattle.content.specs.Whole.{BegunAt, TwoAt};
 ghost use Rattle.content.specs.File.{begunAt};
 ghost use Rattle.content.specs.Numbers.{recordOf, beginningOf, steppedOf, Said};
 ghost use Rattle.content.specs.Found.{passed, foundBy, foundIn, leftIn, foundFrom, leftFrom, foundAt, leftAt, partOf};
@@ -52,10 +52,12 @@ use block::word_of;
 use file::file_numbered;
 use join::join_from;
 use join::join_record;
+use join::join_two;
 use measuring::Tail;
 use measuring::begun_at;
 use measuring::measure_units;
 use measuring::rest_length;
+use measuring::turn_in;
 use numbers::begun_by;
 use unit::Place;
 use unit::moved;
@@ -141,8 +143,8 @@ fn step_units(image: &[u8], w: Walk, join: &mut [u8]) -> Step
     }
 }
 
-// The record that begins with the segment, of k bytes with its control word, at the head of what is left of the current block.
-fn step_begun(image: &[u8], v: Walk, k: usize, join: &mut [u8]) -> Step
+// The record that begins with the segment, of k bytes with its control word, at the head of what is left of the current block: measured, then joined.
+fn step_segments(image: &[u8], v: Walk, k: usize, join: &mut [u8]) -> Step
     requires { ⌜ BegunAt (now image) v k ⌝ }
     ensures { λ r. ⌜ r ≡ stepAt (now (image .entry)) (length (now (join .entry))) v ⌝ }
     ensures { λ r. ⌜ now (join .exit) ≡ joinAt (now (image .entry)) (now (join .entry)) v ⌝ }
@@ -160,6 +162,41 @@ fn step_begun(image: &[u8], v: Walk, k: usize, join: &mut [u8]) -> Step
             Step::Joined(n + m, x)
         }
     }
+}
+
+// A record of two segments: the first, of k bytes with its control word, at the head of what is left of the current block, and the second, of j, at the head h of
+// the next.
+fn step_two(image: &[u8], v: Walk, k: usize, h: Walk, j: usize, join: &mut [u8]) -> Step
+    requires { ⌜ TwoAt (now image) v k h j ⌝ }
+    ensures { λ r. ⌜ r ≡ stepAt (now (image .entry)) (length (now (join .entry))) v ⌝ }
+    ensures { λ r. ⌜ now (join .exit) ≡ joinAt (now (image .entry)) (now (join .entry)) v ⌝ }
+{
+    let n = k - 5;
+    let m = j - 5;
+    let total = n + m;
+    if join.len() < total {
+        return Step::Refused(10);
+    }
+    join_two(image, v.at + 5, n, h.at + 5, m, join);
+    Step::Joined(total, moved(h, h.at + j, h.left - j))
+}
+
+// The record that begins with the segment, of k bytes with its control word, at the head of what is left of the current block. Most often the next block stands right
+// behind, and the segment at its head ends the record.
+fn step_begun(image: &[u8], v: Walk, k: usize, join: &mut [u8]) -> Step
+    requires { ⌜ BegunAt (now image) v k ⌝ }
+    ensures { λ r. ⌜ r ≡ stepAt (now (image .entry)) (length (now (join .entry))) v ⌝ }
+    ensures { λ r. ⌜ now (join .exit) ≡ joinAt (now (image .entry)) (now (join .entry)) v ⌝ }
+{
+    let n = k - 5;
+    let most = v.size as usize;
+    let u = moved(v, v.at + k, v.left - k);
+    let h = at_block(image, u);
+    let j = turn_in(image, u.left, b'3', most - n, h.format, h.at, h.left);
+    if j == 0 {
+        return step_segments(image, v, k, join);
+    }
+    step_two(image, v, k, h, j, join)
 }
 
 // The same, where no whole record stands in the current block, or at the head of the next: most often one begins there.
@@ -230,14 +267,14 @@ fn found_by(x: Step) -> Found
     }
 }
 
-// The record where a walk stands, if anywhere.
+// The record where a walk stands, if anywhere: one step behind a check of the whole image, which needs no quick way.
 fn found_in(image: &[u8], x: Place, join: &mut [u8]) -> Found
     ensures { λ r. ⌜ r ≡ foundIn (now (image .entry)) (length (now (join .entry))) x ⌝ }
     ensures { λ r. ⌜ now (join .exit) ≡ leftIn (now (image .entry)) (now (join .entry)) x ⌝ }
 {
     match x {
         Place::Nowhere => Found::Refused(answer(13)),
-        Place::At(w) => found_by(w.step(image, join)),
+        Place::At(w) => found_by(step_units(image, w, join)),
     }
 }
 

@@ -1,7 +1,7 @@
 // The record at a walk's place, by its numbers: where it stands or how long it is, and the walk behind it. It changes no byte.
 ghost use mathlib.Core.Path.{_≡_};
 ghost use Rattle.content.specs.Walk.{Inside, restAt, recordAt};
-ghost use Rattle.content.specs.Whole.{atBlock, standsAt, wholeIn, segmentIn, begunIn, BegunAt};
+ghost use Rattle.content.specs.Whole.{atBlock, standsAt, wholeIn, segmentIn, turnIn, begunIn, BegunAt};
 ghost use Rattle.content.specs.Measure.{tailBy, measuredBy};
 use crate::Walk;
 use crate::unit::Taken;
@@ -91,6 +91,31 @@ pub(crate) fn segment_in(image: &[u8], before: usize, format: u32, at: usize, le
     segment_length(&image[at..end], 0)
 }
 
+// The same, where the segment has this digit as its indicator, and at most so many bytes.
+pub(crate) fn turn_in(
+    image: &[u8],
+    before: usize,
+    digit: u8,
+    most: usize,
+    format: u32,
+    at: usize,
+    left: usize,
+) -> usize
+    ensures { λ r. ⌜ r ≡ turnIn (now (image .entry)) before digit most (standsAt format 0 at left) ⌝ }
+{
+    let k = segment_in(image, before, format, at, left);
+    if k == 0 {
+        return 0;
+    }
+    if image[at] != digit {
+        return 0;
+    }
+    if most < k - 5 {
+        return 0;
+    }
+    k
+}
+
 // The same, where the segment begins a record of at most R bytes.
 pub(crate) fn begun_at(image: &[u8], format: u32, size: u32, at: usize, left: usize) -> usize
     ensures { λ r. ⌜ r ≡ begunIn (now (image .entry)) (standsAt format size at left) ⌝ }
@@ -98,18 +123,7 @@ pub(crate) fn begun_at(image: &[u8], format: u32, size: u32, at: usize, left: us
     if size == 0 {
         return 0;
     }
-    let k = segment_in(image, 0, format, at, left);
-    if k == 0 {
-        return 0;
-    }
-    if image[at] != b'1' {
-        return 0;
-    }
-    let most = size as usize;
-    if most < k - 5 {
-        return 0;
-    }
-    k
+    turn_in(image, 0, b'1', size as usize, format, at, left)
 }
 
 // The rest of a record that may have `most` bytes more.

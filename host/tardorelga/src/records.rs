@@ -257,11 +257,13 @@ impl<'a> Records<'a> {
     /// The next record where the row has none: the first of a new row, or one that is joined.
     #[inline(never)]
     fn further(&mut self) -> Option<Cow<'a, [u8]>> {
-        if self.joining {
-            return self.step();
+        if !self.joining {
+            self.fill();
+            if let Some(record) = self.row.next(self.image) {
+                return Some(record);
+            }
         }
-        self.fill();
-        self.row.next(self.image).or_else(|| self.step())
+        self.step()
     }
 
     /// A new row.

@@ -11,8 +11,8 @@ answer-requires c κs = search founds
 enum-known-x : tie.Need-enum-known-x
 enum-known-x c = search founds
 
-step-requires : tie.Need-step-requires
-step-requires c κs = search founds
+step-units-requires : tie.Need-step-units-requires
+step-units-requires c κs = search founds
 
 found-by-requires : tie.Need-found-by-requires
 found-by-requires c κs = search founds
@@ -33,7 +33,7 @@ found-in-spec =
     enum-told
     answer-requires
     enum-known-x
-    step-requires
+    step-units-requires
     found-by-requires
     returns
     same-length

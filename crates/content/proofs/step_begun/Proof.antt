@@ -1,57 +1,51 @@
-use Rattle.content.proofs.Stepping.{steps-begun}
+use borrow.Author.Needs.{needs}
+use Rattle.content.proofs.Stepping.{two-at, begins-two}
 use Rattle.content.proofs.step_begun.Statement.{statement}
 use Rattle.content.proofs.step_begun.Tie as tie
 
 sub-n : tie.Need-sub-n
-sub-n c = search steps-begun
+sub-n c = search begins-two
 
 cast-most : tie.Need-cast-most
-cast-most c = search steps-begun
+cast-most c = search begins-two
 
 add-moved : tie.Need-add-moved
-add-moved c = search steps-begun
+add-moved c = search begins-two
 
 sub-moved : tie.Need-sub-moved
-sub-moved c = search steps-begun
+sub-moved c = search begins-two
 
 moved-requires : tie.Need-moved-requires
-moved-requires c κs = search steps-begun
+moved-requires c κs = search begins-two
 
-sub-rest-length : tie.Need-sub-rest-length
-sub-rest-length c = search steps-begun
+at-block-requires : tie.Need-at-block-requires
+at-block-requires c κs = search begins-two
 
-rest-length-requires : tie.Need-rest-length-requires
-rest-length-requires c κs = search steps-begun
+sub-turn-in : tie.Need-sub-turn-in
+sub-turn-in c = search begins-two
 
-enum-told : tie.Need-enum-told
-enum-told c = search steps-begun
+turn-in-requires : tie.Need-turn-in-requires
+turn-in-requires c κs = search begins-two
 
-enum-known-m : tie.Need-enum-known-m
-enum-known-m c = search steps-begun
-
-add-if1 : tie.Need-add-if1
-add-if1 c = search steps-begun
-
-returns : tie.Need-returns
-returns c = search steps-begun
-
-add-join-from : tie.Need-add-join-from
-add-join-from c = search steps-begun
-
-join-from-requires : tie.Need-join-from-requires
-join-from-requires c κs = (search steps-begun, search steps-begun)
-
-add-t15 : tie.Need-add-t15
-add-t15 c = search steps-begun
-
-returns-2 : tie.Need-returns-2
-returns-2 c = search steps-begun
+step-segments-requires : tie.Need-step-segments-requires
+step-segments-requires c κs = search begins-two
 
 same-length : tie.Need-same-length
-same-length c = search steps-begun
+same-length c = search begins-two
 
-returns-3 : tie.Need-returns-3
-returns-3 c = search steps-begun
+returns : tie.Need-returns
+returns c = search begins-two
+
+step-two-requires : tie.Need-step-two-requires
+step-two-requires c κs =
+    two-at _ _ _ _ _ _ (search needs) (c .before .before .before .before .moved .ensures) (c .before .before .before .at-block .ensures)
+    (c .before .before .turn-in .ensures) (c .before .if1 .left)
+
+same-length-2 : tie.Need-same-length-2
+same-length-2 c = search begins-two
+
+returns-2 : tie.Need-returns-2
+returns-2 c = search begins-two
 
 pub step-begun-spec : {M : Type 1} → statement M
 step-begun-spec =
@@ -62,15 +56,12 @@ step-begun-spec =
     add-moved
     sub-moved
     moved-requires
-    sub-rest-length
-    rest-length-requires
-    enum-told
-    enum-known-m
-    add-if1
-    returns
-    add-join-from
-    join-from-requires
-    add-t15
-    returns-2
+    at-block-requires
+    sub-turn-in
+    turn-in-requires
+    step-segments-requires
     same-length
-    returns-3)
+    returns
+    step-two-requires
+    same-length-2
+    returns-2)
