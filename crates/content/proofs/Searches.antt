@@ -29,7 +29,7 @@ use Rattle.content.specs.declared.section.Turn.{Turn}
 use Rattle.content.specs.declared.section.Extent.the-variants.{At as Block, Nowhere}
 use Rattle.content.proofs.Sections.{sees, unseen}
 use Rattle.content.proofs.Files.{header-item}
-use Rattle.content.proofs.Phases.{block-data}
+use Rattle.order.proofs.Groups.{block-data}
 
 -- ---- the items of an image by their places
 

@@ -40,6 +40,7 @@ use Rattle.volume.specs.Accepted.{All, MayEnd, behind}
 use Rattle.volume.proofs.Accepted.{accepted-iff}
 use Rattle.volume.proofs.Events.{handed-more, handed-none}
 use Rattle.order.proofs.Moves.{Stage, stage, before, within, fileOver, reelOver, Numbered, Quiet, Move, stays, nextReel, header1, nextFile as newFile, header2, datum, eof1, eov1, finish, due-goes}
+use Rattle.order.proofs.Groups.{labels, second-behind, block-data, mark-data, label-labels}
 use Rattle.reading.proofs.Stages.{View, view, Holds, isOpen, second-same, end-idle}
 use Rattle.reading.proofs.Steps.{view-quiet, events-quiet, label-none, context-none}
 use Rattle.reading.proofs.Legality.{header-long, Kept, kept-start, kept-step, image-end}
@@ -62,7 +63,7 @@ use Rattle.content.proofs.Records.{walks-end}
 use Rattle.content.proofs.Files.{header-item}
 use Rattle.content.proofs.Blocks.{Hands, block-hands, next-walks}
 use Rattle.content.proofs.Helds.{Sums, nextHeld, held-next, held-end, block-sums}
-use Rattle.content.proofs.Phases.{labels, second-behind, block-data, mark-data, label-labels, block-no-mark, record-some}
+use Rattle.content.proofs.Phases.{block-no-mark, record-some}
 
 -- ---- a whole image in order
 

@@ -48,6 +48,13 @@ stage ReelClosed = reelOver
 stage Over = fileOver
 stage Accepted = fileOver
 
+abbrev pub isWithin : Stage → Bool
+isWithin before = false
+isWithin named = false
+isWithin within = true
+isWithin fileOver = false
+isWithin reelOver = false
+
 -- behind the second label of a group its number is 2 or more, so that no first or second label follows there
 abbrev pub Numbered : Phase → Type 0
 Numbered Reel = Unit {0}
