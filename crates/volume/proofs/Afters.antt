@@ -4,12 +4,10 @@ use mathlib.Core.Bool.{Bool, true, false}
 use mathlib.Core.List.{List, [], _∷_, _++_}
 use Prim.Native.Nat.{ℕ, zero, suc, _+_, _≤_, _<_, min}
 use native.Mathlib.Omega.{arith}
-use native.Mathlib.Numerals.{add-one}
 use borrow.Author.Needs.{needs}
 use borrow.Author.Tests.{eqb-false, leb-false}
-use lib.Dec.{eqb, leb}
-use lib.ListN.{length, take, set, length-take}
-use lib.Seq.{set-out, take-suc-set}
+use lib.Dec.{leb}
+use lib.ListN.{length}
 use Rattle.base.specs.If.{ifB, if-true, if-false, if-case, ap-if, so-true, so-false}
 use Rattle.base.specs.Part.{part}
 use Rattle.base.proofs.Faults.{or-second}
@@ -28,16 +26,8 @@ use Rattle.volume.specs.State.{State}
 use Rattle.volume.specs.Fault.{outcomeIn, volumeFault, contextFault, itemFault}
 use Rattle.volume.specs.Step.{stateAfter, namesAfter, filesAfter, goesOnAfter, firstAfter, secondAfter, countAfter, pendingAfter}
 use Rattle.volume.specs.Place.{labelAt, namesAt, contents}
-use Rattle.volume.specs.Walk.{Sized, Room, Small, Behind}
+use Rattle.volume.specs.Walk.{Sized, Behind}
 use Rattle.volume.proofs.Faults.{length-names}
-
--- a place past the sixteenth is not kept
-pub names-full : (t m : Bool) (names : List ℕ) (reels start : ℕ) → m ≡ t → m ≡ true → length names ≡ 16 → 16 ≤ reels
-    → names ≡ ifB t (set names reels start) names
-names-full t m names reels start e h l f =
-    sym (set-out names reels start (omega arith)) ∙ sym (if-true t (set names reels start) names (so-true m t e h))
-
-pub ruleset afters = (names-full, if-true, if-false, so-true, so-false, needs)
 
 -- ---- field by field
 
@@ -57,38 +47,32 @@ label-after s t start len kept z =
     (λ h. label-sized s start len (z h) ∙ sym (if-true t (part start len s) (labelAt s kept) h))
     (λ h. sym (if-false t (part start len s) (labelAt s kept) h))
 
--- the volume identifiers, with one more where there is room
-names-kept : (s names : List ℕ) (reels start len : ℕ) (t : Bool) → (t ≡ true → len ≡ 80) → (t ≡ true → reels < length names)
-    → namesAt s (take (ifB t (reels + 1) reels) (ifB t (set names reels start) names))
-    ≡ ifB t (namesAt s (take reels names) ++ (volumeOf (part start len s) ∷ [])) (namesAt s (take reels names))
+-- the volume identifiers, with one more
+names-kept : (s names : List ℕ) (start len : ℕ) (t : Bool) → (t ≡ true → len ≡ 80)
+    → namesAt s (ifB t (names ++ (start ∷ [])) names) ≡ ifB t (namesAt s names ++ (volumeOf (part start len s) ∷ [])) (namesAt s names)
 unfolding ifB
-names-kept s names reels start len true z r =
-    ap (λ (n : ℕ). namesAt s (take n (set names reels start))) (add-one reels)
-    ∙ ap (namesAt s) (take-suc-set names reels start (r refl))
-    ∙ names-append s (take reels names) start
-    ∙ ap (λ (l : List ℕ). namesAt s (take reels names) ++ (volumeOf l ∷ [])) (label-sized s start len (z refl))
-names-kept s names reels start len false z r = refl
+names-kept s names start len true z =
+    names-append s names start ∙ ap (λ (l : List ℕ). namesAt s names ++ (volumeOf l ∷ [])) (label-sized s start len (z refl))
+names-kept s names start len false z = refl
 
 -- ---- the whole state
 
 -- what the code makes of each field stands for the state behind the item
-pub contents-after : (s : List ℕ) (st : Reading) (p : Phase) (k : Kind) (start len : ℕ) (names : List ℕ) (reels files first second count pending : ℕ) (ongoing : Bool)
-    → Sized k len → (isKind k (vol 1) ≡ true → st .reels < length (st .names))
-    → names ≡ ifB (isKind k (vol 1)) (set (st .names) (st .reels) start) (st .names)
-    → reels ≡ ifB (isKind k (vol 1)) (st .reels + 1) (st .reels)
+pub contents-after : (s : List ℕ) (st : Reading) (p : Phase) (k : Kind) (start len files first second count pending : ℕ) (ongoing : Bool) (names : List ℕ)
+    → Sized k len
     → files ≡ ifB (isKind k (hdr 2)) (ifB (st .ongoing) (st .files) (st .files + 1)) (st .files)
     → ongoing ≡ ifB (isKind k (eov 1)) true (ifB (isKind k (eof 1)) false (st .ongoing))
     → first ≡ ifB (isKind k (hdr 1)) start (st .first)
     → second ≡ ifB (isKind k (hdr 2)) start (st .second)
     → count ≡ ifB (isKind k dataBlock) (st .count + 1) (ifB (isKind k (hdr 1)) 0 (st .count))
     → pending ≡ ifB (isKind k dataBlock) (outcomeIn (labelAt s (st .second)) (st .pending) (part start len s) .pending) (st .pending)
-    → contents s (record { phase = p; names = names; reels = reels; files = files; ongoing = ongoing; first = first; second = second; count = count; pending = pending })
-    ≡ stateAfter (contents s st) p k (part start len s)
+    → contents s (ifB (isKind k (vol 1)) (names ++ (start ∷ [])) names)
+    (record { first = first; second = second; count = count; pending = pending; files = files; phase = p; ongoing = ongoing })
+    ≡ stateAfter (contents s names st) p k (part start len s)
 unfolding contents stateAfter namesAfter filesAfter goesOnAfter firstAfter secondAfter countAfter pendingAfter
-contents-after s st p k start len names reels files first second count pending ongoing z room en er ef eo e1 e2 ec ep =
-    let a : namesAt s (take reels names) ≡ ifB (isKind k (vol 1)) (namesAt s (take (st .reels) (st .names)) ++ (volumeOf (part start len s) ∷ [])) (namesAt s (take (st .reels) (st .names)))
-    = ap (λ (n : ℕ). namesAt s (take n names)) er ∙ ap (λ (l : List ℕ). namesAt s (take (ifB (isKind k (vol 1)) (st .reels + 1) (st .reels)) l)) en
-    ∙ names-kept s (st .names) (st .reels) start len (isKind k (vol 1)) (z .volume) room in
+contents-after s st p k start len files first second count pending ongoing names z ef eo e1 e2 ec ep =
+    let a : namesAt s (ifB (isKind k (vol 1)) (names ++ (start ∷ [])) names) ≡ ifB (isKind k (vol 1)) (namesAt s names ++ (volumeOf (part start len s) ∷ [])) (namesAt s names)
+    = names-kept s names start len (isKind k (vol 1)) (z .volume) in
     let b : labelAt s first ≡ ifB (isKind k (hdr 1)) (part start len s) (labelAt s (st .first))
     = ap (labelAt s) e1 ∙ label-after s (isKind k (hdr 1)) start len (st .first) (z .first) in
     let d : labelAt s second ≡ ifB (isKind k (hdr 2)) (part start len s) (labelAt s (st .second))
@@ -99,10 +83,8 @@ contents-after s st p k start len names reels files first second count pending o
 if-most : (t : Bool) (a b m x : ℕ) → a ≤ m → b ≤ m → x ≡ ifB t a b → x ≤ m
 if-most t a b m x p q e = subst (λ (y : ℕ). y ≤ m) (sym e) (if-case (λ (y : ℕ). y ≤ m) t a b (λ _. p) (λ _. q))
 
-pub behind-made : (s : List ℕ) (st : Reading) (p : Phase) (k : Kind) (start len : ℕ) (names : List ℕ) (reels files first second count pending : ℕ) (ongoing : Bool)
-    → Sized k len → Room k st → Small st → length (st .names) ≡ 16
-    → names ≡ ifB (isKind k (vol 1)) (set (st .names) (st .reels) start) (st .names)
-    → reels ≡ ifB (isKind k (vol 1)) (st .reels + 1) (st .reels)
+pub behind-made : (s : List ℕ) (st : Reading) (p : Phase) (k : Kind) (start len files first second count pending : ℕ) (ongoing : Bool)
+    → Sized k len
     → files ≡ ifB (isKind k (hdr 2)) (ifB (st .ongoing) (st .files) (st .files + 1)) (st .files)
     → ongoing ≡ ifB (isKind k (eov 1)) true (ifB (isKind k (eof 1)) false (st .ongoing))
     → first ≡ ifB (isKind k (hdr 1)) start (st .first)
@@ -110,13 +92,10 @@ pub behind-made : (s : List ℕ) (st : Reading) (p : Phase) (k : Kind) (start le
     → count ≡ ifB (isKind k dataBlock) (st .count + 1) (ifB (isKind k (hdr 1)) 0 (st .count))
     → pending ≡ ifB (isKind k dataBlock) (outcomeIn (labelAt s (st .second)) (st .pending) (part start len s) .pending) (st .pending)
     → Behind s st p k start len
-    (record { phase = p; names = names; reels = reels; files = files; ongoing = ongoing; first = first; second = second; count = count; pending = pending })
-behind-made s st p k start len names reels files first second count pending ongoing z room small long en er ef eo e1 e2 ec ep =
+    (record { first = first; second = second; count = count; pending = pending; files = files; phase = p; ongoing = ongoing })
+behind-made s st p k start len files first second count pending ongoing z ef eo e1 e2 ec ep =
     record {
-      same = contents-after s st p k start len names reels files first second count pending ongoing z (λ v. omega (arith, room v, long)) en er ef eo e1 e2 ec ep;
-      reels =
-          subst (λ (y : ℕ). y ≤ mostReels) (sym er)
-          (if-case (λ (y : ℕ). y ≤ mostReels) (isKind k (vol 1)) _ _ (λ v. omega (arith, room v)) (λ _. small .reels));
+      same = λ names. contents-after s st p k start len files first second count pending ongoing names z ef eo e1 e2 ec ep;
       files = if-most _ _ _ _ _ (if-case (λ (y : ℕ). y ≤ st .files + 1) (st .ongoing) _ _ (λ _. omega arith) (λ _. omega arith)) (omega arith) ef;
       blocks = if-most _ _ _ _ _ (omega arith) (if-case (λ (y : ℕ). y ≤ st .count + 1) (isKind k (hdr 1)) _ _ (λ _. omega arith) (λ _. omega arith)) ec;
     }
@@ -140,11 +119,10 @@ names-room names l =
     (λ _ h. absurd (eqb-false 2 0 refl h)) (λ e _. leb-false mostReels (length names) e)
 
 -- so one without fault is at most the sixteenth
-pub room-for-name : (s : List ℕ) (st : Reading) (k : Kind) (l : List ℕ) (f : Fault) → f ≡ itemFault (contents s st) k l → f .number ≡ 0
-    → length (st .names) ≡ 16 → isKind k (vol 1) ≡ true → st .reels < mostReels
+pub room-for-name : (s names : List ℕ) (st : Reading) (k : Kind) (l : List ℕ) → itemFault (contents s names st) k l .number ≡ 0
+    → isKind k (vol 1) ≡ true → length names < mostReels
 unfolding itemFault contextFault isKind ifB contents
-room-for-name s st k l f e z n v =
-    let sound : itemFault (contents s st) k l .number ≡ 0 = ap (λ (x : Fault). x .number) (sym e) ∙ z in
-    let here : itemFault (contents s st) (vol 1) l .number ≡ 0 = subst (λ (j : Kind). itemFault (contents s st) j l .number ≡ 0) (kind-is k (vol 1) v) sound in
-    let few : length (namesAt s (take (st .reels) (st .names))) < 16 = names-room _ l (or-second (labelFault (vol 1) l) (volumeFault _ l) here) in
-    omega (arith, length-names s (take (st .reels) (st .names)), length-take (st .reels) (st .names))
+room-for-name s names st k l z v =
+    let here : itemFault (contents s names st) (vol 1) l .number ≡ 0 = subst (λ (j : Kind). itemFault (contents s names st) j l .number ≡ 0) (kind-is k (vol 1) v) z in
+    let few : length (namesAt s names) < 16 = names-room _ l (or-second (labelFault (vol 1) l) (volumeFault _ l) here) in
+    omega (arith, length-names s names)

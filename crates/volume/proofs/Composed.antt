@@ -14,15 +14,11 @@ use Rattle.block.specs.declared.Outcome.{Outcome}
 use Rattle.charset.specs.declared.Number.{Number}
 use Rattle.charset.specs.declared.Number.the-variants.{Value, Wrong}
 use Rattle.label.specs.Field.{volumeOf}
-use lib.ListN.{take}
-use Rattle.base.specs.declared.Verdict.{Verdict}
 use Rattle.label.specs.Judged.{labelFault}
 use Rattle.order.specs.declared.Kind.{Kind}
 use Rattle.volume.specs.Fault.{says, valueOf, lower, crossed, contextFault, itemFault}
 use Rattle.volume.specs.Place.{contents, labelAt, namesAt}
 use Rattle.volume.specs.declared.Reading.{Reading}
-use Rattle.volume.specs.declared.walk.Spot.{Spot}
-use Rattle.volume.specs.declared.walk.Turn.{Turn}
 use Rattle.volume.proofs.Faults.{value-some, value-none}
 
 pub says-value : (n v : ℕ) (x : Number) → x ≡ Value v → eqb v n ≡ says n x
@@ -63,10 +59,10 @@ outcome-is r f b n o g c m p pending l e h i j k = cc
 pub same-volume : (r : Bool) (v x y z : List ℕ) → r ≡ same v x → x ≡ volumeOf y → y ≡ z → r ≡ same v (volumeOf z)
 same-volume r v x y z e f g = cc
 
-pub item-is : (r a b : Fault) (image first second : List ℕ) (st : Reading) (k : Kind) (l : List ℕ) → r ≡ orElse a b → a ≡ labelFault k l
+pub item-is : (r a b : Fault) (image places first second : List ℕ) (st : Reading) (k : Kind) (l : List ℕ) → r ≡ orElse a b → a ≡ labelFault k l
     → b ≡ contextFault (record {
       phase = st .phase;
-      names = namesAt image (take (st .reels) (st .names));
+      names = namesAt image places;
       files = st .files;
       goesOn = st .ongoing;
       first = first;
@@ -74,15 +70,12 @@ pub item-is : (r a b : Fault) (image first second : List ℕ) (st : Reading) (k 
       count = st .count;
       pending = st .pending;
     }) k l
-    → first ≡ labelAt image (st .first) → second ≡ labelAt image (st .second) → r ≡ itemFault (contents image st) k l
+    → first ≡ labelAt image (st .first) → second ≡ labelAt image (st .second) → r ≡ itemFault (contents image places st) k l
 unfolding itemFault contents
-item-is r a b image first second st k l e f g h i = cc
-
-pub stopped : (v w : Verdict) (x : Spot) → v ≡ w → _≡_ {A = Turn} (record { on = false; verdict = v; spot = x }) (record { on = false; verdict = w; spot = x })
-stopped v w x e = λ i. record { on = false; verdict = e i; spot = x }
+item-is r a b image places first second st k l e f g h i = cc
 
 pub number-is : (o p : Outcome) → o ≡ p → _≡_ {A = Fault} (record { number = o .number; byte = 0 }) (fault (p .number) 0)
 unfolding fault
 number-is o p e = λ i. record { number = e i .number; byte = 0 }
 
-pub ruleset composed = (says-value, says-wrong, value-some, value-none, same-volume, item-is, stopped, number-is, value-is, crossed-is, lower-is, or-else-is, same-is, section-then, section-else, outcome-is)
+pub ruleset composed = (says-value, says-wrong, value-some, value-none, same-volume, item-is, number-is, value-is, crossed-is, lower-is, or-else-is, same-is, section-then, section-else, outcome-is)

@@ -8,8 +8,8 @@ use native.Mathlib.Numerals.{add-one}
 use borrow.Author.Needs.{needs}
 use borrow.Author.Tests.{le-leb, lt-leb}
 use lib.Dec.{leb}
-use lib.ListN.{length, take, drop, getD, length-take, drop-of-length-le}
-use lib.Seq.{drop-cons, length-take-le}
+use lib.ListN.{length, drop, getD, drop-of-length-le}
+use lib.Seq.{drop-cons}
 use Rattle.base.specs.If.{ifB, if-true, if-false, so-true, so-false}
 use Rattle.base.specs.Part.{same}
 use Rattle.base.specs.Answer.{fault}
@@ -84,17 +84,16 @@ unfolding namesAt
 length-names s [] = refl
 length-names s (a ∷ places) = ap suc (length-names s places)
 
-pub volume-many : (s places l : List ℕ) (reels : ℕ) → length places ≡ 16 → 16 ≤ reels
-    → fault 2 0 ≡ volumeFault (namesAt s (take reels places)) l
+pub volume-many : (s places l : List ℕ) → 16 ≤ length places → fault 2 0 ≡ volumeFault (namesAt s places) l
 unfolding volumeFault
-volume-many s places l reels h k =
-    let e : 16 ≤ length (namesAt s (take reels places)) = rw (length-names, length-take) (omega arith) in
-    sym (if-true _ _ _ (le-leb 16 (length (namesAt s (take reels places))) e))
+volume-many s places l k =
+    let e : 16 ≤ length (namesAt s places) = rw (length-names) k in
+    sym (if-true _ _ _ (le-leb 16 (length (namesAt s places)) e))
 
-few-names : (s places : List ℕ) (reels : ℕ) → reels < 16 → leb 16 (length (namesAt s (take reels places))) ≡ false
-few-names s places reels h =
-    let e : length (namesAt s (take reels places)) < 16 = rw (length-names, length-take) (omega arith) in
-    lt-leb 16 (length (namesAt s (take reels places))) e
+few-names : (s places : List ℕ) → length places < 16 → leb 16 (length (namesAt s places)) ≡ false
+few-names s places h =
+    let e : length (namesAt s places) < 16 = rw (length-names) h in
+    lt-leb 16 (length (namesAt s places)) e
 
 crossed-five : crossed 5 ≡ fault 6 5
 unfolding crossed ifB
@@ -104,18 +103,18 @@ crossed-none : crossed 0 ≡ fault 0 0
 unfolding crossed ifB
 crossed-none = refl
 
-pub volume-again : (s places l v : List ℕ) (reels : ℕ) (b : Bool) → reels < 16 → v ≡ volumeOf l
-    → b ≡ isAmong v (namesAt s (take reels places)) → b ≡ true → fault 6 5 ≡ volumeFault (namesAt s (take reels places)) l
+pub volume-again : (s places l v : List ℕ) (b : Bool) → length places < 16 → v ≡ volumeOf l
+    → b ≡ isAmong v (namesAt s places) → b ≡ true → fault 6 5 ≡ volumeFault (namesAt s places) l
 unfolding volumeFault
-volume-again s places l v reels b h e f g =
-    let t : isAmong (volumeOf l) (namesAt s (take reels places)) ≡ true = cc in
-    is-else _ _ _ _ (few-names s places reels h) (sym (ap crossed (if-true _ _ _ t) ∙ crossed-five))
+volume-again s places l v b h e f g =
+    let t : isAmong (volumeOf l) (namesAt s places) ≡ true = cc in
+    is-else _ _ _ _ (few-names s places h) (sym (ap crossed (if-true _ _ _ t) ∙ crossed-five))
 
-pub volume-new : (s places l v : List ℕ) (reels : ℕ) (b : Bool) → reels < 16 → v ≡ volumeOf l
-    → b ≡ isAmong v (namesAt s (take reels places)) → b ≡ false → fault 0 0 ≡ volumeFault (namesAt s (take reels places)) l
+pub volume-new : (s places l v : List ℕ) (b : Bool) → length places < 16 → v ≡ volumeOf l
+    → b ≡ isAmong v (namesAt s places) → b ≡ false → fault 0 0 ≡ volumeFault (namesAt s places) l
 unfolding volumeFault
-volume-new s places l v reels b h e f g =
-    let t : isAmong (volumeOf l) (namesAt s (take reels places)) ≡ false = cc in
-    is-else _ _ _ _ (few-names s places reels h) (sym (ap crossed (if-false _ _ _ t) ∙ crossed-none))
+volume-new s places l v b h e f g =
+    let t : isAmong (volumeOf l) (namesAt s places) ≡ false = cc in
+    is-else _ _ _ _ (few-names s places h) (sym (ap crossed (if-false _ _ _ t) ∙ crossed-none))
 
 pub ruleset volumes = (volume-many, volume-again, volume-new, needs)

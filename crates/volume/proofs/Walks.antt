@@ -1,23 +1,24 @@
 -- Laws of the walk's turns. Assumes nothing.
 use mathlib.Core.Path.{_≡_, refl, sym, ap, _∙_, subst}
 use mathlib.Core.Bool.{Bool, true, false, not, false≢true}
-use mathlib.Core.List.{List, [], _∷_}
+use mathlib.Core.List.{List, [], _∷_, _++_}
 use Prim.Native.Nat.{ℕ, _+_, _-_, _≤_, _<_}
 use native.Mathlib.Omega.{arith}
+use native.Mathlib.Numerals.{add-one}
 use borrow.Author.Needs.{needs}
-use borrow.Author.Tests.{ne-eqb, eq-eqb, eqb-true}
+use borrow.Author.Tests.{ne-eqb, eq-eqb, eqb-true, eqb-false}
 use mir.Val.{Fits}
-use mir.Syntax.{w64}
+use mir.Syntax.{w32, w64}
 use lib.Dec.{eqb}
-use lib.ListN.{length, take, drop, length-take}
-use lib.Seq.{drop-length, length-take-le}
-use Rattle.image.specs.Framing.{mostImage, head, opens, framing, framedFrom, framingFrom, items as allItems}
+use lib.ListN.{length, take, drop, set, length-take, length-append, length-set}
+use lib.Seq.{drop-length, length-take-le, take-suc-set}
+use Rattle.image.specs.Framing.{mostImage, mostReels, head, opens, framing, framedFrom, framingFrom, items as allItems}
 use Rattle.image.specs.declared.Frame.{Frame}
 use Rattle.image.proofs.Frames.{opens-right, framing-opened, framing-shut, framing-from, opens-small}
 use Rattle.order.specs.declared.Phase.the-variants.{Data, Reel}
 use Rattle.base.specs.If.{ifB, if-true, if-false, if-case}
 use Rattle.base.specs.Part.{part}
-use Rattle.base.specs.Answer.{verdict}
+use Rattle.base.specs.Answer.{fault, orElse, verdict}
 use Rattle.base.specs.declared.Verdict.{Verdict}
 use Rattle.base.specs.declared.Fault.{Fault}
 use Rattle.image.specs.Item.{Item, block, mark, reelEnd, broken, decode, shape}
@@ -32,6 +33,8 @@ use Rattle.order.specs.declared.Due.{Due}
 use Rattle.order.specs.declared.Due.the-variants.{To, Wrong}
 use Rattle.base.proofs.Parts.{part-within, length-part}
 use Rattle.label.specs.Name.{kindOf, named}
+use Rattle.label.specs.Table.{fieldsOf}
+use Rattle.label.specs.Judged.{labelFault, fieldFault, firstBad, accessOf, accessAt}
 use Rattle.volume.specs.declared.Reading.{Reading}
 use Rattle.volume.specs.declared.walk.Spot.{Spot}
 use Rattle.volume.specs.declared.walk.Turn.{Turn}
@@ -39,26 +42,22 @@ use Rattle.volume.specs.declared.blocks.Lengths.{Lengths}
 use Rattle.volume.specs.declared.blocks.Between.{Between}
 use Rattle.volume.specs.State.{State, start}
 use Rattle.volume.specs.Body.{body, between, toldBetween, Given, Inside, Skipped}
-use Rattle.volume.specs.Fault.{itemFault}
-use Rattle.volume.specs.Step.{Event, go, no, step, isDue, ordered, judged, kindIn, bytesIn, stateAfter, eventsOf}
+use Rattle.volume.specs.Fault.{itemFault, contextFault}
+use Rattle.volume.specs.Step.{Event, go, no, step, isDue, ordered, judged, kindIn, bytesIn, stateAfter, eventsOf, namesAfter, filesAfter, goesOnAfter, firstAfter, secondAfter, countAfter, pendingAfter}
 use Rattle.volume.specs.Run.{runs, answerOf, imageVerdict}
 use Rattle.volume.specs.Told.{isInside, endedIn, closedIn, framedIn, framedOr, toldNext, toldFrom}
 use Rattle.volume.specs.Place.{contents, labelAt, namesAt}
-use Rattle.volume.specs.Walk.{toldAt, toldStep, toldBy, toldDue, toldAfter, frame, frameAt, framedElse, lastTurn, BlockHere, BareHere, Begun, Past, Sized, Bounded, Small, Room, Ahead, Onward, Owes}
-use Rattle.volume.proofs.Reels.{told-whole}
+use Rattle.volume.specs.Walk.{toldAt, toldStep, toldBy, toldDue, toldEnd, toldAfter, placesAfter, frame, framedAt, framedElse, lastTurn, onTurn, bareTurn, phased, inPhase, Bare, BlockHere, BareHere, Begun, Walked, Past, Sized, Framed, Bounded, Small, Behind, Onward, Owes}
+use Rattle.volume.proofs.Reels.{told-whole, broken-undue}
 use Rattle.volume.proofs.Faults.{length-names}
 use Rattle.volume.proofs.Afters.{room-for-name}
 
 -- ---- counts
 
-pub small : (s : List ℕ) (x : Spot) (behind : ℕ) → Ahead s x behind → Small (x .state)
-small s x behind a =
-    let b : Bounded s (x .at) (x .item) (x .state) = a .bounded in
-    record {
-      reels = b .reels;
-      files = omega (arith, b .short, b .within, b .items, b .files);
-      blocks = omega (arith, b .short, b .within, b .items, b .blocks);
-    }
+pub small : (s : List ℕ) (x : Spot) (n : ℕ) → BlockHere s x n → Small (x .state)
+small s x n h =
+    let b : Bounded s (x .at) (x .item) (x .state) = h .bounded in
+    record { files = omega (arith, b .short, b .within, b .items, b .files); blocks = omega (arith, b .short, b .within, b .items, b .blocks) }
 
 -- ---- the framing from a spot on
 
@@ -107,136 +106,173 @@ unfolding endedIn
 ended-most p m =
     if-case (λ (r : ℕ). r ≤ m) (eqb m 0) _ _ (λ _. omega arith) (λ _. if-case (λ (r : ℕ). r ≤ m) (isInside p) _ _ (λ _. omega arith) (λ _. omega arith))
 
--- the frame of a spot has the reels of its state
-framed-here : (s : List ℕ) (x : Spot) (y : Frame) (f : Verdict) → Bounded s (x .at) (x .item) (x .state) → length (x .state .names) ≡ 16 → y ≡ frameAt x
-    → f ≡ framingFrom s (y .at) (y .item) (y .reels) (y .closed) → f ≡ framedIn (x .item) (contents s (x .state)) (decode (drop (x .at) s))
-unfolding framedIn contents
-framed-here s x y f b long e q =
-    let p : Phase = x .state .phase in
-    let m : ℕ = x .state .reels in
-    let names : length (namesAt s (take m (x .state .names))) ≡ m
-    = length-names s (take m (x .state .names)) ∙ length-take-le m (x .state .names) (omega (arith, b .reels)) in
+-- the framing from a place on
+framed-here : (s : List ℕ) (at item : ℕ) (p : Phase) (m : ℕ) (y : Frame) (f : Verdict) → Framed s at item m → y ≡ frame at item (endedIn p m) (closedIn p m)
+    → f ≡ framingFrom s (y .at) (y .item) (y .reels) (y .closed) → f ≡ framedAt s at item p m
+framed-here s at item p m y f b e q =
     q ∙ ap (λ (z : Frame). framingFrom s (z .at) (z .item) (z .reels) (z .closed)) e
-    ∙ framing-from s (x .at) (x .item) (endedIn p m) (closedIn p m) (b .short) (omega (arith, b .short, b .within, b .items)) (omega (arith, ended-most p m, b .reels))
-    ∙ ap (λ (n : ℕ). framedFrom (x .item) (endedIn p n) (closedIn p n) (decode (drop (x .at) s))) (sym names)
+    ∙ framing-from s at item (endedIn p m) (closedIn p m) (b .short) (omega (arith, b .short, b .within, b .items)) (omega (arith, ended-most p m, b .few))
 
-pub framed-good : (s : List ℕ) (x : Spot) (y : Frame) (f v : Verdict) → Bounded s (x .at) (x .item) (x .state) → length (x .state .names) ≡ 16 → y ≡ frameAt x
-    → f ≡ framingFrom s (y .at) (y .item) (y .reels) (y .closed) → f .number ≡ 0 → v ≡ framedElse s x v
-unfolding framedOr
-framed-good s x y f v b long e q z =
-    sym (if-true _ _ _ (eq-eqb _ 0 (ap (λ (g : Verdict). g .number) (sym (framed-here s x y f b long e q)) ∙ z)))
+pub framed-good : (s : List ℕ) (at item : ℕ) (p : Phase) (m : ℕ) (y : Frame) (f v : Verdict) → Framed s at item m → y ≡ frame at item (endedIn p m) (closedIn p m)
+    → f ≡ framingFrom s (y .at) (y .item) (y .reels) (y .closed) → f .number ≡ 0 → v ≡ framedElse s at item p m v
+framed-good s at item p m y f v b e q z =
+    sym (if-true _ _ _ (eq-eqb _ 0 (ap (λ (g : Verdict). g .number) (sym (framed-here s at item p m y f b e q)) ∙ z)))
 
-pub framed-bad : (s : List ℕ) (x : Spot) (y : Frame) (f v : Verdict) → Bounded s (x .at) (x .item) (x .state) → length (x .state .names) ≡ 16 → y ≡ frameAt x
-    → f ≡ framingFrom s (y .at) (y .item) (y .reels) (y .closed) → (f .number ≡ 0 → ⊥) → f ≡ framedElse s x v
-unfolding framedOr
-framed-bad s x y f v b long e q z =
-    let here : f ≡ framedIn (x .item) (contents s (x .state)) (decode (drop (x .at) s)) = framed-here s x y f b long e q in
+pub framed-bad : (s : List ℕ) (at item : ℕ) (p : Phase) (m : ℕ) (y : Frame) (f v : Verdict) → Framed s at item m → y ≡ frame at item (endedIn p m) (closedIn p m)
+    → f ≡ framingFrom s (y .at) (y .item) (y .reels) (y .closed) → (f .number ≡ 0 → ⊥) → f ≡ framedElse s at item p m v
+framed-bad s at item p m y f v b e q z =
+    let here : f ≡ framedAt s at item p m = framed-here s at item p m y f b e q in
     here ∙ sym (if-false _ _ _ (ne-eqb _ 0 (λ n. z (ap (λ (g : Verdict). g .number) here ∙ n))))
 
-pub stop-made : (s : List ℕ) (x : Spot) (v w : Verdict) (k b : ℕ) (r : Turn) → r ≡ lastTurn x w → w ≡ framedElse s x v → v ≡ verdict k (x .item) b
-    → r ≡ lastTurn x (framedElse s x (verdict k (x .item) b))
-stop-made s x v w k b r e f g = e ∙ ap (lastTurn x) (f ∙ ap (framedElse s x) g)
+pub ruleset frames = (is-due, is-undue, outside-reel, inside-reel, frame-none, frame-inside, frame-outside, framed-good, framed-bad, needs)
 
-pub ruleset frames = (is-due, is-undue, outside-reel, inside-reel, frame-none, frame-inside, frame-outside, framed-good, framed-bad, stop-made, needs)
+-- ---- the end of the walk
+
+pub end-good : (s names : List ℕ) (x : Spot) (f : Fault) → f .number ≡ 0 → verdict 0 0 0 ≡ toldEnd s names x f
+unfolding toldEnd
+end-good s names x f z = sym (if-true _ _ _ (eq-eqb _ 0 z))
+
+pub end-bad : (s names : List ℕ) (x : Spot) (f : Fault) (r : Verdict) → (f .number ≡ 0 → ⊥)
+    → r ≡ framedElse s (x .at) (x .item) (x .state .phase) (length names) (verdict (f .number) (x .item) (f .byte)) → r ≡ toldEnd s names x f
+unfolding toldEnd
+end-bad s names x f r z e = e ∙ sym (if-false _ _ _ (ne-eqb _ 0 z))
 
 -- ---- turns that stop
 
-owes-last : (s : List ℕ) (at : ℕ) (x : Spot) (v w : Verdict) (r : Turn) → r ≡ lastTurn x w → v ≡ w → Owes s at v r
-unfolding toldAfter ifB
-owes-last s at x v w r e q =
-    subst (Owes s at v) (sym e)
-    (record { same = sym q; onward = λ h. absurd (false≢true h); bounded = λ h. absurd (false≢true h) })
+-- a turn that ends with a number
+owes-last : (s names : List ℕ) (x : Spot) (v : Verdict) (number byte : ℕ) (r : Turn) → Bounded s (x .at) (x .item) (x .state) → r ≡ lastTurn x number byte
+    → v ≡ toldEnd s names x (fault number byte) → Owes s names (x .at) v r
+unfolding toldAfter placesAfter ifB fault
+owes-last s names x v number byte r b e q =
+    subst (Owes s names (x .at) v) (sym e)
+    (record { same = sym q; onward = λ h. absurd (false≢true h); bounded = b; few = λ h. h })
+
+-- the verdict of a refusal
+told-refused : (s names : List ℕ) (x : Spot) (number byte : ℕ) → (number ≡ 0 → ⊥)
+    → framedOr (x .item) (contents s names (x .state)) (decode (drop (x .at) s)) (verdict number (x .item) byte) ≡ toldEnd s names x (fault number byte)
+unfolding toldEnd framedOr framedIn contents fault
+told-refused s names x number byte z =
+    ap (λ (m : ℕ). framedElse s (x .at) (x .item) (x .state .phase) m (verdict number (x .item) byte)) (length-names s names)
+    ∙ sym (if-false _ _ _ (ne-eqb number 0 z))
 
 -- the verdict by a refused item
-told-stop : (s : List ℕ) (x : Spot) (behind k b : ℕ) → toldStep s x behind (no k b) ≡ framedElse s x (verdict k (x .item) b)
+told-stop : (s names : List ℕ) (x : Spot) (behind k b : ℕ) → (k ≡ 0 → ⊥) → toldStep s names x behind (no k b) ≡ toldEnd s names x (fault k b)
 unfolding toldStep toldNext
-told-stop s x behind k b = refl
+told-stop s names x behind k b z = told-refused s names x k b z
+
+not-three : _≡_ {A = ℕ} 3 0 → ⊥
+not-three = eqb-false 3 0 refl
 
 -- an item that is not due
-pub owes-undue : (s : List ℕ) (x : Spot) (k : Kind) (l : List ℕ) (behind : ℕ) (d : Due) (r : Turn) → d ≡ dueAfter (x .state .phase) k → d ≡ Wrong
-    → r ≡ lastTurn x (framedElse s x (verdict 3 (x .item) 0)) → Owes s (x .at) (toldBy s x k l behind) r
+undue-told : (s names : List ℕ) (x : Spot) (k : Kind) (l : List ℕ) (behind : ℕ) (d : Due) → d ≡ dueAfter (x .state .phase) k → d ≡ Wrong
+    → toldBy s names x k l behind ≡ toldEnd s names x (fault 3 0)
 unfolding toldBy ordered
-owes-undue s x k l behind d r e w q =
-    owes-last s (x .at) x _ _ r q
-    (ap (λ (y : Due). toldStep s x behind (ordered (contents s (x .state)) k l y)) (sym e ∙ w) ∙ told-stop s x behind 3 0)
+undue-told s names x k l behind d e w =
+    ap (λ (y : Due). toldStep s names x behind (ordered (contents s names (x .state)) k l y)) (sym e ∙ w) ∙ told-stop s names x behind 3 0 not-three
+
+pub owes-undue : (s names : List ℕ) (x : Spot) (k : Kind) (l : List ℕ) (n behind : ℕ) (d : Due) (r : Turn) → BlockHere s x n → d ≡ dueAfter (x .state .phase) k → d ≡ Wrong
+    → r ≡ lastTurn x 3 0 → Owes s names (x .at) (toldBy s names x k l behind) r
+owes-undue s names x k l n behind d r h e w q = owes-last s names x _ 3 0 r (h .bounded) q (undue-told s names x k l behind d e w)
 
 -- an item with a fault
-pub owes-fault : (s : List ℕ) (x : Spot) (p : Phase) (k : Kind) (l m : List ℕ) (behind : ℕ) (f : Fault) (r : Turn) → m ≡ l → f ≡ itemFault (contents s (x .state)) k m
-    → (f .number ≡ 0 → ⊥) → r ≡ lastTurn x (framedElse s x (verdict (f .number) (x .item) (f .byte))) → Owes s (x .at) (toldDue s x p k l behind) r
+pub owes-fault : (s names : List ℕ) (x : Spot) (p : Phase) (k : Kind) (n : ℕ) (f : Fault) (r : Turn) → BlockHere s x n
+    → f ≡ itemFault (contents s names (x .state)) k (take (x .at + 3 + n - (x .at + 3)) (drop (x .at + 3) s))
+    → (f .number ≡ 0 → ⊥) → r ≡ lastTurn x (f .number) (f .byte) → Owes s names (x .at) (toldDue s names x p k (part (x .at + 3) n s) (x .at + 3 + n)) r
 unfolding toldDue judged
-owes-fault s x p k l m behind f r i e z q =
-    let same : itemFault (contents s (x .state)) k l ≡ f = ap (itemFault (contents s (x .state)) k) (sym i) ∙ sym e in
-    owes-last s (x .at) x _ _ r q
-    (ap (λ (y : Fault). toldStep s x behind (judged (contents s (x .state)) p k l y)) same
-    ∙ ap (toldStep s x behind) (if-false _ _ _ (ne-eqb (f .number) 0 z))
-    ∙ told-stop s x behind (f .number) (f .byte))
+owes-fault s names x p k n f r h e z q =
+    let t : State = contents s names (x .state) in
+    let l : List ℕ = part (x .at + 3) n s in
+    let same : itemFault t k l ≡ f = ap (itemFault t k) (sym (part-within (x .at + 3) n s)) ∙ sym e in
+    owes-last s names x _ (f .number) (f .byte) r (h .bounded) q
+    (ap (λ (y : Fault). toldStep s names x (x .at + 3 + n) (judged t p k l y)) same
+    ∙ ap (toldStep s names x (x .at + 3 + n)) (if-false _ _ _ (ne-eqb (f .number) 0 z)) ∙ told-stop s names x (x .at + 3 + n) (f .number) (f .byte) z)
 
 -- ---- turns that go on
 
-told-on : (s : List ℕ) (x : Spot) (behind : ℕ) (t : State) (es : List Event) → toldStep s x behind (go t es) ≡ toldFrom (x .item + 1) t (decode (drop behind s))
+told-on : (s names : List ℕ) (x : Spot) (behind : ℕ) (t : State) (es : List Event) → toldStep s names x behind (go t es) ≡ toldFrom (x .item + 1) t (decode (drop behind s))
 unfolding toldStep toldNext
-told-on s x behind t es = refl
+told-on s names x behind t es = refl
 
--- an item without fault
-pub owes-on : (s : List ℕ) (x : Spot) (p : Phase) (k : Kind) (start len : ℕ) (m : List ℕ) (behind : ℕ) (f : Fault) (r : Turn) → m ≡ part start len s
-    → f ≡ itemFault (contents s (x .state)) k m → f .number ≡ 0 → Ahead s x behind → Onward s x p k start len behind r
-    → Owes s (x .at) (toldDue s x p k (part start len s) behind) r
-unfolding toldDue judged toldAfter toldAt
-owes-on s x p k start len m behind f r i e z a o =
-    let l : List ℕ = part start len s in
-    let t : State = contents s (x .state) in
-    let same : itemFault t k l ≡ f = ap (itemFault t k) (sym i) ∙ sym e in
+pub onward-made : (s : List ℕ) (x : Spot) (p : Phase) (k : Kind) (n : ℕ) (t : Reading) (b : Bool) (r : Turn)
+    → Behind s (x .state) p k (x .at + 3) n t → b ≡ isKind k (vol 1) → r ≡ onTurn (x .at + 3 + n) (x .item + 1) t b (x .at + 3) → Onward s x p k n r
+onward-made s x p k n t b r h e q =
+    subst (Onward s x p k n) (sym q) (record { on = refl; at = refl; item = refl; named = e; label = refl; behind = h })
+
+-- one more name where there is room for it
+length-places : (t : Bool) (names : List ℕ) (a m : ℕ) → (t ≡ true → length names < m) → length names ≤ m → length (ifB t (names ++ (a ∷ [])) names) ≤ m
+length-places t names a m f h =
+    if-case (λ (l : List ℕ). length l ≤ m) t _ _ (λ e. omega (arith, length-append names (a ∷ []), f e)) (λ _. h)
+
+pub owes-on : (s names : List ℕ) (x : Spot) (p : Phase) (k : Kind) (n : ℕ) (f : Fault) (r : Turn) → BlockHere s x n
+    → f ≡ itemFault (contents s names (x .state)) k (take (x .at + 3 + n - (x .at + 3)) (drop (x .at + 3) s))
+    → f .number ≡ 0 → Onward s x p k n r → Owes s names (x .at) (toldDue s names x p k (part (x .at + 3) n s) (x .at + 3 + n)) r
+unfolding toldDue judged toldAfter toldAt placesAfter
+owes-on s names x p k n f r h e z o =
+    let t : State = contents s names (x .state) in
+    let l : List ℕ = part (x .at + 3) n s in
+    let behind : ℕ = x .at + 3 + n in
+    let same : itemFault t k l ≡ f = ap (itemFault t k) (sym (part-within (x .at + 3) n s)) ∙ sym e in
+    let sound : itemFault t k l .number ≡ 0 = ap (λ (y : Fault). y .number) same ∙ z in
+    let places : ifB (r .named) (names ++ (r .label ∷ [])) names ≡ ifB (isKind k (vol 1)) (names ++ ((x .at + 3) ∷ [])) names
+    = ap (λ (b : Bool). ifB b (names ++ (r .label ∷ [])) names) (o .named) ∙ ap (λ (a : ℕ). ifB (isKind k (vol 1)) (names ++ (a ∷ [])) names) (o .label) in
+    let b : Bounded s (x .at) (x .item) (x .state) = h .bounded in
     record {
       same =
           if-true _ _ _ (o .on)
-          ∙ ap (λ (n : ℕ). toldFrom n (contents s (r .spot .state)) (decode (drop (r .spot .at) s))) (o .item)
-          ∙ ap (λ (u : State). toldFrom (x .item + 1) u (decode (drop (r .spot .at) s))) (o .same)
-          ∙ ap (λ (n : ℕ). toldFrom (x .item + 1) (stateAfter t p k l) (decode (drop n s))) (o .at)
-          ∙ sym (told-on s x behind (stateAfter t p k l) (eventsOf t k l))
-          ∙ sym (ap (toldStep s x behind) (if-true _ _ _ (eq-eqb (f .number) 0 z)))
-          ∙ ap (λ (y : Fault). toldStep s x behind (judged t p k l y)) (sym same);
-      onward = λ _. subst (λ (n : ℕ). x .at < n) (sym (o .at)) (a .onward);
-      bounded = λ _. o .bounded;
+          ∙ ap (λ (m : ℕ). toldFrom m (contents s (ifB (r .named) (names ++ (r .label ∷ [])) names) (r .spot .state)) (decode (drop (r .spot .at) s))) (o .item)
+          ∙ ap (λ (m : ℕ). toldFrom (x .item + 1) (contents s (ifB (r .named) (names ++ (r .label ∷ [])) names) (r .spot .state)) (decode (drop m s))) (o .at)
+          ∙ ap (λ (ns : List ℕ). toldFrom (x .item + 1) (contents s ns (r .spot .state)) (decode (drop behind s))) places
+          ∙ ap (λ (u : State). toldFrom (x .item + 1) u (decode (drop behind s))) (o .behind .same names)
+          ∙ sym (told-on s names x behind (stateAfter t p k l) (eventsOf t k l))
+          ∙ sym (ap (toldStep s names x behind) (if-true _ _ _ (eq-eqb (f .number) 0 z)))
+          ∙ ap (λ (y : Fault). toldStep s names x behind (judged t p k l y)) (sym same);
+      onward = λ _. omega (arith, o .at);
+      bounded =
+          record {
+            short = b .short;
+            within = omega (arith, o .at, h .within);
+            items = omega (arith, o .at, o .item, b .items);
+            files = omega (arith, o .item, o .behind .files, b .files);
+            blocks = omega (arith, o .item, o .behind .blocks, b .blocks);
+          };
+      few = λ most. subst (λ (ns : List ℕ). length ns ≤ mostReels) (sym places)
+          (length-places (isKind k (vol 1)) names (x .at + 3) mostReels (room-for-name s names (x .state) k l sound) most);
     }
 
 -- an item that is due owes what its judgement owes
-pub owes-due : (s : List ℕ) (x : Spot) (p : Phase) (k : Kind) (l : List ℕ) (behind : ℕ) (d : Due) (r : Turn) → d ≡ dueAfter (x .state .phase) k → d ≡ To p
-    → Owes s (x .at) (toldDue s x p k l behind) r → Owes s (x .at) (toldBy s x k l behind) r
+pub owes-due : (s names : List ℕ) (x : Spot) (p : Phase) (k : Kind) (l : List ℕ) (behind : ℕ) (d : Due) (r : Turn) → d ≡ dueAfter (x .state .phase) k → d ≡ To p
+    → Owes s names (x .at) (toldDue s names x p k l behind) r → Owes s names (x .at) (toldBy s names x k l behind) r
 unfolding toldBy toldDue ordered
-owes-due s x p k l behind d r e q o =
-    subst (λ (v : Verdict). Owes s (x .at) v r)
-    (sym (ap (λ (y : Due). toldStep s x behind (ordered (contents s (x .state)) k l y)) (sym e ∙ q))) o
-
--- there is room for the name of a volume label without fault
-pub room-here : (s : List ℕ) (x : Spot) (k : Kind) (m : List ℕ) (f : Fault) → length (x .state .names) ≡ 16 → f ≡ itemFault (contents s (x .state)) k m → f .number ≡ 0
-    → Room k (x .state)
-room-here s x k m f n e z = room-for-name s (x .state) k m f e z n
+owes-due s names x p k l behind d r e q o =
+    subst (λ (v : Verdict). Owes s names (x .at) v r)
+    (sym (ap (λ (y : Due). toldStep s names x behind (ordered (contents s names (x .state)) k l y)) (sym e ∙ q))) o
 
 -- ---- the end of the image
 
-pub owes-end : (s : List ℕ) (x : Spot) (d : Due) (p : Phase) (v : Verdict) (r : Turn) → length s ≤ x .at → d ≡ dueAfter (x .state .phase) endOfImage → d ≡ To p
-    → v ≡ verdict 0 0 0 → r ≡ lastTurn x v → Owes s (x .at) (toldAt s x) r
-unfolding toldAt toldFrom isDue contents
-owes-end s x d p v r h e q f t =
-    owes-last s (x .at) x _ _ r t
-    (ap (toldFrom (x .item) (contents s (x .state))) (decode-past s (x .at) h) ∙ if-true _ _ _ (ap isDue (sym e ∙ q)) ∙ sym f)
+pub owes-end : (s names : List ℕ) (x : Spot) (d : Due) (p : Phase) (r : Turn) → Bounded s (x .at) (x .item) (x .state) → length s ≤ x .at
+    → d ≡ dueAfter (x .state .phase) endOfImage → d ≡ To p → r ≡ lastTurn x 0 0 → Owes s names (x .at) (toldAt s names x) r
+unfolding toldAt toldFrom isDue contents toldEnd fault ifB
+owes-end s names x d p r b h e q t =
+    owes-last s names x _ 0 0 r b t
+    (ap (toldFrom (x .item) (contents s names (x .state))) (decode-past s (x .at) h) ∙ if-true _ _ _ (ap isDue (sym e ∙ q)))
 
-pub owes-early : (s : List ℕ) (x : Spot) (d : Due) (r : Turn) → length s ≤ x .at → d ≡ dueAfter (x .state .phase) endOfImage → d ≡ Wrong
-    → r ≡ lastTurn x (framedElse s x (verdict 3 (x .item) 0)) → Owes s (x .at) (toldAt s x) r
+pub owes-early : (s names : List ℕ) (x : Spot) (d : Due) (r : Turn) → Bounded s (x .at) (x .item) (x .state) → length s ≤ x .at
+    → d ≡ dueAfter (x .state .phase) endOfImage → d ≡ Wrong → r ≡ lastTurn x 3 0 → Owes s names (x .at) (toldAt s names x) r
 unfolding toldAt toldFrom isDue contents
-owes-early s x d r h e q t =
-    let t′ : State = contents s (x .state) in
-    owes-last s (x .at) x _ _ r t
+owes-early s names x d r b h e q t =
+    let t′ : State = contents s names (x .state) in
+    owes-last s names x _ 3 0 r b t
     (ap (toldFrom (x .item) t′) (decode-past s (x .at) h) ∙ if-false _ _ _ (ap isDue (sym e ∙ q))
-    ∙ ap (λ (xs : List Item). framedOr (x .item) t′ xs (verdict 3 (x .item) 0)) (sym (decode-past s (x .at) h)))
+    ∙ ap (λ (xs : List Item). framedOr (x .item) t′ xs (verdict 3 (x .item) 0)) (sym (decode-past s (x .at) h))
+    ∙ told-refused s names x 3 0 not-three)
 
 -- ---- the item that stands at a spot
 
-told-item : (s : List ℕ) (x : Spot) (y : Item) (behind : ℕ) → decode (drop (x .at) s) ≡ y ∷ decode (drop behind s)
-    → toldBy s x (kindIn (x .state .phase) y) (bytesIn y) behind ≡ toldAt s x
+told-item : (s names : List ℕ) (x : Spot) (y : Item) (behind : ℕ) → decode (drop (x .at) s) ≡ y ∷ decode (drop behind s)
+    → toldBy s names x (kindIn (x .state .phase) y) (bytesIn y) behind ≡ toldAt s names x
 unfolding toldBy toldStep toldAt toldFrom step contents
-told-item s x y behind h =
-    let t : State = contents s (x .state) in
+told-item s names x y behind h =
+    let t : State = contents s names (x .state) in
     ap (λ (xs : List Item). toldNext (x .item) t xs (step t y) (λ u. toldFrom (x .item + 1) u (decode (drop behind s)))) h
     ∙ sym (ap (toldFrom (x .item) t) h)
 
@@ -270,83 +306,127 @@ sized-block s x n k h e =
     = λ f m d o q. sym long ∙ sized-of (x .state .phase) l f m d o (ap (λ (j : Kind). isKind j (kind f m)) (sym e) ∙ q) in
     record { volume = at 1 1 refl refl; first = at 3 1 refl refl; second = at 3 2 refl refl }
 
-pub ahead-block : (s : List ℕ) (x : Spot) (n : ℕ) → BlockHere s x n → Ahead s x (x .at + 3 + n)
-ahead-block s x n h = record { bounded = h .bounded; onward = omega arith; within = h .within }
-
-pub owes-block : (s : List ℕ) (x : Spot) (n : ℕ) (k : Kind) (r : Turn) → BlockHere s x n
+pub owes-block : (s names : List ℕ) (x : Spot) (n : ℕ) (k : Kind) (r : Turn) → BlockHere s x n
     → k ≡ kindIn (x .state .phase) (block (take (x .at + 3 + n - (x .at + 3)) (drop (x .at + 3) s)))
-    → Owes s (x .at) (toldBy s x k (part (x .at + 3) n s) (x .at + 3 + n)) r → Owes s (x .at) (toldAt s x) r
+    → Owes s names (x .at) (toldBy s names x k (part (x .at + 3) n s) (x .at + 3 + n)) r → Owes s names (x .at) (toldAt s names x) r
 unfolding bytesIn
-owes-block s x n k r h e o =
+owes-block s names x n k r h e o =
     let l : List ℕ = part (x .at + 3) n s in
     let same : k ≡ kindIn (x .state .phase) (block l) = e ∙ ap (λ (m : List ℕ). kindIn (x .state .phase) (block m)) (part-within (x .at + 3) n s) in
-    subst (λ (v : Verdict). Owes s (x .at) v r)
-    (ap (λ (j : Kind). toldBy s x j l (x .at + 3 + n)) same ∙ told-item s x (block l) (x .at + 3 + n) (h .here)) o
+    subst (λ (v : Verdict). Owes s names (x .at) v r)
+    (ap (λ (j : Kind). toldBy s names x j l (x .at + 3 + n)) same ∙ told-item s names x (block l) (x .at + 3 + n) (h .here)) o
 
 -- ---- items without bytes
 
-pub owes-bare : (s : List ℕ) (x : Spot) (family behind : ℕ) (r : Turn) → BareHere s x family behind
-    → Owes s (x .at) (toldBy s x (kind family 0) (part 0 0 s) behind) r → Owes s (x .at) (toldAt s x) r
-unfolding part
-owes-bare s x family behind r h o =
+bare-told : (s names : List ℕ) (x : Spot) (family : ℕ) → BareHere s x family → toldBy s names x (kind family 0) [] (x .at + 3) ≡ toldAt s names x
+bare-told s names x family h =
     let y : Item = h .here .0 in
-    subst (λ (v : Verdict). Owes s (x .at) v r)
-    (ap (λ (l : List ℕ). toldBy s x (kind family 0) l behind) (sym (h .here .3))
-    ∙ ap (λ (j : Kind). toldBy s x j (bytesIn y) behind) (sym (h .here .2))
-    ∙ told-item s x y behind (h .here .1)) o
+    ap (λ (l : List ℕ). toldBy s names x (kind family 0) l (x .at + 3)) (sym (h .here .3))
+    ∙ ap (λ (j : Kind). toldBy s names x j (bytesIn y) (x .at + 3)) (sym (h .here .2))
+    ∙ told-item s names x y (x .at + 3) (h .here .1)
 
--- no label of a kind that is kept
-sized-bare : (f : ℕ) → isKind (kind f 0) (vol 1) ≡ false → isKind (kind f 0) (hdr 1) ≡ false → isKind (kind f 0) (hdr 2) ≡ false → Sized (kind f 0) 0
-sized-bare f a b c =
-    record { volume = λ h. absurd (false≢true (sym a ∙ h)); first = λ h. absurd (false≢true (sym b ∙ h)); second = λ h. absurd (false≢true (sym c ∙ h)) }
+pub bare-undue : (s names : List ℕ) (x : Spot) (family : ℕ) (d : Due) (r : Turn) → BareHere s x family → d ≡ dueAfter (x .state .phase) (kind family 0) → d ≡ Wrong
+    → r ≡ lastTurn x 3 0 → Owes s names (x .at) (toldAt s names x) r
+bare-undue s names x family d r h e w q =
+    owes-last s names x _ 3 0 r (h .bounded) q (sym (bare-told s names x family h) ∙ undue-told s names x (kind family 0) [] (x .at + 3) d e w)
 
-pub bare-mark : (s : List ℕ) (x : Spot) (p : Shape) → Bounded s (x .at) (x .item) (x .state) → x .at < length s → p ≡ shape (drop (x .at) s) → p ≡ Mark
-    → BareHere s x 9 (x .at + 3)
-unfolding isKind kindIn bytesIn
+pub bare-on : (s names : List ℕ) (x : Spot) (family : ℕ) (d : Due) (p : Phase) (r : Turn) → BareHere s x family
+    → d ≡ dueAfter (x .state .phase) (kind family 0) → d ≡ To p → r ≡ bareTurn x p
+    → Owes s names (x .at) (toldAt s names x) r
+unfolding toldBy ordered judged toldAfter toldAt placesAfter ifB contents
+bare-on s names x family d p r h e w q =
+    let u : State = contents s names (x .state) in
+    let k : Kind = kind family 0 in
+    let behind : ℕ = x .at + 3 in
+    let b : Bounded s (x .at) (x .item) (x .state) = h .bounded in
+    let bare : Bare u p k = h .bare u p in
+    let told : toldAt s names x ≡ toldFrom (x .item + 1) (phased u p) (decode (drop behind s))
+    = sym (bare-told s names x family h)
+    ∙ ap (λ (y : Due). toldStep s names x behind (ordered u k [] y)) (sym e ∙ w)
+    ∙ ap (toldStep s names x behind) (if-true _ _ _ (eq-eqb _ 0 (bare .sound)))
+    ∙ told-on s names x behind (stateAfter u p k []) (eventsOf u k [])
+    ∙ ap (λ (y : State). toldFrom (x .item + 1) y (decode (drop behind s))) (bare .same) in
+    subst (Owes s names (x .at) (toldAt s names x)) (sym q)
+    (record {
+      same = sym told;
+      onward = λ _. omega arith;
+      bounded =
+          record {
+            short = b .short;
+            within = h .within;
+            items = omega (arith, b .items);
+            files = omega (arith, b .files);
+            blocks = omega (arith, b .blocks);
+          };
+      few = λ most. most;
+    })
+
+pub bare-mark : (s : List ℕ) (x : Spot) (p : Shape) → Bounded s (x .at) (x .item) (x .state) → x .at < length s → p ≡ shape (drop (x .at) s) → p ≡ Mark → BareHere s x 9
+unfolding isKind kindIn bytesIn itemFault orElse labelFault fieldFault fieldsOf firstBad accessOf accessAt contextFault ifB fault stateAfter namesAfter filesAfter goesOnAfter firstAfter secondAfter countAfter pendingAfter
 bare-mark s x p b m e q =
     record {
-      ahead = record { bounded = b; onward = omega arith; within = mark-within s (x .at) p e q };
-      bare = sized-bare 9 refl refl refl;
+      bounded = b;
+      within = mark-within s (x .at) p e q;
       here = (mark, decode-mark s (x .at) p m e q, refl, refl);
+      bare = λ t p. record { sound = refl; same = refl };
     }
 
 pub bare-reel-end : (s : List ℕ) (x : Spot) (p : Shape) → Bounded s (x .at) (x .item) (x .state) → x .at < length s → p ≡ shape (drop (x .at) s) → p ≡ ReelEnd
-    → BareHere s x 10 (x .at + 3)
-unfolding isKind kindIn bytesIn
+    → BareHere s x 10
+unfolding isKind kindIn bytesIn itemFault orElse labelFault fieldFault fieldsOf firstBad accessOf accessAt contextFault ifB fault stateAfter namesAfter filesAfter goesOnAfter firstAfter secondAfter countAfter pendingAfter
 bare-reel-end s x p b m e q =
     record {
-      ahead = record { bounded = b; onward = omega arith; within = reel-end-within s (x .at) p e q };
-      bare = sized-bare 10 refl refl refl;
+      bounded = b;
+      within = reel-end-within s (x .at) p e q;
       here = (reelEnd, decode-reel-end s (x .at) p m e q, refl, refl);
+      bare = λ t p. record { sound = refl; same = refl };
     }
 
-pub bare-broken : (s : List ℕ) (x : Spot) (p : Shape) → Bounded s (x .at) (x .item) (x .state) → x .at < length s → p ≡ shape (drop (x .at) s) → p ≡ Broken
-    → BareHere s x 0 (length s)
-unfolding isKind kindIn bytesIn
-bare-broken s x p b m e q =
-    record {
-      ahead = record { bounded = b; onward = m; within = omega arith };
-      bare = sized-bare 0 refl refl refl;
-      here = (
-        broken,
-        decode-broken s (x .at) p m e q ∙ ap (λ (xs : List Item). broken ∷ xs) (sym (decode-past s (length s) (omega arith))),
-        refl,
-        refl,
-      );
-    }
+-- what is broken is never due
+broken-wrong : (p : Phase) (d : Due) → d ≡ dueAfter p other → d ≡ Wrong
+broken-wrong p Wrong e = refl
+broken-wrong p (To q) e = absurd (broken-undue p q (sym e))
+
+pub owes-broken : (s names : List ℕ) (x : Spot) (p : Shape) (r : Turn) → Bounded s (x .at) (x .item) (x .state) → x .at < length s → p ≡ shape (drop (x .at) s) → p ≡ Broken
+    → r ≡ lastTurn x 3 0 → Owes s names (x .at) (toldAt s names x) r
+unfolding kindIn bytesIn
+owes-broken s names x p r b m e q t =
+    let here : decode (drop (x .at) s) ≡ broken ∷ decode (drop (length s) s)
+    = decode-broken s (x .at) p m e q ∙ ap (λ (xs : List Item). broken ∷ xs) (sym (decode-past s (length s) (omega arith))) in
+    owes-last s names x _ 3 0 r b t
+    (sym (told-item s names x broken (length s) here)
+    ∙ undue-told s names x other [] (length s) (dueAfter (x .state .phase) other) refl (broken-wrong (x .state .phase) _ refl))
 
 pub block-stands : (s : List ℕ) (x : Spot) (n : ℕ) (p : Shape) → Bounded s (x .at) (x .item) (x .state) → x .at < length s → p ≡ shape (drop (x .at) s) → p ≡ Block n
     → BlockHere s x n
 block-stands s x n p b m e q =
     record { bounded = b; here = decode-block s (x .at) n p m e q; within = block-within s (x .at) n p e q }
 
--- the place behind an item fits
-pub spot-fits : (s : List ℕ) (x : Spot) → Bounded s (x .at) (x .item) (x .state) → Fits w64 (x .at + 3)
-spot-fits s x b = record { fits = omega (arith, b .short, b .within) }
+-- the place behind an item fits, and one item more can be counted
+pub start-fits : (s : List ℕ) (x : Spot) (n : ℕ) → BlockHere s x n → Fits w64 (x .at + 3)
+start-fits s x n h = record { fits = omega (arith, h .bounded .short, h .within) }
 
-pub ruleset turns = (small, owes-undue, owes-fault, owes-on, owes-due, room-here, needs)
+pub end-fits : (s : List ℕ) (x : Spot) (n : ℕ) → BlockHere s x n → Fits w64 (x .at + 3 + n)
+end-fits s x n h = record { fits = omega (arith, h .bounded .short, h .within) }
 
-pub ruleset items = (owes-end, owes-early, kind-label, kind-data, sized-block, ahead-block, owes-block, owes-bare, bare-mark, bare-reel-end, bare-broken, block-stands, spot-fits, needs)
+pub item-fits : (s : List ℕ) (x : Spot) (n : ℕ) → BlockHere s x n → Fits w32 (x .item + 1)
+item-fits s x n h = record { fits = omega (arith, h .bounded .short, h .bounded .within, h .bounded .items) }
+
+pub block-within-image : (s : List ℕ) (x : Spot) (n : ℕ) → BlockHere s x n → x .at + 3 + n ≤ length s
+block-within-image s x n h = h .within
+
+pub bare-items : (s : List ℕ) (x : Spot) (family : ℕ) → BareHere s x family → x .item ≤ x .at
+bare-items s x family h = h .bounded .items
+
+pub bare-most : (s : List ℕ) (x : Spot) (family : ℕ) → BareHere s x family → x .at + 3 ≤ mostImage
+bare-most s x family h = omega (arith, h .bounded .short, h .within)
+
+pub passed : (x : Spot) (p : Phase) (t : Reading) (r : Turn) → t ≡ inPhase (x .state) p → r ≡ onTurn (x .at + 3) (x .item + 1) t false 0 → r ≡ bareTurn x p
+passed x p t r e q = q ∙ ap (λ (y : Reading). onTurn (x .at + 3) (x .item + 1) y false 0) e
+
+pub ruleset turns = (small, owes-undue, owes-fault, owes-on, owes-due, onward-made, start-fits, end-fits, item-fits, block-within-image, needs)
+
+pub ruleset items = (owes-end, owes-early, kind-label, kind-data, sized-block, owes-block, bare-undue, bare-on, bare-mark, bare-reel-end, owes-broken, block-stands, start-fits, end-fits, block-within-image, bare-items, bare-most, passed, needs)
 
 -- ---- data blocks in a row
 
@@ -359,29 +439,26 @@ pub past-data : (s : List ℕ) (x : Spot) (h : Lengths) (m : List ℕ) (b : Betw
     → Past s x
     (record {
       at = b .at;
-      item = b .item;
       state =
           record {
-            phase = Data;
-            names = x .state .names;
-            reels = x .state .reels;
-            files = x .state .files;
-            ongoing = x .state .ongoing;
             first = x .state .first;
             second = x .state .second;
             count = b .count;
             pending = b .pending;
+            files = x .state .files;
+            phase = Data;
+            ongoing = x .state .ongoing;
           };
+      item = b .item;
     })
 unfolding toldAt toldBetween contents labelAt
 past-data s x h m b e g k d w =
-    let t : State = contents s (x .state) in
-    let inData : contents s (x .state) ≡ body t (x .state .count) (x .state .pending)
-    = λ i. record { phase = d i; names = t .names; files = t .files; goesOn = t .goesOn; first = t .first; second = t .second; count = t .count; pending = t .pending } in
-    let given : Given h (t .second) = subst (Given h) e g in
     record {
-      same =
-          sym (k .same t given)
+      same = λ names.
+          let t : State = contents s names (x .state) in
+          let inData : contents s names (x .state) ≡ body t (x .state .count) (x .state .pending)
+          = λ i. record { phase = d i; names = t .names; files = t .files; goesOn = t .goesOn; first = t .first; second = t .second; count = t .count; pending = t .pending } in
+          sym (k .same t (subst (Given h) e g))
           ∙ sym (ap (λ (u : State). toldFrom (x .item) u (decode (drop (x .at) s))) inData);
       onward = k .onward;
       bounded =
@@ -389,56 +466,103 @@ past-data s x h m b e g k d w =
             short = w .short;
             within = k .inside .within;
             items = k .inside .items;
-            reels = w .reels;
             files = omega (arith, w .files, k .passed);
             blocks = k .inside .blocks;
           };
     }
 
 pub past-none : (s : List ℕ) (x : Spot) → Bounded s (x .at) (x .item) (x .state) → Past s x x
-past-none s x b = record { same = refl; onward = omega arith; bounded = b }
+past-none s x b = record { same = λ _. refl; onward = omega arith; bounded = b }
 
 pub ruleset pasts = (inside, past-data, past-none, needs)
 
 -- ---- the whole walk
 
-pub begun : (s names : List ℕ) → 5 ≤ length s → length s ≤ mostImage
-    → Begun s
+pub begun : (s : List ℕ) → 5 ≤ length s → length s ≤ mostImage
+    → Begun s []
     (record {
       at = 5;
+      state = record { first = length s; second = length s; count = 0; pending = 0; files = 0; phase = Reel; ongoing = false };
       item = 0;
-      state = record { phase = Reel; names = names; reels = 0; files = 0; ongoing = false; first = length s; second = length s; count = 0; pending = 0 };
     })
 unfolding toldAt allItems contents start namesAt labelAt part
-begun s names a b =
+begun s a b =
     let none : take 80 (drop (length s) s) ≡ [] = ap (take 80) (drop-length s) in
     record {
       same =
           ap (λ (u : State). toldFrom 0 u (decode (drop 5 s)))
           (λ i. record { phase = Reel; names = []; files = 0; goesOn = false; first = none i; second = none i; count = 0; pending = 0 });
-      bounded = record { short = b; within = a; items = omega arith; reels = omega arith; files = omega arith; blocks = omega arith };
+      bounded = record { short = b; within = a; items = omega arith; files = omega arith; blocks = omega arith };
     }
 
-pub walk-on : (s : List ℕ) (x y : Spot) (t : Turn) → Begun s x → Past s x y → Owes s (y .at) (toldAt s y) t → t .on ≡ true → Begun s (t .spot)
+pub walked-none : (s names : List ℕ) (x : Spot) → Begun s [] x → length names ≡ 16 → Walked s names 0 x
+walked-none s names x b e = record { begun = b; few = omega arith; kept = e }
+
+-- a turn that goes on leads to a spot from which the verdict is the same
+begun-after : (s names : List ℕ) (x y : Spot) (t : Turn) → Begun s names x → Past s x y → Owes s names (y .at) (toldAt s names y) t → t .on ≡ true
+    → Begun s (placesAfter names t) (t .spot)
 unfolding toldAfter
-walk-on s x y t b p o h =
-    record { same = sym (if-true _ _ _ h) ∙ o .same ∙ p .same ∙ b .same; bounded = o .bounded h }
+begun-after s names x y t b p o h = record { same = sym (if-true _ _ _ h) ∙ o .same ∙ p .same names ∙ b .same; bounded = o .bounded }
 
-pub walk-falls : (s : List ℕ) (x y : Spot) (t : Turn) → Past s x y → Owes s (y .at) (toldAt s y) t → t .on ≡ true → length s - t .spot .at < length s - x .at
-walk-falls s x y t p o h = omega (arith, p .onward, o .onward h, o .bounded h .within)
+pub walk-on : (s names : List ℕ) (reels : ℕ) (x y : Spot) (t : Turn) → Walked s names reels x → Past s x y
+    → Owes s (take reels names) (y .at) (toldAt s (take reels names) y) t → t .on ≡ true → t .named ≡ false → Walked s names reels (t .spot)
+unfolding placesAfter
+walk-on s names reels x y t w p o h n =
+    record {
+      begun = subst (λ (l : List ℕ). Begun s l (t .spot)) (if-false _ _ _ n) (begun-after s (take reels names) x y t (w .begun) p o h);
+      few = w .few;
+      kept = w .kept;
+    }
 
-pub walk-done : (s : List ℕ) (x y : Spot) (t : Turn) → Begun s x → Past s x y → Owes s (y .at) (toldAt s y) t → t .on ≡ false
-    → t .verdict ≡ toldFrom 0 start (allItems s)
+-- there is room for the name of a volume label that was passed
+pub walk-room : (s names : List ℕ) (reels : ℕ) (x y : Spot) (t : Turn) → Walked s names reels x
+    → Owes s (take reels names) (y .at) (toldAt s (take reels names) y) t → t .named ≡ true → reels < 16
+unfolding placesAfter
+walk-room s names reels x y t w o n =
+    let long : length (take reels names) ≡ reels = length-take-le reels names (omega (arith, w .few, w .kept)) in
+    let most : length (take reels names ++ (t .label ∷ [])) ≤ 16
+    = subst (λ (l : List ℕ). length l ≤ 16) (if-true _ _ _ n) (o .few (omega (arith, long, w .few))) in
+    omega (arith, length-append (take reels names) (t .label ∷ []), long, most)
+
+pub walk-named : (s names : List ℕ) (reels : ℕ) (x y : Spot) (t : Turn) → Walked s names reels x → Past s x y
+    → Owes s (take reels names) (y .at) (toldAt s (take reels names) y) t → t .on ≡ true → t .named ≡ true → Walked s (set names reels (t .label)) (reels + 1) (t .spot)
+unfolding placesAfter
+walk-named s names reels x y t w p o h n =
+    let room : reels < 16 = walk-room s names reels x y t w o n in
+    let places : take (reels + 1) (set names reels (t .label)) ≡ take reels names ++ (t .label ∷ [])
+    = ap (λ (m : ℕ). take m (set names reels (t .label))) (add-one reels) ∙ take-suc-set names reels (t .label) (omega (arith, w .kept)) in
+    record {
+      begun = subst (λ (l : List ℕ). Begun s l (t .spot)) (if-true _ _ _ n ∙ sym places) (begun-after s (take reels names) x y t (w .begun) p o h);
+      few = omega arith;
+      kept = length-set names reels (t .label) ∙ w .kept;
+    }
+
+pub walk-falls : (s names : List ℕ) (reels : ℕ) (x y : Spot) (t : Turn) → Past s x y → Owes s (take reels names) (y .at) (toldAt s (take reels names) y) t → t .on ≡ true
+    → length s - t .spot .at < length s - x .at
+walk-falls s names reels x y t p o h = omega (arith, p .onward, o .onward h, o .bounded .within)
+
+pub walk-framed : (s names : List ℕ) (reels : ℕ) (x y : Spot) (t : Turn) → Walked s names reels x
+    → Owes s (take reels names) (y .at) (toldAt s (take reels names) y) t → Framed s (t .spot .at) (t .spot .item) (length (take reels names))
+walk-framed s names reels x y t w o =
+    let b : Bounded s (t .spot .at) (t .spot .item) (t .spot .state) = o .bounded in
+    record { short = b .short; within = b .within; items = b .items; few = omega (arith, length-take-le reels names (omega (arith, w .few, w .kept)), w .few) }
+
+pub walk-done : (s names : List ℕ) (reels : ℕ) (x y : Spot) (t : Turn) (v : Verdict) → Walked s names reels x → Past s x y
+    → Owes s (take reels names) (y .at) (toldAt s (take reels names) y) t → t .on ≡ false → v ≡ toldEnd s (take reels names) (t .spot) (t .fault)
+    → v ≡ toldFrom 0 start (allItems s)
 unfolding toldAfter
-walk-done s x y t b p o h = sym (if-false _ _ _ h) ∙ o .same ∙ p .same ∙ b .same
+walk-done s names reels x y t v w p o h e = e ∙ sym (if-false _ _ _ h) ∙ o .same ∙ p .same (take reels names) ∙ w .begun .same
 
-pub still-bounded : (s : List ℕ) (x : Spot) → Begun s x → Bounded s (x .at) (x .item) (x .state)
-still-bounded s x b = b .bounded
+pub still-bounded : (s names : List ℕ) (reels : ℕ) (x : Spot) → Walked s names reels x → Bounded s (x .at) (x .item) (x .state)
+still-bounded s names reels x w = w .begun .bounded
 
 pub past-bounded : (s : List ℕ) (x y : Spot) → Past s x y → Bounded s (y .at) (y .item) (y .state)
 past-bounded s x y p = p .bounded
 
-pub ruleset walks = (begun, walk-on, walk-falls, walk-done, still-bounded, past-bounded, needs)
+pub reels-within : (s names : List ℕ) (reels : ℕ) (x : Spot) → Walked s names reels x → reels ≤ length names
+reels-within s names reels x w = omega (arith, w .few, w .kept)
+
+pub ruleset walks = (begun, walked-none, walk-on, walk-room, walk-named, walk-falls, walk-framed, walk-done, still-bounded, past-bounded, reels-within, end-good, end-bad, needs)
 
 -- ---- the verdict
 

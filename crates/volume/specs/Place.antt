@@ -1,7 +1,6 @@
 -- How the places that the code keeps stand for contents: a label is the 80 bytes at its place, and no label yet is a place past the end.
 use mathlib.Core.List.{List, [], _∷_}
 use Prim.Native.Nat.{ℕ}
-use lib.ListN.{take}
 use Rattle.base.specs.Part.{part}
 use Rattle.label.specs.Field.{volumeOf}
 use Rattle.volume.specs.State.{State}
@@ -16,11 +15,12 @@ unfoldable pub namesAt : List ℕ → List ℕ → List (List ℕ)
 namesAt s [] = []
 namesAt s (a ∷ places) = volumeOf (labelAt s a) ∷ namesAt s places
 
-unfoldable pub contents : List ℕ → Reading → State
-contents s r =
+-- what a reading knows, with the volume labels read before it at these places
+unfoldable pub contents : List ℕ → List ℕ → Reading → State
+contents s places r =
     record {
       phase = r .phase;
-      names = namesAt s (take (r .reels) (r .names));
+      names = namesAt s places;
       files = r .files;
       goesOn = r .ongoing;
       first = labelAt s (r .first);

@@ -2,13 +2,12 @@
 ghost use mathlib.Core.Path.{_≡_};
 ghost use mathlib.Core.Bool.{true, false};
 ghost use Prim.Native.Nat.{_+_, _<_};
-ghost use lib.ListN.{set};
 ghost use Rattle.base.specs.If.{ifB};
 ghost use Rattle.base.specs.Part.{part};
-ghost use Rattle.order.specs.Kind.{vol, hdr, eov, eof, dataBlock, isKind};
+ghost use Rattle.order.specs.Kind.{hdr, eov, eof, dataBlock, isKind};
 ghost use Rattle.volume.specs.Fault.{outcomeIn};
 ghost use Rattle.volume.specs.Place.{labelAt};
-ghost use Rattle.volume.specs.Walk.{Sized, Room, Small, Behind};
+ghost use Rattle.volume.specs.Walk.{Sized, Small, Behind};
 use crate::Reading;
 use crate::fault::outcome_in;
 use base::part_of;
@@ -18,34 +17,7 @@ use order::EOV;
 use order::HDR;
 use order::Kind;
 use order::Phase;
-use order::VOL;
 use order::is;
-
-// The places of the volume labels, with one more behind VOL1.
-pub(crate) fn names_after(names: [usize; 16], reels: usize, k: Kind, start: usize) -> [usize; 16]
-    ensures { λ r. ⌜ r ≡ ifB (isKind k (vol 1)) (set names reels start) names ⌝ }
-{
-    if is(k, VOL, 1) {
-        if reels < 16 {
-            let mut kept = names;
-            kept[reels] = start;
-            return kept;
-        }
-        return names;
-    }
-    names
-}
-
-// The volume labels read.
-pub(crate) fn reels_after(reels: usize, k: Kind) -> usize
-    requires { ⌜ reels < 4294967295 ⌝ }
-    ensures { λ r. ⌜ r ≡ ifB (isKind k (vol 1)) (reels + 1) reels ⌝ }
-{
-    if is(k, VOL, 1) {
-        return reels + 1;
-    }
-    reels
-}
 
 // The files begun: a new one is counted at HDR2.
 pub(crate) fn files_after(files: u32, ongoing: bool, k: Kind) -> u32
@@ -130,20 +102,16 @@ pub(crate) fn reading_after(
     len: usize,
 ) -> Reading
     requires { ⌜ Sized k len ⌝ }
-    requires { ⌜ Room k st ⌝ }
     requires { ⌜ Small st ⌝ }
     ensures { λ r. ⌜ Behind (now (image .entry)) st p k start len r ⌝ }
 {
-    let kept = st.names;
     Reading {
-        phase: p,
-        names: names_after(kept, st.reels, k, start),
-        reels: reels_after(st.reels, k),
-        files: files_after(st.files, st.ongoing, k),
-        ongoing: ongoing_after(st.ongoing, k),
         first: header_after(st.first, k, 1, start),
         second: header_after(st.second, k, 2, start),
         count: count_after(st.count, k),
         pending: pending_after(image, st.second, st.pending, k, start, len),
+        files: files_after(st.files, st.ongoing, k),
+        phase: p,
+        ongoing: ongoing_after(st.ongoing, k),
     }
 }

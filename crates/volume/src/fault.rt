@@ -4,7 +4,6 @@ ghost use mathlib.Core.Path.{_≡_};
 ghost use mathlib.Core.Bool.{true};
 ghost use Prim.Native.Nat.{_+_};
 ghost use lib.Dec.{eqb};
-ghost use lib.ListN.{take};
 ghost use Rattle.base.specs.If.{ifB};
 ghost use Rattle.base.specs.Part.{same};
 ghost use Rattle.base.specs.Answer.{fault, orElse};
@@ -108,14 +107,14 @@ fn or_else(f: Fault, g: Fault) -> Fault
     f
 }
 
-// The fault of VOL1 behind the volume labels at the first `reels` places: a 17th reel, or an identifier that one of them has.
-fn volume_fault(image: &[u8], names: [usize; 16], reels: usize, l: &[u8]) -> Fault
-    ensures { λ r. ⌜ r ≡ volumeFault (namesAt (now (image .entry)) (take reels names)) (now (l .entry)) ⌝ }
+// The fault of VOL1 behind the volume labels at these places: a 17th reel, or an identifier that one of them has.
+fn volume_fault(image: &[u8], names: &[usize], l: &[u8]) -> Fault
+    ensures { λ r. ⌜ r ≡ volumeFault (namesAt (now (image .entry)) (now (names .entry))) (now (l .entry)) ⌝ }
 {
-    if REELS <= reels {
+    if REELS <= names.len() {
         return Fault { number: 2, byte: 0 };
     }
-    if is_among(image, &names[..reels], volume_of(l)) {
+    if is_among(image, names, volume_of(l)) {
         return Fault { number: 6, byte: 5 };
     }
     Fault { number: 0, byte: 0 }
@@ -287,11 +286,19 @@ fn block_fault(second: &[u8], pending: usize, l: &[u8]) -> Fault
 }
 
 // The fault of an item of kind k and contents l against what was read before it, with the last HDR1 and HDR2 at hand.
-fn context_fault(image: &[u8], st: Reading, first: &[u8], second: &[u8], k: Kind, l: &[u8]) -> Fault
+fn context_fault(
+    image: &[u8],
+    names: &[usize],
+    st: Reading,
+    first: &[u8],
+    second: &[u8],
+    k: Kind,
+    l: &[u8],
+) -> Fault
     ensures { λ r. ⌜ r ≡ contextFault
         (record {
           phase = st .phase;
-          names = namesAt (now (image .entry)) (take (st .reels) (st .names));
+          names = namesAt (now (image .entry)) (now (names .entry));
           files = st .files;
           goesOn = st .ongoing;
           first = now (first .entry);
@@ -304,8 +311,7 @@ fn context_fault(image: &[u8], st: Reading, first: &[u8], second: &[u8], k: Kind
         return block_fault(second, st.pending, l);
     }
     if is(k, VOL, 1) {
-        let names = st.names;
-        return volume_fault(image, names, st.reels, l);
+        return volume_fault(image, names, l);
     }
     if is(k, HDR, 1) {
         return first_header_fault(st.ongoing, st.files, first, l);
@@ -317,13 +323,13 @@ fn context_fault(image: &[u8], st: Reading, first: &[u8], second: &[u8], k: Kind
 }
 
 // Its first fault: 4 and 5 of its label by itself, then the others.
-pub(crate) fn item_fault(image: &[u8], st: Reading, k: Kind, l: &[u8]) -> Fault
-    ensures { λ r. ⌜ r ≡ itemFault (contents (now (image .entry)) st) k (now (l .entry)) ⌝ }
+pub(crate) fn item_fault(image: &[u8], names: &[usize], st: Reading, k: Kind, l: &[u8]) -> Fault
+    ensures { λ r. ⌜ r ≡ itemFault (contents (now (image .entry)) (now (names .entry)) st) k (now (l .entry)) ⌝ }
 {
     let first = label_at(image, st.first);
     let second = label_at(image, st.second);
     or_else(
         label_fault(k, l),
-        context_fault(image, st, first, second, k, l),
+        context_fault(image, names, st, first, second, k, l),
     )
 }

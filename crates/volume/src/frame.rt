@@ -3,9 +3,8 @@ ghost use mathlib.Core.Path.{_≡_};
 ghost use Rattle.order.specs.Kind.{kind};
 ghost use Rattle.order.specs.Due.{dueAfter};
 ghost use Rattle.volume.specs.Step.{isDue};
-ghost use Rattle.volume.specs.Told.{isInside};
-ghost use Rattle.volume.specs.Walk.{frameAt, framedElse, Bounded};
-use crate::walk::Spot;
+ghost use Rattle.volume.specs.Told.{isInside, endedIn, closedIn};
+ghost use Rattle.volume.specs.Walk.{frame, framedElse, Framed};
 use base::Verdict;
 use image::Frame;
 use image::framing_from;
@@ -36,42 +35,47 @@ fn is_inside(phase: Phase) -> bool
     !is_due(phase, END_OF_IMAGE, 0)
 }
 
-// The frame of a spot: as many reels have ended as have begun, but for the one that goes on.
-fn frame_at(x: Spot) -> Frame
-    ensures { λ r. ⌜ r ≡ frameAt x ⌝ }
+// The frame of a place: as many reels have ended as have begun, but for the one that goes on.
+fn frame_at(at: usize, item: u32, phase: Phase, reels: usize) -> Frame
+    ensures { λ r. ⌜ r ≡ frame at item (endedIn phase reels) (closedIn phase reels) ⌝ }
 {
-    let st = x.state;
-    let phase = st.phase;
-    if st.reels == 0 {
+    if reels == 0 {
         return Frame {
-            at: x.at,
+            at,
             reels: 0,
-            item: x.item,
+            item,
             closed: false,
         };
     }
     if is_inside(phase) {
         return Frame {
-            at: x.at,
-            reels: st.reels - 1,
-            item: x.item,
+            at,
+            reels: reels - 1,
+            item,
             closed: false,
         };
     }
     Frame {
-        at: x.at,
-        reels: st.reels,
-        item: x.item,
+        at,
+        reels,
+        item,
         closed: true,
     }
 }
 
-// Number 2 of what is left from a spot on, or else v: what stands before it is well framed.
-pub(crate) fn framed_or(image: &[u8], x: Spot, v: Verdict) -> Verdict
-    requires { ⌜ Bounded (now image) (x .at) (x .item) (x .state) ⌝ }
-    ensures { λ r. ⌜ r ≡ framedElse (now (image .entry)) x v ⌝ }
+// Number 2 of what is left from a place on, or else v: what stands before it is well framed.
+pub(crate) fn framed_or(
+    image: &[u8],
+    at: usize,
+    item: u32,
+    phase: Phase,
+    reels: usize,
+    v: Verdict,
+) -> Verdict
+    requires { ⌜ Framed (now image) at item reels ⌝ }
+    ensures { λ r. ⌜ r ≡ framedElse (now (image .entry)) at item phase reels v ⌝ }
 {
-    let f = framing_from(image, frame_at(x));
+    let f = framing_from(image, frame_at(at, item, phase, reels));
     if f.number == 0 {
         return v;
     }

@@ -16,18 +16,15 @@ use image::framing;
 use image::opens;
 use order::Phase;
 
-// What is known behind an item: numbers, and places in the image. A place past the end stands for no label.
+// What is known behind an item, beside the places of the volume labels: numbers, and places in the image. A place past the end stands for no label.
 pub struct Reading {
-    pub phase: Phase,
-    // The places of the volume labels, the first `reels` of them.
-    pub names: [usize; 16],
-    pub reels: usize,
-    pub files: u32,
-    pub ongoing: bool,
     pub first: usize,
     pub second: usize,
     pub count: usize,
     pub pending: usize,
+    pub files: u32,
+    pub phase: Phase,
+    pub ongoing: bool,
 }
 
 // The verdict on an image, whatever its bytes: number 0 exactly for an accepted set, else the number and place of the first wrong item.

@@ -4,14 +4,13 @@ ghost use mathlib.Core.List.{[]};
 ghost use Prim.Native.Nat.{_+_, _≤_, _<_};
 ghost use lib.ListN.{length};
 ghost use Rattle.base.specs.Part.{part};
-ghost use Rattle.base.specs.Answer.{verdict};
 ghost use Rattle.image.specs.Item.{block};
 ghost use Rattle.image.specs.Framing.{mostImage, items};
 ghost use Rattle.volume.specs.State.{start as begin};
 ghost use Rattle.volume.specs.Step.{kindIn};
 ghost use Rattle.volume.specs.Told.{toldFrom};
 ghost use Rattle.volume.specs.Body.{Given};
-ghost use Rattle.volume.specs.Walk.{toldAt, toldBy, toldDue, framedElse, lastTurn, BlockHere, BareHere, Begun, Past, Bounded, Sized, Room, Ahead, Onward, Owes};
+ghost use Rattle.volume.specs.Walk.{toldAt, toldBy, toldDue, toldEnd, lastTurn, onTurn, bareTurn, inPhase, BlockHere, BareHere, Begun, Past, Framed, Bounded, Sized, Onward, Owes};
 use crate::Reading;
 use crate::after::reading_after;
 use crate::blocks::Between;
@@ -20,9 +19,11 @@ use crate::blocks::past_blocks;
 use crate::fault::item_fault;
 use crate::fault::value_of;
 use crate::frame::framed_or;
+use base::Fault;
 use base::Verdict;
 use base::part_of;
 use image::Shape;
+use image::block_length_at;
 use label::block_length;
 use label::format_of;
 use label::offset_length;
@@ -35,101 +36,106 @@ use order::Kind;
 use order::OTHER;
 use order::Phase;
 use order::TAPE_MARK;
+use order::VOL;
 use order::due_after;
+use order::is;
 
-// A place in the image: the number of the item that stands there, and what is known before it.
+// A place in the image: what is known before it, and the number of the item that stands there.
 pub struct Spot {
     pub at: usize,
-    pub item: u32,
     pub state: Reading,
+    pub item: u32,
 }
 
-// What a turn of the walk leads to: on from a spot, or the answer.
+// What a turn of the walk leads to: on from a spot, past a volume label or not; or the end at a spot, with a fault or with none.
 pub struct Turn {
-    pub on: bool,
-    pub verdict: Verdict,
     pub spot: Spot,
-}
-
-// An answer.
-fn answer(number: u32, item: u32, byte: u32) -> Verdict
-    ensures { λ r. ⌜ r ≡ verdict number item byte ⌝ }
-{
-    Verdict { number, item, byte }
+    pub fault: Fault,
+    pub label: usize,
+    pub on: bool,
+    pub named: bool,
 }
 
 // A turn that ends the walk.
-fn last(x: Spot, verdict: Verdict) -> Turn
-    ensures { λ r. ⌜ r ≡ lastTurn x verdict ⌝ }
+fn last(x: Spot, number: u32, byte: u32) -> Turn
+    ensures { λ r. ⌜ r ≡ lastTurn x number byte ⌝ }
 {
     Turn {
-        on: false,
-        verdict,
         spot: x,
+        fault: Fault { number, byte },
+        label: 0,
+        on: false,
+        named: false,
     }
 }
 
-// A turn that ends with a number at the item that stands here, or with a fault of the framing from it on.
-fn stop(image: &[u8], x: Spot, number: u32, byte: u32) -> Turn
-    requires { ⌜ Bounded (now image) (x .at) (x .item) (x .state) ⌝ }
-    ensures { λ r. ⌜ r ≡ lastTurn x (framedElse (now (image .entry)) x (verdict number (x .item) byte)) ⌝ }
+// A turn that goes on.
+fn on(at: usize, item: u32, state: Reading, named: bool, label: usize) -> Turn
+    ensures { λ r. ⌜ r ≡ onTurn at item state named label ⌝ }
 {
-    last(x, framed_or(image, x, answer(number, x.item, byte)))
-}
-
-// A turn that goes on to `behind`, past an item of kind k that stands at `start` and has no fault.
-fn go_on(image: &[u8], x: Spot, p: Phase, k: Kind, start: usize, len: usize, behind: usize) -> Turn
-    requires { ⌜ Sized k len ⌝ }
-    requires { ⌜ Room k (x .state) ⌝ }
-    requires { ⌜ Ahead (now image) x behind ⌝ }
-    ensures { λ r. ⌜ Onward (now (image .entry)) x p k start len behind r ⌝ }
-{
-    let st = x.state;
-    let state = reading_after(image, st, p, k, start, len);
     Turn {
+        spot: Spot { at, state, item },
+        fault: Fault { number: 0, byte: 0 },
+        label,
         on: true,
-        verdict: answer(0, 0, 0),
-        spot: Spot {
-            at: behind,
-            item: x.item + 1,
-            state,
-        },
+        named,
     }
 }
 
-// The turn of an item that is due, with phase p behind it: past it, or its fault.
-fn judge(image: &[u8], x: Spot, p: Phase, k: Kind, start: usize, len: usize, behind: usize) -> Turn
-    requires { ⌜ Sized k len ⌝ }
-    requires { ⌜ Ahead (now image) x behind ⌝ }
-    ensures { λ r. ⌜ Owes (now (image .entry)) (x .at) (toldDue (now (image .entry)) x p k (part start len (now (image .entry))) behind) r ⌝ }
+// A turn that goes on past a block of n bytes, which is of kind k and has no fault.
+fn go_on(image: &[u8], x: Spot, p: Phase, k: Kind, n: usize) -> Turn
+    requires { ⌜ Sized k n ⌝ }
+    requires { ⌜ BlockHere (now image) x n ⌝ }
+    ensures { λ r. ⌜ Onward (now (image .entry)) x p k n r ⌝ }
 {
     let st = x.state;
-    let f = item_fault(image, st, k, part_of(image, start, len));
-    if f.number != 0 {
-        return stop(image, x, f.number, f.byte);
-    }
-    go_on(image, x, p, k, start, len, behind)
+    let start = x.at + 3;
+    let end = start + n;
+    let item = x.item + 1;
+    on(
+        end,
+        item,
+        reading_after(image, st, p, k, start, n),
+        is(k, VOL, 1),
+        start,
+    )
 }
 
-// The turn of an item of kind k: 3 where it is not due.
-fn order_turn(image: &[u8], x: Spot, k: Kind, start: usize, len: usize, behind: usize) -> Turn
-    requires { ⌜ Sized k len ⌝ }
-    requires { ⌜ Ahead (now image) x behind ⌝ }
-    ensures { λ r. ⌜ Owes (now (image .entry)) (x .at) (toldBy (now (image .entry)) x k (part start len (now (image .entry))) behind) r ⌝ }
+// The turn of a block of n bytes that is due, with phase p behind it: past it, or its fault.
+fn judge(image: &[u8], names: &[usize], x: Spot, p: Phase, k: Kind, n: usize) -> Turn
+    requires { ⌜ Sized k n ⌝ }
+    requires { ⌜ BlockHere (now image) x n ⌝ }
+    ensures { λ r. ⌜ Owes (now (image .entry)) (now (names .entry)) (x .at) (toldDue (now (image .entry)) (now (names .entry)) x p k (part (x .at + 3) n (now (image .entry))) (x .at + 3 + n)) r ⌝ }
+{
+    let st = x.state;
+    let start = x.at + 3;
+    let end = start + n;
+    let f = item_fault(image, names, st, k, &image[start..end]);
+    if f.number != 0 {
+        return last(x, f.number, f.byte);
+    }
+    go_on(image, x, p, k, n)
+}
+
+// The turn of a block of n bytes and of kind k: 3 where it is not due.
+fn order_turn(image: &[u8], names: &[usize], x: Spot, k: Kind, n: usize) -> Turn
+    requires { ⌜ Sized k n ⌝ }
+    requires { ⌜ BlockHere (now image) x n ⌝ }
+    ensures { λ r. ⌜ Owes (now (image .entry)) (now (names .entry)) (x .at) (toldBy (now (image .entry)) (now (names .entry)) x k (part (x .at + 3) n (now (image .entry))) (x .at + 3 + n)) r ⌝ }
 {
     let st = x.state;
     let phase = st.phase;
     match due_after(phase, k) {
-        Due::Wrong => stop(image, x, 3, 0),
-        Due::To(p) => judge(image, x, p, k, start, len, behind),
+        Due::Wrong => last(x, 3, 0),
+        Due::To(p) => judge(image, names, x, p, k, n),
     }
 }
 
 // The turn at the end of the image.
-fn end_turn(image: &[u8], x: Spot) -> Turn
+fn end_turn(image: &[u8], names: &[usize], x: Spot) -> Turn
     requires { ⌜ Bounded (now image) (x .at) (x .item) (x .state) ⌝ }
     requires { ⌜ length (now image) ≤ x .at ⌝ }
-    ensures { λ r. ⌜ Owes (now (image .entry)) (x .at) (toldAt (now (image .entry)) x) r ⌝ }
+    ensures { λ r. ⌜ Owes (now (image .entry)) (now (names .entry)) (x .at) (toldAt (now (image .entry)) (now (names .entry)) x) r ⌝ }
 {
     let st = x.state;
     let phase = st.phase;
@@ -138,8 +144,8 @@ fn end_turn(image: &[u8], x: Spot) -> Turn
         number: 0,
     };
     match due_after(phase, k) {
-        Due::Wrong => stop(image, x, 3, 0),
-        Due::To(_) => last(x, answer(0, 0, 0)),
+        Due::Wrong => last(x, 3, 0),
+        Due::To(_) => last(x, 0, 0),
     }
 }
 
@@ -158,51 +164,81 @@ pub fn kind_in(phase: Phase, l: &[u8]) -> Kind
 }
 
 // The turn of a block of n bytes.
-fn block_turn(image: &[u8], x: Spot, n: usize) -> Turn
+fn block_turn(image: &[u8], names: &[usize], x: Spot, n: usize) -> Turn
     requires { ⌜ BlockHere (now image) x n ⌝ }
-    ensures { λ r. ⌜ Owes (now (image .entry)) (x .at) (toldAt (now (image .entry)) x) r ⌝ }
+    ensures { λ r. ⌜ Owes (now (image .entry)) (now (names .entry)) (x .at) (toldAt (now (image .entry)) (now (names .entry)) x) r ⌝ }
 {
     let st = x.state;
     let phase = st.phase;
     let start = x.at + 3;
     let end = start + n;
     let k = kind_in(phase, &image[start..end]);
-    order_turn(image, x, k, start, n, end)
+    order_turn(image, names, x, k, n)
 }
 
-// The turn of an item without bytes.
-fn bare_turn(image: &[u8], x: Spot, family: u32, behind: usize) -> Turn
-    requires { ⌜ BareHere (now image) x family behind ⌝ }
-    ensures { λ r. ⌜ Owes (now (image .entry)) (x .at) (toldAt (now (image .entry)) x) r ⌝ }
+// The state behind an item without bytes: only the phase is another.
+fn in_phase(st: Reading, p: Phase) -> Reading
+    ensures { λ r. ⌜ r ≡ inPhase st p ⌝ }
 {
+    Reading {
+        first: st.first,
+        second: st.second,
+        count: st.count,
+        pending: st.pending,
+        files: st.files,
+        phase: p,
+        ongoing: st.ongoing,
+    }
+}
+
+// A turn that goes on past an item without bytes, with phase p behind it.
+fn pass(x: Spot, p: Phase) -> Turn
+    requires { ⌜ x .item ≤ x .at ⌝ }
+    requires { ⌜ x .at + 3 ≤ mostImage ⌝ }
+    ensures { λ r. ⌜ r ≡ bareTurn x p ⌝ }
+{
+    let st = x.state;
+    on(x.at + 3, x.item + 1, in_phase(st, p), false, 0)
+}
+
+// The turn of a mark or the end of a reel, which has no fault where it is due.
+fn bare_turn(image: &[u8], names: &[usize], x: Spot, family: u32) -> Turn
+    requires { ⌜ BareHere (now image) x family ⌝ }
+    ensures { λ r. ⌜ Owes (now (image .entry)) (now (names .entry)) (x .at) (toldAt (now (image .entry)) (now (names .entry)) x) r ⌝ }
+{
+    let st = x.state;
+    let phase = st.phase;
     let k = Kind { family, number: 0 };
-    order_turn(image, x, k, 0, 0, behind)
+    match due_after(phase, k) {
+        Due::Wrong => last(x, 3, 0),
+        Due::To(p) => pass(x, p),
+    }
 }
 
 // The turn of the item that stands here.
-fn item_turn(image: &[u8], x: Spot) -> Turn
+fn item_turn(image: &[u8], names: &[usize], x: Spot) -> Turn
     requires { ⌜ Bounded (now image) (x .at) (x .item) (x .state) ⌝ }
     requires { ⌜ x .at < length (now image) ⌝ }
-    ensures { λ r. ⌜ Owes (now (image .entry)) (x .at) (toldAt (now (image .entry)) x) r ⌝ }
+    ensures { λ r. ⌜ Owes (now (image .entry)) (now (names .entry)) (x .at) (toldAt (now (image .entry)) (now (names .entry)) x) r ⌝ }
 {
     let at = x.at;
     match image::shape_at(image, at) {
-        Shape::Block(n) => block_turn(image, x, n),
-        Shape::Mark => bare_turn(image, x, TAPE_MARK, at + 3),
-        Shape::ReelEnd => bare_turn(image, x, END_OF_REEL, at + 3),
-        Shape::Broken => bare_turn(image, x, OTHER, image.len()),
+        Shape::Block(n) => block_turn(image, names, x, n),
+        Shape::Mark => bare_turn(image, names, x, TAPE_MARK),
+        Shape::ReelEnd => bare_turn(image, names, x, END_OF_REEL),
+        Shape::Broken => last(x, 3, 0),
     }
 }
 
 // The turn at a spot.
-fn take_turn(image: &[u8], x: Spot) -> Turn
+fn take_turn(image: &[u8], names: &[usize], x: Spot) -> Turn
     requires { ⌜ Bounded (now image) (x .at) (x .item) (x .state) ⌝ }
-    ensures { λ r. ⌜ Owes (now (image .entry)) (x .at) (toldAt (now (image .entry)) x) r ⌝ }
+    ensures { λ r. ⌜ Owes (now (image .entry)) (now (names .entry)) (x .at) (toldAt (now (image .entry)) (now (names .entry)) x) r ⌝ }
 {
     if image.len() <= x.at {
-        return end_turn(image, x);
+        return end_turn(image, names, x);
     }
-    item_turn(image, x)
+    item_turn(image, names, x)
 }
 
 // The lengths of the blocks of a section, as its HDR2 gives them.
@@ -224,7 +260,6 @@ fn past_data(image: &[u8], x: Spot) -> Spot
     ensures { λ r. ⌜ Past (now (image .entry)) x r ⌝ }
 {
     let st = x.state;
-    let names = st.names;
     let from = Between {
         at: x.at,
         item: x.item,
@@ -233,20 +268,18 @@ fn past_data(image: &[u8], x: Spot) -> Spot
     };
     let b = past_blocks(image, lengths_of(part_of(image, st.second, 80)), from);
     let state = Reading {
-        phase: Phase::Data,
-        names,
-        reels: st.reels,
-        files: st.files,
-        ongoing: st.ongoing,
         first: st.first,
         second: st.second,
         count: b.count,
         pending: b.pending,
+        files: st.files,
+        phase: Phase::Data,
+        ongoing: st.ongoing,
     };
     Spot {
         at: b.at,
-        item: b.item,
         state,
+        item: b.item,
     }
 }
 
@@ -267,23 +300,43 @@ fn past(image: &[u8], x: Spot) -> Spot
 fn first_spot(image: &[u8]) -> Spot
     requires { ⌜ 5 ≤ length (now image) ⌝ }
     requires { ⌜ length (now image) ≤ mostImage ⌝ }
-    ensures { λ r. ⌜ Begun (now (image .entry)) r ⌝ }
+    ensures { λ r. ⌜ Begun (now (image .entry)) [] r ⌝ }
 {
     Spot {
         at: 5,
-        item: 0,
         state: Reading {
-            phase: Phase::Reel,
-            names: [0; 16],
-            reels: 0,
-            files: 0,
-            ongoing: false,
             first: image.len(),
             second: image.len(),
             count: 0,
             pending: 0,
+            files: 0,
+            phase: Phase::Reel,
+            ongoing: false,
         },
+        item: 0,
     }
+}
+
+// The verdict where a walk ends: that of the fault, or of the framing from there on.
+fn ended(image: &[u8], names: &[usize], x: Spot, f: Fault) -> Verdict
+    requires { ⌜ Framed (now image) (x .at) (x .item) (length (now names)) ⌝ }
+    ensures { λ r. ⌜ r ≡ toldEnd (now (image .entry)) (now (names .entry)) x f ⌝ }
+{
+    if f.number == 0 {
+        return Verdict {
+            number: 0,
+            item: 0,
+            byte: 0,
+        };
+    }
+    let st = x.state;
+    let phase = st.phase;
+    let v = Verdict {
+        number: f.number,
+        item: x.item,
+        byte: f.byte,
+    };
+    framed_or(image, x.at, x.item, phase, names.len(), v)
 }
 
 // The verdict on the items of an image, up to the first wrong one, and on the framing from there on.
@@ -292,13 +345,19 @@ pub(crate) fn walk(image: &[u8]) -> Verdict
     requires { ⌜ length (now image) ≤ mostImage ⌝ }
     ensures { λ r. ⌜ r ≡ toldFrom 0 begin (items (now (image .entry))) ⌝ }
 {
+    let mut names = [0usize; 16];
+    let mut reels: usize = 0;
     let mut x = first_spot(image);
     loop {
-        let t = take_turn(image, past(image, x));
+        let t = take_turn(image, &names[..reels], past(image, x));
+        x = t.spot;
         if t.on {
-            x = t.spot;
+            if t.named {
+                names[reels] = t.label;
+                reels += 1;
+            }
         } else {
-            return t.verdict;
+            return ended(image, &names[..reels], x, t.fault);
         }
     }
 }

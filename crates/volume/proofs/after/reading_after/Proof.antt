@@ -2,18 +2,6 @@ use Rattle.volume.proofs.Afters.{behinds}
 use Rattle.volume.proofs.after.reading_after.Statement.{statement}
 use Rattle.volume.proofs.after.reading_after.Tie as tie
 
-names-after-requires : tie.Need-names-after-requires
-names-after-requires c κs = search behinds
-
-reels-after-requires : tie.Need-reels-after-requires
-reels-after-requires c κs = search behinds
-
-files-after-requires : tie.Need-files-after-requires
-files-after-requires c κs = search behinds
-
-ongoing-after-requires : tie.Need-ongoing-after-requires
-ongoing-after-requires c κs = search behinds
-
 header-after-requires : tie.Need-header-after-requires
 header-after-requires c κs = search behinds
 
@@ -26,6 +14,12 @@ count-after-requires c κs = search behinds
 pending-after-requires : tie.Need-pending-after-requires
 pending-after-requires c κs = search behinds
 
+files-after-requires : tie.Need-files-after-requires
+files-after-requires c κs = search behinds
+
+ongoing-after-requires : tie.Need-ongoing-after-requires
+ongoing-after-requires c κs = search behinds
+
 returns : tie.Need-returns
 returns c = search behinds
 
@@ -33,12 +27,10 @@ pub reading-after-spec : {M : Type 1} → statement M
 reading-after-spec =
     tie.close
     (tie.spec
-    names-after-requires
-    reels-after-requires
-    files-after-requires
-    ongoing-after-requires
     header-after-requires
     header-after-requires-2
     count-after-requires
     pending-after-requires
+    files-after-requires
+    ongoing-after-requires
     returns)

@@ -8,17 +8,14 @@ due-after-requires c κs = search items
 enum-told : tie.Need-enum-told
 enum-told c = search items
 
-stop-requires : tie.Need-stop-requires
-stop-requires c κs = search items
+last-requires : tie.Need-last-requires
+last-requires c κs = search items
 
 enum-told-2 : tie.Need-enum-told-2
 enum-told-2 c = search items
 
-answer-requires : tie.Need-answer-requires
-answer-requires c κs = search items
-
-last-requires : tie.Need-last-requires
-last-requires c κs = search items
+last-requires-2 : tie.Need-last-requires-2
+last-requires-2 c κs = search items
 
 returns : tie.Need-returns
 returns c = search items
@@ -32,9 +29,8 @@ end-turn-spec =
     (tie.spec
     due-after-requires
     enum-told
-    stop-requires
-    enum-told-2
-    answer-requires
     last-requires
+    enum-told-2
+    last-requires-2
     returns
     returns-2)

@@ -14,17 +14,11 @@ block-turn-requires c κs = search items
 enum-told : tie.Need-enum-told
 enum-told c = search items
 
-add-bare-turn : tie.Need-add-bare-turn
-add-bare-turn c = search items
-
 bare-turn-requires : tie.Need-bare-turn-requires
 bare-turn-requires c κs = search items
 
 enum-told-2 : tie.Need-enum-told-2
 enum-told-2 c = search items
-
-add-bare-turn-2 : tie.Need-add-bare-turn-2
-add-bare-turn-2 c = search items
 
 bare-turn-requires-2 : tie.Need-bare-turn-requires-2
 bare-turn-requires-2 c κs = search items
@@ -32,8 +26,8 @@ bare-turn-requires-2 c κs = search items
 enum-told-3 : tie.Need-enum-told-3
 enum-told-3 c = search items
 
-bare-turn-requires-3 : tie.Need-bare-turn-requires-3
-bare-turn-requires-3 c κs = search items
+last-requires : tie.Need-last-requires
+last-requires c κs = search items
 
 returns : tie.Need-returns
 returns c = search items
@@ -55,13 +49,11 @@ item-turn-spec =
     enum-known-n
     block-turn-requires
     enum-told
-    add-bare-turn
     bare-turn-requires
     enum-told-2
-    add-bare-turn-2
     bare-turn-requires-2
     enum-told-3
-    bare-turn-requires-3
+    last-requires
     returns
     returns-2
     returns-3

@@ -8,8 +8,8 @@ due-after-requires c κs = search turns
 enum-told : tie.Need-enum-told
 enum-told c = search turns
 
-stop-requires : tie.Need-stop-requires
-stop-requires c κs = search turns
+last-requires : tie.Need-last-requires
+last-requires c κs = search turns
 
 enum-known-p : tie.Need-enum-known-p
 enum-known-p c = search turns
@@ -29,7 +29,7 @@ order-turn-spec =
     (tie.spec
     due-after-requires
     enum-told
-    stop-requires
+    last-requires
     enum-known-p
     judge-requires
     returns

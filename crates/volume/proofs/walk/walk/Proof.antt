@@ -1,15 +1,16 @@
+use Rattle.base.proofs.Parts.{counted}
 use Prim.Native.Nat.{_-_}
 use lib.ListN.{length}
-use Rattle.volume.specs.Walk.{Begun}
+use Rattle.volume.specs.Walk.{Walked}
 use Rattle.volume.proofs.Walks.{walks}
 use Rattle.volume.proofs.walk.walk.Statement.{statement}
 use Rattle.volume.proofs.walk.walk.Tie as tie
 
 abbrev Inv-loop : tie.InvT-loop
-Inv-loop image x₀ x = Begun image x
+Inv-loop image names₀ reels₀ x₀ names reels x = Walked image names reels x
 
 abbrev μ-loop : tie.MeasureT-loop
-μ-loop image x₀ x = length image - x .at
+μ-loop image names₀ reels₀ x₀ names reels x = length image - x .at
 
 first-spot-requires : tie.Need-first-spot-requires Inv-loop μ-loop
 first-spot-requires c κs = search walks
@@ -17,17 +18,47 @@ first-spot-requires c κs = search walks
 loop-holds : tie.Need-loop-holds Inv-loop μ-loop
 loop-holds c = search walks
 
+array-share-prefix-names : tie.Need-array-share-prefix-names Inv-loop μ-loop
+array-share-prefix-names c = search walks
+
+slice-aggregate-take-turn : tie.Need-slice-aggregate-take-turn Inv-loop μ-loop
+slice-aggregate-take-turn c = counted _ _ (search walks)
+
 past-requires : tie.Need-past-requires Inv-loop μ-loop
 past-requires c κs = search walks
 
 take-turn-requires : tie.Need-take-turn-requires Inv-loop μ-loop
 take-turn-requires c κs = search walks
 
+mul-names : tie.Need-mul-names Inv-loop μ-loop
+mul-names c = search walks
+
+array-write-names : tie.Need-array-write-names Inv-loop μ-loop
+array-write-names c = search walks
+
+add-reels : tie.Need-add-reels Inv-loop μ-loop
+add-reels c = search walks
+
 loop-less : tie.Need-loop-less Inv-loop μ-loop
 loop-less c = search walks
 
 loop-again : tie.Need-loop-again Inv-loop μ-loop
 loop-again c = search walks
+
+loop-less-2 : tie.Need-loop-less-2 Inv-loop μ-loop
+loop-less-2 c = search walks
+
+loop-again-2 : tie.Need-loop-again-2 Inv-loop μ-loop
+loop-again-2 c = search walks
+
+array-share-prefix-names-2 : tie.Need-array-share-prefix-names-2 Inv-loop μ-loop
+array-share-prefix-names-2 c = search walks
+
+slice-aggregate-ended : tie.Need-slice-aggregate-ended Inv-loop μ-loop
+slice-aggregate-ended c = counted _ _ (search walks)
+
+ended-requires : tie.Need-ended-requires Inv-loop μ-loop
+ended-requires c κs = search walks
 
 returns : tie.Need-returns Inv-loop μ-loop
 returns c = search walks
@@ -40,8 +71,18 @@ walk-spec =
     μ-loop
     first-spot-requires
     loop-holds
+    array-share-prefix-names
+    slice-aggregate-take-turn
     past-requires
     take-turn-requires
+    mul-names
+    array-write-names
+    add-reels
     loop-less
     loop-again
+    loop-less-2
+    loop-again-2
+    array-share-prefix-names-2
+    slice-aggregate-ended
+    ended-requires
     returns)
