@@ -19,11 +19,13 @@ use Rattle.writing.proofs.Packing.{by-test}
 use Rattle.writer.specs.declared.pen.Pen.{Pen}
 use Rattle.writer.specs.declared.source.Cursor.{Cursor}
 use Rattle.writer.specs.declared.source.Found.{Found}
+use Rattle.writer.specs.declared.record.Quick.{Quick}
 use Rattle.writer.specs.Pass.{Job, Outcome, Fits, between, penned}
 use Rattle.writer.specs.Source.{walkOf, movedTo, recordsOf, endAt, stopOf, Good, splitBytes, SplitHere, foundBytes, Finds}
-use Rattle.writer.specs.Records.{Behind, Recordable, Splittable, Recorded}
+use Rattle.writer.specs.Records.{Behind, Wholable, Wholed, Recordable, Splittable, Recorded, Somewhere, QuickBlock}
 use Rattle.writer.specs.Bodies.{Takable, Bodied, BodyPut}
 use Rattle.writer.proofs.Blocks.{penned-short}
+use Rattle.writer.proofs.Records.{record-somewhere, record-wholable, record-whole, record-kept, record-again, record-slow}
 
 -- ---- a record that was found
 
@@ -54,7 +56,7 @@ module _ (lay : Bool) (f b : ℕ) (j : Job) (bytes : List ℕ) (c : Cursor) (r :
   pub took-split : (q : List ℕ) (v : Pen) → r .kind ≡ 2 → Recorded lay f b j (splitBytes bytes c) p o q v → Recorded lay f b j (foundBytes bytes c r) p o q v
   took-split q v e x = subst (λ (s : List ℕ). Recorded lay f b j s p o q v) (sym (found-split bytes c r e)) x
 
-  pub take-whole : (r .kind ≡ 2 → ⊥) → Recordable lay f b j bytes (r .from) (r .len) p o
+  take-whole : (r .kind ≡ 2 → ⊥) → Recordable lay f b j bytes (r .from) (r .len) p o
   take-whole e =
       record {
         sound = k .sound;
@@ -65,14 +67,37 @@ module _ (lay : Bool) (f b : ℕ) (j : Job) (bytes : List ℕ) (c : Cursor) (r :
         ahead = λ l. subst (λ (x : List ℕ). Behind f b j x p o) (found-whole bytes c r e) (k .ahead l);
       }
 
-  pub took-whole : (q : List ℕ) (v : Pen) → (r .kind ≡ 2 → ⊥) → Recorded lay f b j (part (r .from) (r .len) bytes) p o q v
-      → Recorded lay f b j (foundBytes bytes c r) p o q v
-  took-whole q v e x = subst (λ (s : List ℕ). Recorded lay f b j s p o q v) (sym (found-whole bytes c r e)) x
+  module _ (e : r .kind ≡ 2 → ⊥) where
+    took-whole : (q : List ℕ) (v : Pen) → Recorded lay f b j (part (r .from) (r .len) bytes) p o q v → Recorded lay f b j (foundBytes bytes c r) p o q v
+    took-whole q v x = subst (λ (s : List ℕ). Recorded lay f b j s p o q v) (sym (found-whole bytes c r e)) x
+
+    pub take-somewhere : Somewhere lay f b (r .len) p o
+    take-somewhere = record-somewhere lay f b j bytes (r .from) (r .len) p o (take-whole e)
+
+    module _ (q : List ℕ) (t : Quick) (y : QuickBlock lay f b (r .len) p o q t) where
+      pub take-in : t .ok ≡ true → Wholable lay f bytes (r .from) (r .len) (t .pen) (length q)
+      take-in = record-wholable lay f b j bytes (r .from) (r .len) p o (take-whole e) q t y
+
+      pub take-slow : t .ok ≡ false → Recordable lay f b j bytes (r .from) (r .len) p q
+      take-slow = record-again lay f b j bytes (r .from) (r .len) p o (take-whole e) q t y
+
+      module _ (z : List ℕ) (v : Pen) where
+        pub took-in : t .ok ≡ true → Wholed lay f bytes (r .from) (r .len) (t .pen) q z v → Recorded lay f b j (foundBytes bytes c r) p o z v
+        took-in h x = took-whole z v (record-whole lay f b j bytes (r .from) (r .len) p o (take-whole e) q t y z v h x)
+
+        pub took-in-kept : t .ok ≡ true → Wholed lay f bytes (r .from) (r .len) (t .pen) q z v → length z ≡ length o
+        took-in-kept h x = record-kept lay f b j bytes (r .from) (r .len) p o (take-whole e) q t y z v h x
+
+        pub took-slow : t .ok ≡ false → Recorded lay f b j (part (r .from) (r .len) bytes) p q z v → Recorded lay f b j (foundBytes bytes c r) p o z v
+        took-slow h x = took-whole z v (record-slow lay f b j bytes (r .from) (r .len) p o (take-whole e) q t y z v h x)
+
+        pub took-slow-kept : Recorded lay f b j (part (r .from) (r .len) bytes) p q z v → length z ≡ length o
+        took-slow-kept x = x .kept ∙ y .kept
 
 pub took-kept : (lay : Bool) (f b : ℕ) (j : Job) (x : List ℕ) (p : Pen) (o q : List ℕ) (v : Pen) → Recorded lay f b j x p o q v → length q ≡ length o
 took-kept lay f b j x p o q v y = y .kept
 
-pub ruleset taking = (take-split, took-split, take-whole, took-whole, took-kept, needs)
+pub ruleset taking = (take-split, took-split, took-kept, needs)
 
 -- ---- all records
 

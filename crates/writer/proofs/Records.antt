@@ -12,7 +12,8 @@ use lib.Dec.{eqb, leb}
 use lib.ListN.{length, take, drop, length-append, drop-of-length-le}
 use lib.Seq.{take-all}
 use Rattle.base.specs.If.{if-true, if-false, if-case}
-use Rattle.base.specs.Part.{part}
+use Rattle.base.specs.Part.{part, putAt, putIn}
+use Rattle.base.specs.Digits.{digits}
 use Rattle.base.proofs.Parts.{length-part, part-within}
 use Rattle.block.specs.Unit.{wordOf}
 use Rattle.block.proofs.Wholes.{word-segmented}
@@ -21,14 +22,14 @@ use Rattle.writing.specs.Lay.{rest}
 use Rattle.writing.specs.Lay.{Next}
 use Rattle.writing.proofs.Packing.{by-test, entered}
 use Rattle.writing.proofs.Units.{length-control, indicator-whole}
-use Rattle.writer.proofs.Written.{word-small, most-small}
+use Rattle.writer.proofs.Written.{word-small, most-small, ink-put, ink-not, unit-put, unit-kept}
 use Rattle.writer.specs.declared.pen.Pen.{Pen}
 use Rattle.writer.specs.declared.pack.Flow.{Flow}
 use Rattle.writer.specs.declared.record.Quick.{Quick}
 use Rattle.writer.specs.Pass.{Job, inkAt, inked, Outcome, outcome, restOf, Fits, Due, between, within, fillDue, leftDue, penned}
-use Rattle.writer.specs.Pens.{mostOf, Unitable, Ready, Closable, Closes, Opens, opened}
+use Rattle.writer.specs.Pens.{mostOf, wordWith, Ready, Closable, Closes, Opens, opened}
 use Rattle.writer.specs.Packs.{entersOn, Wanting, Blocked, more, flowed, Good, Packable, Packed}
-use Rattle.writer.specs.Records.{GoesIn, GoesNext, Wholable, Wholed, Turned, Recordable, Recorded, Somewhere, Whole, QuickBlock}
+use Rattle.writer.specs.Records.{GoesIn, GoesNext, Wholable, Wholed, Recordable, Recorded, Somewhere, Whole, QuickBlock}
 use Rattle.writer.proofs.Passes.{ink-none, ink-length}
 use Rattle.writer.proofs.Pens.{closable, opens-here}
 use Rattle.writer.proofs.Dues.{enter-fill, enter-left, some-fill, some-left, over-fill, over-left}
@@ -105,21 +106,42 @@ module _ (lay : Bool) (f w : ℕ) (bytes : List ℕ) (from n : ℕ) (p : Pen) (o
   pub whole-fits : FitsIn w64 (p .at + 3 + p .used)
   whole-fits = record { fits = omega (arith, y .place, y .fits) }
 
-  pub whole-unitable : Unitable lay f 0 n from (p .at + 3 + p .used) (length bytes) (length o)
-  whole-unitable =
-      record { three = omega arith; small = y .small; inside = y .inside; room = λ l. let r = y .room l in omega arith }
-
   pub whole-word-fits : FitsIn w64 (w + n)
   whole-word-fits = record { fits = omega (arith, y .fits) }
 
   pub whole-more : p .used + (w + n) ≤ 99999
   whole-more = omega (arith, y .fits)
 
-  pub whole-is : (q : List ℕ) (r : Pen) → q ≡ inkAt lay o (p .at + 3 + p .used) (controlWord f 0 n ++ part from n bytes) → r ≡ more p (w + n)
-      → Wholed lay f bytes from n p o q r
-  whole-is q r l e = record { is = e ∙ ap (λ (k : ℕ). more p (k + n)) word; laid = l }
+  abbrev at : ℕ
+  at = p .at + 3 + p .used
 
-pub ruleset wholes = (whole-at-fits, whole-fits, whole-unitable, whole-word-fits, whole-more, whole-is, needs)
+  abbrev s : List ℕ
+  s = take (from + n - from) (drop from bytes)
+
+  pub whole-inside : from + n ≤ length bytes
+  whole-inside = y .inside
+
+  pub whole-word-room : lay ≡ true → at + wordOf f ≤ length o
+  whole-word-room l = omega (arith, y .room l)
+
+  whole-is : (r : Pen) → r ≡ more p (w + n) → r ≡ more p (wordOf f + n)
+  whole-is r e = e ∙ ap (λ (k : ℕ). more p (k + n)) word
+
+  pub whole-measured : (r : Pen) → r ≡ more p (w + n) → lay ≡ false → Wholed lay f bytes from n p o o r
+  whole-measured r e l = record { is = whole-is r e; laid = ink-not lay o at (controlWord f 0 n ++ part from n bytes) l }
+
+  module _ (l : lay ≡ true) (d q z : List ℕ) (e : d ≡ digits 4 (min (w + n) 9999)) (x : q ≡ putAt o at (wordWith f 0 d)) (v : z ≡ putIn q (at + w) s) where
+    room : at + wordOf f + n ≤ length o
+    room = omega (arith, y .room l)
+
+    pub whole-kept : length z ≡ length o
+    whole-kept = unit-kept f 0 n o at w word bytes from (y .inside) (y .small) room d q e x z v
+
+    pub whole-laid : (r : Pen) → r ≡ more p (w + n) → Wholed lay f bytes from n p o z r
+    whole-laid r g =
+        record { is = whole-is r g; laid = ink-put lay o at (controlWord f 0 n ++ part from n bytes) z l (unit-put f 0 n o at w word bytes from (y .inside) (y .small) room d q e x z v) }
+
+pub ruleset wholes = (whole-at-fits, whole-fits, whole-word-fits, whole-more, whole-inside, whole-word-room, needs)
 
 -- what a whole record leaves due
 module _ (f b u n : ℕ) (x : List ℕ) (size : length x ≡ n) (e : enters f b u n ≡ true) (t : taken f b u n ≡ n) (xs : List (List ℕ)) where
@@ -247,11 +269,14 @@ module _ (lay : Bool) (f b : ℕ) (j : Job) (bytes : List ℕ) (from n : ℕ) (p
               ∙ y .same 0 x xs next size room;
         })
 
+-- ---- the block for a record
+
+module _ (lay : Bool) (f b : ℕ) (j : Job) (n : ℕ) (p : Pen) (o : List ℕ) (k : Wanting lay f b j n p o) where
   -- into the open block
   module _ (g : GoesIn f b (p .on) (p .used) n) where
     in-blocked : Blocked lay f b j n p o o p
     unfolding entersOn
-    in-blocked = blocked-here lay f b j n p o wanting true (sym (if-true _ _ _ (g .on) ∙ g .enters)) refl
+    in-blocked = blocked-here lay f b j n p o k true (sym (if-true _ _ _ (g .on) ∙ g .enters)) refl
 
     in-whole : Whole lay f b j n p o o p
     in-whole = record { blocked = in-blocked; given = k .given; whole = g .whole }
@@ -259,7 +284,7 @@ module _ (lay : Bool) (f b : ℕ) (j : Job) (bytes : List ℕ) (from n : ℕ) (p
   -- into the next block of this reel
   module _ (g : GoesNext f b (p .on) (p .used) (p .room) n) where
     next-ready : Ready lay j p o
-    next-ready = wanting-ready lay f b j n p o wanting false (sym (g .full)) refl
+    next-ready = wanting-ready lay f b j n p o k false (sym (g .full)) refl
 
     pub next-closable : Closable lay p (length o)
     next-closable = closable lay j p o next-ready
@@ -267,73 +292,55 @@ module _ (lay : Bool) (f b : ℕ) (j : Job) (bytes : List ℕ) (from n : ℕ) (p
     pub next-few : p .count < 1000000
     next-few = omega (arith, k .sound .blocks)
 
-    module _ (q : List ℕ) (r : Pen) (y : Turned lay p o q r) where
+    module _ (q : List ℕ) (c : Pen) (x : Closes lay p o q c) (r : Pen) (e : r ≡ opened c) where
+      reel-room : c .room ≡ 0 → ⊥
+      reel-room z = omega (arith, x .room, g .some)
+
       opens : Opens lay j p o q r
-      opens = y .opens j next-ready
+      opens = opens-here lay j p o next-ready q c x r reel-room e
+
+      next-given : r .short ≡ false
+      next-given = ap (λ (v : Pen). v .short) e
 
       next-blocked : Blocked lay f b j n p o q r
-      next-blocked = blocked-next lay f b j n p o wanting false (sym (g .full)) refl q r opens
+      next-blocked = blocked-next lay f b j n p o k false (sym (g .full)) refl q r opens
 
       next-whole : taken f b (r .used) n ≡ n
-      next-whole = ap (λ (u : ℕ). taken f b u n) (opens .empty (y .given)) ∙ g .whole
+      next-whole = ap (λ (u : ℕ). taken f b u n) (opens .empty next-given) ∙ g .whole
 
       in-next : Whole lay f b j n p o q r
-      in-next = record { blocked = next-blocked; given = y .given; whole = next-whole }
+      in-next = record { blocked = next-blocked; given = next-given; whole = next-whole }
 
-module _ (lay : Bool) (p : Pen) (o q : List ℕ) (c : Pen) (x : Closes lay p o q c) where
-  pub turned-room : 1 ≤ p .room → 1 ≤ c .room
-  turned-room h = omega (arith, x .room)
-
-  pub turned-few : p .count < 1000000 → c .count < 1000000
-  turned-few h = omega (arith, x .count)
-
-  pub turned-kept : length q ≡ length o
-  turned-kept = x .kept
-
-  pub turned : (r : Pen) → 1 ≤ p .room → r ≡ opened c → Turned lay p o q r
-  turned r h e =
-      let some : c .room ≡ 0 → ⊥ = λ z. omega (arith, x .room) in
-      record {
-        kept = x .kept;
-        given = ap (λ (v : Pen). v .short) e;
-        opens =
-            λ j y.
-            opens-here lay j p o y q c x r some e;
-      }
-
-pub ruleset turnings = (turned-room, turned-few, turned-kept, turned, needs)
-
--- ---- the block for a record
-
-module _ (lay : Bool) (f b : ℕ) (bytes : List ℕ) (from n : ℕ) (p : Pen) (o : List ℕ) (k : Somewhere lay f b bytes from n p o) where
+module _ (lay : Bool) (f b n : ℕ) (p : Pen) (o : List ℕ) (k : Somewhere lay f b n p o) where
   pub quick-used : p .used ≤ 99999
   quick-used = k .can .sound .used
 
-  pub quick-in : (t : Bool) → (t ≡ true → GoesIn f b (p .on) (p .used) n) → t ≡ true → QuickBlock lay f b bytes from n p o o (record { pen = p; ok = true })
+  pub quick-in : (t : Bool) → (t ≡ true → GoesIn f b (p .on) (p .used) n) → t ≡ true → QuickBlock lay f b n p o o (record { pen = p; ok = true })
   quick-in t g h =
-      record { kept = refl; small = λ _. g h .small; yes = λ _ j c. in-whole lay f b j bytes from n p o c (g h); no = λ e. absurd (false≢true (sym e)) }
+      record { kept = refl; small = λ _. g h .small; yes = λ _ j c. in-whole lay f b j n p o c (g h); no = λ e. absurd (false≢true (sym e)) }
 
-  pub quick-none : QuickBlock lay f b bytes from n p o o (record { pen = p; ok = false })
+  pub quick-none : QuickBlock lay f b n p o o (record { pen = p; ok = false })
   quick-none = record { kept = refl; small = λ e. absurd (false≢true e); yes = λ e. absurd (false≢true e); no = λ _. refl }
 
   module _ (t : Bool) (g : t ≡ true → GoesNext f b (p .on) (p .used) (p .room) n) (h : t ≡ true) where
     pub quick-closable : Closable lay p (length o)
-    quick-closable = next-closable lay f b (k .file) bytes from n p o (k .can) (g h)
+    quick-closable = next-closable lay f b (k .file) n p o (k .can) (g h)
 
-    pub quick-some : 1 ≤ p .room
-    quick-some = g h .some
+    module _ (q : List ℕ) (c : Pen) (x : Closes lay p o q c) where
+      pub quick-room : 1 ≤ c .room
+      quick-room = omega (arith, x .room, g h .some)
 
-    pub quick-few : p .count < 1000000
-    quick-few = next-few lay f b (k .file) bytes from n p o (k .can) (g h)
+      pub quick-few : c .count < 1000000
+      quick-few = omega (arith, x .count, next-few lay f b (k .file) n p o (k .can) (g h))
 
-    pub quick-next : (q : List ℕ) (r : Pen) → Turned lay p o q r → QuickBlock lay f b bytes from n p o q (record { pen = r; ok = true })
-    quick-next q r y =
-        record { kept = y .kept; small = λ _. g h .small; yes = λ _ j c. in-next lay f b j bytes from n p o c (g h) q r y; no = λ e. absurd (false≢true (sym e)) }
+      pub quick-kept : length q ≡ length o
+      quick-kept = x .kept
 
-    pub quick-kept : (q : List ℕ) (r : Pen) → Turned lay p o q r → length q ≡ length o
-    quick-kept q r y = y .kept
+      pub quick-next : (r : Pen) → r ≡ opened c → QuickBlock lay f b n p o q (record { pen = r; ok = true })
+      quick-next r e =
+          record { kept = x .kept; small = λ _. g h .small; yes = λ _ j v. in-next lay f b j n p o v (g h) q c x r e; no = λ e. absurd (false≢true (sym e)) }
 
-pub ruleset quicks = (quick-used, quick-in, quick-closable, quick-some, quick-few, quick-next, quick-kept, quick-none, needs)
+pub ruleset quicks = (quick-used, quick-in, quick-closable, quick-room, quick-few, quick-next, quick-kept, quick-none, needs)
 
 -- ---- through the packer
 
@@ -455,26 +462,21 @@ pub ruleset slows = (slow-packable, slow-inside, slow-kept, slow-recorded, needs
 -- ---- any record
 
 module _ (lay : Bool) (f b : ℕ) (j : Job) (bytes : List ℕ) (from n : ℕ) (p : Pen) (o : List ℕ) (k : Recordable lay f b j bytes from n p o) where
-  pub record-somewhere : Somewhere lay f b bytes from n p o
-  record-somewhere = record { file = j; can = k }
+  pub record-somewhere : Somewhere lay f b n p o
+  record-somewhere = record { file = j; can = wanting lay f b j bytes from n p o k }
 
-  module _ (q : List ℕ) (t : Quick) (y : QuickBlock lay f b bytes from n p o q t) where
+  module _ (q : List ℕ) (t : Quick) (y : QuickBlock lay f b n p o q t) where
     pub record-wholable : t .ok ≡ true → Wholable lay f bytes from n (t .pen) (length q)
-    record-wholable h = let w = y .yes h j k in blocked-wholable lay f b j bytes from n p o k q (t .pen) (w .blocked) (w .given) (w .whole) (y .small h)
+    record-wholable h = let w = y .yes h j (wanting lay f b j bytes from n p o k) in blocked-wholable lay f b j bytes from n p o k q (t .pen) (w .blocked) (w .given) (w .whole) (y .small h)
 
     pub record-whole : (z : List ℕ) (v : Pen) → t .ok ≡ true → Wholed lay f bytes from n (t .pen) q z v → Recorded lay f b j (part from n bytes) p o z v
-    record-whole z v h x = let w = y .yes h j k in blocked-recorded lay f b j bytes from n p o k q (t .pen) (w .blocked) (w .given) (w .whole) z v x
+    record-whole z v h x = let w = y .yes h j (wanting lay f b j bytes from n p o k) in blocked-recorded lay f b j bytes from n p o k q (t .pen) (w .blocked) (w .given) (w .whole) z v x
 
     pub record-kept : (z : List ℕ) (v : Pen) → t .ok ≡ true → Wholed lay f bytes from n (t .pen) q z v → length z ≡ length o
-    record-kept z v h x = let w = y .yes h j k in blocked-kept lay f b j bytes from n p o k q (t .pen) (w .blocked) (w .given) (w .whole) z v x
+    record-kept z v h x = let w = y .yes h j (wanting lay f b j bytes from n p o k) in blocked-kept lay f b j bytes from n p o k q (t .pen) (w .blocked) (w .given) (w .whole) z v x
 
     pub record-again : t .ok ≡ false → Recordable lay f b j bytes from n p q
     record-again h = subst (Recordable lay f b j bytes from n p) (sym (y .no h)) k
 
     pub record-slow : (z : List ℕ) (v : Pen) → t .ok ≡ false → Recorded lay f b j (part from n bytes) p q z v → Recorded lay f b j (part from n bytes) p o z v
     record-slow z v h x = subst (λ (l : List ℕ). Recorded lay f b j (part from n bytes) p l z v) (y .no h) x
-
-    pub record-slow-kept : (z : List ℕ) (v : Pen) → Recorded lay f b j (part from n bytes) p q z v → length z ≡ length o
-    record-slow-kept z v x = x .kept ∙ y .kept
-
-pub ruleset recording = (record-somewhere, record-wholable, record-whole, record-kept, record-again, record-slow, record-slow-kept, needs)

@@ -10,6 +10,7 @@ use mir.Syntax.{w64}
 use lib.Dec.{ltb}
 use lib.ListN.{length, take, drop}
 use Rattle.base.specs.Part.{part, putAt, putIn}
+use Rattle.base.specs.Digits.{digits}
 use Rattle.base.proofs.Parts.{length-part, length-put, part-within}
 use Rattle.block.specs.Unit.{wordOf}
 use Rattle.writing.specs.Pack.{taken, indicatorOf, controlWord}
@@ -18,8 +19,9 @@ use Rattle.writing.proofs.Units.{length-control}
 use Rattle.writer.specs.declared.pen.Pen.{Pen}
 use Rattle.writer.specs.declared.pack.Flow.{Flow}
 use Rattle.writer.specs.Pass.{inkAt}
+use Rattle.writer.specs.Pens.{wordWith}
 use Rattle.writer.specs.Packs.{more, headed, Headable, Headed, manyOf, Partable, Spelled}
-use Rattle.writer.proofs.Written.{ink-put, ink-put-in, ink-in-kept, ink-not}
+use Rattle.writer.proofs.Written.{ink-put, ink-put-in, ink-in-kept, ink-not, word-fits, word-said}
 
 -- ---- a unit is begun
 
@@ -54,24 +56,24 @@ module _ (lay : Bool) (f b : ℕ) (s : Flow) (size : ℕ) (y : Headable lay f b 
         let n : r ≡ more (s .pen) (wordOf f) = m ∙ ap (more (s .pen)) h in
         λ z. record { pen = n z; left = s .left; seg = e z; from = s .from; begun = s .begun; inside = true; on = true }
 
-    pub head-laid : (i : ℕ) (o q : List ℕ) → (i ≡ indicatorOf (s .begun) k (s .left)) × (i ≤ 3) → lay ≡ true
-        → q ≡ putAt o (s .pen .at + 3 + s .pen .used) (controlWord f i k) → Headed lay f b s o q headed-by
-    head-laid i o q g l y =
+    pub head-laid : (i : ℕ) (d o q : List ℕ) → (i ≡ indicatorOf (s .begun) k (s .left)) × (i ≤ 3) → lay ≡ true → d ≡ digits 4 (k + w)
+        → q ≡ putAt o (s .pen .at + 3 + s .pen .used) (wordWith f i d) → Headed lay f b s o q headed-by
+    head-laid i d o q g l v y =
         let c : controlWord f i k ≡ controlWord f (indicatorOf (s .begun) (taken f b (s .pen .used) (s .left)) (s .left)) (taken f b (s .pen .used) (s .left))
         = ap (λ (z : ℕ). controlWord f z k) (g .0) ∙ ap (λ (z : ℕ). controlWord f (indicatorOf (s .begun) z (s .left)) z) e in
         record {
           is = head-is;
           laid =
-              ink-put lay o (s .pen .at + 3 + s .pen .used) (controlWord f i k) q l y ∙ ap (inkAt lay o (s .pen .at + 3 + s .pen .used)) c;
+              ink-put lay o (s .pen .at + 3 + s .pen .used) (controlWord f i k) q l (word-said f i k o (s .pen .at + 3 + s .pen .used) w h d q v y) ∙ ap (inkAt lay o (s .pen .at + 3 + s .pen .used)) c;
         }
 
     pub head-measured : (o : List ℕ) → lay ≡ false → Headed lay f b s o o headed-by
     head-measured o l = record { is = head-is; laid = ink-not lay o (s .pen .at + 3 + s .pen .used) _ l }
 
-pub word-laid-kept : (o : List ℕ) (at f i k : ℕ) (q : List ℕ) → at + wordOf f ≤ length o → q ≡ putAt o at (controlWord f i k) → length q ≡ length o
-word-laid-kept o at f i k q r e = ap length e ∙ length-put o at (controlWord f i k) (omega (arith, length-control f i k))
+pub word-laid-kept : (o : List ℕ) (at f i k w : ℕ) (d q : List ℕ) → w ≡ wordOf f → at + wordOf f ≤ length o → d ≡ digits 4 (k + w) → q ≡ putAt o at (wordWith f i d) → length q ≡ length o
+word-laid-kept o at f i k w d q h r v e = ap length (word-said f i k o at w h d q v e) ∙ length-put o at (controlWord f i k) (omega (arith, length-control f i k))
 
-pub ruleset heading = (head-small, head-three, head-room, head-at-fits, head-fits, head-more, head-laid, head-measured, word-laid-kept, needs)
+pub ruleset heading = (word-fits, head-small, head-three, head-room, head-at-fits, head-fits, head-more, head-laid, head-measured, word-laid-kept, needs)
 
 -- ---- bytes of the open unit
 

@@ -23,7 +23,7 @@ use Rattle.writing.specs.Pack.{controlWord}
 use Rattle.writing.proofs.Packing.{by-test}
 use Rattle.writing.proofs.Units.{length-control}
 use Rattle.writer.specs.Pass.{Puts, inkAt}
-use Rattle.writer.specs.Pens.{mostOf, wordWith, Unitable}
+use Rattle.writer.specs.Pens.{mostOf, wordWith}
 
 pub ink-put : (lay : Bool) (o : List ℕ) (at : ℕ) (bs q : List ℕ) → lay ≡ true → q ≡ putAt o at bs → q ≡ inkAt lay o at bs
 unfolding inkAt
@@ -123,8 +123,6 @@ module _ (f i k : ℕ) (o : List ℕ) (at w : ℕ) (v : w ≡ wordOf f) where
   pub word-said : (d q : List ℕ) → d ≡ digits 4 (k + w) → q ≡ putAt o at (wordWith f i d) → q ≡ putAt o at (controlWord f i k)
   word-said d q e x = x ∙ ap (putAt o at) (ap (wordWith f i) (e ∙ ap (λ (n : ℕ). digits 4 (k + n)) v) ∙ word-says f i k)
 
-pub ruleset saying = (word-fits, word-said, needs)
-
 -- ---- a unit
 
 module _ (f i n : ℕ) (o : List ℕ) (at w : ℕ) (word : w ≡ wordOf f) (bytes : List ℕ) (from : ℕ) (inside : from + n ≤ length bytes) (small : n ≤ mostOf f)
@@ -133,18 +131,15 @@ module _ (f i n : ℕ) (o : List ℕ) (at w : ℕ) (word : w ≡ wordOf f) (byte
     abbrev s : List ℕ
     s = take (from + n - from) (drop from bytes)
 
-    pub unit-word-room : at + wordOf f ≤ length o
-    unit-word-room = omega arith
-
     long : length s ≡ n
     long = ap length (part-within from n bytes) ∙ length-part from n bytes inside
 
-    pub unit-says-fits : FitsIn w64 (n + w)
-    unit-says-fits = record { fits = omega (arith, word-small f, most-small f) }
+    module _ (d q : List ℕ) (e : d ≡ digits 4 (min (w + n) 9999)) (y : q ≡ putAt o at (wordWith f i d)) where
+      says : d ≡ digits 4 (min (n + wordOf f) 9999)
+      says = let same : w + n ≡ n + wordOf f = omega arith in e ∙ ap (λ (k : ℕ). digits 4 (min k 9999)) same
 
-    module _ (d q : List ℕ) (e : d ≡ digits 4 (min (n + w) 9999)) (y : q ≡ putAt o at (wordWith f i d)) where
       x : q ≡ putAt o at (controlWord f i n)
-      x = y ∙ ap (putAt o at) (ap (wordWith f i) (e ∙ ap (λ (k : ℕ). digits 4 (min (n + k) 9999)) word) ∙ figures-say f i n small)
+      x = y ∙ ap (putAt o at) (ap (wordWith f i) says ∙ figures-say f i n small)
 
       kept : length q ≡ length o
       kept = ap length x ∙ put-length o at (controlWord f i n) (omega (arith, length-control f i n))
@@ -162,19 +157,5 @@ module _ (f i n : ℕ) (o : List ℕ) (at w : ℕ) (word : w ≡ wordOf f) (byte
           ∙ put-put o at (controlWord f i n) s (omega (arith, length-control f i n))
           ∙ ap (λ (l : List ℕ). putAt o at (controlWord f i n ++ l)) (part-within from n bytes)
 
-pub ruleset units = (unit-word-room, unit-says-fits, unit-put, needs)
-
-module _ (lay : Bool) (f i n from at have size : ℕ) (y : Unitable lay f i n from at have size) where
-  pub unitable-three : i ≤ 3
-  unitable-three = y .three
-
-  pub unitable-small : n ≤ mostOf f
-  unitable-small = y .small
-
-  pub unitable-inside : from + n ≤ have
-  unitable-inside = y .inside
-
-  pub unitable-room : lay ≡ true → at + wordOf f + n ≤ size
-  unitable-room l = y .room l
-
-pub ruleset unit-inks = (ink-put, ink-not, unitable-three, unitable-small, unitable-inside, unitable-room, needs)
+      pub unit-kept : (z : List ℕ) → z ≡ putIn q (at + w) s → length z ≡ length o
+      unit-kept z l = ap length (l ∙ put-in q (at + w) s unit-room) ∙ put-length q (at + w) s unit-room ∙ kept

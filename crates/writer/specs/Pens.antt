@@ -7,7 +7,6 @@ use lib.Dec.{eqb}
 use lib.ListN.{length}
 use Rattle.base.specs.If.{ifB}
 use Rattle.base.specs.Format.{F, D}
-use Rattle.block.specs.Unit.{wordOf}
 use Rattle.writing.specs.Lay.{Next}
 use Rattle.writer.specs.declared.pen.Pen.{Pen}
 use Rattle.writer.specs.Pass.{Job, behind, Fits, Sound, ends}
@@ -19,13 +18,6 @@ mostOf f = ifB (eqb f F) 99999 (ifB (eqb f D) 9995 9994)
 -- a control word with indicator i and digits d
 unfoldable pub wordWith : ℕ → ℕ → List ℕ → List ℕ
 wordWith f i d = ifB (eqb f F) [] (ifB (eqb f D) d ((48 + i) ∷ d))
-
--- a unit of n bytes can be written at a place
-pub record Unitable (lay : Bool) (f i n from at have size : ℕ) : Type 0 where
-  pub three : i ≤ 3
-  pub small : n ≤ mostOf f
-  pub inside : from + n ≤ have
-  pub room : lay ≡ true → at + wordOf f + n ≤ size
 
 -- a block y is to be begun, and there is room in the buffer for it and all that follows
 pub record Ahead (j : Job) (p : Pen) (o : List ℕ) : Type 0 where

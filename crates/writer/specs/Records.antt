@@ -10,10 +10,10 @@ use Rattle.writing.specs.Pack.{going, startOf, enters, taken, controlWord, Room
 use Rattle.writing.specs.Lay.{Next}
 use Rattle.writer.specs.declared.pen.Pen.{Pen}
 use Rattle.writer.specs.declared.source.Cursor.{Cursor}
-use Rattle.writer.specs.Pens.{mostOf, Ready, Opens}
+use Rattle.writer.specs.Pens.{mostOf}
 use Rattle.writer.specs.Pass.{Job, Fits, Sound, inkAt, between, penned}
 use Rattle.writer.specs.declared.record.Quick.{Quick}
-use Rattle.writer.specs.Packs.{entersOn, more, Blocked}
+use Rattle.writer.specs.Packs.{entersOn, more, Wanting, Blocked}
 use Rattle.writer.specs.Source.{splitBytes, SplitHere}
 
 -- a record of n bytes goes whole into the block that is open
@@ -43,12 +43,6 @@ pub record Wholed (lay : Bool) (f : ℕ) (bytes : List ℕ) (from n : ℕ) (p : 
   pub is : r ≡ more p (wordOf f + n)
   pub laid : q ≡ inkAt lay o (p .at + 3 + p .used) (controlWord f 0 n ++ part from n bytes)
 
--- the next block was opened on this reel
-pub record Turned (lay : Bool) (p : Pen) (o q : List ℕ) (r : Pen) : Type 0 where
-  pub kept : length q ≡ length o
-  pub given : r .short ≡ false
-  pub opens : (j : Job) → Ready lay j p o → Opens lay j p o q r
-
 -- records and whatever follows the file, for which the buffer has room
 pub record Behind (f b : ℕ) (j : Job) (x : List ℕ) (p : Pen) (o : List ℕ) : Type 0 where
   pub later : List (List ℕ)
@@ -72,10 +66,10 @@ pub record Recorded (lay : Bool) (f b : ℕ) (j : Job) (x : List ℕ) (p : Pen) 
   pub same : (xs : List (List ℕ)) (next : Next) → Room f b xs
       → penned lay f b j r q (between (startOf xs)) next ≡ penned lay f b j p o (between (going 0 x xs)) next
 
--- a record of some file
-pub record Somewhere (lay : Bool) (f b : ℕ) (bytes : List ℕ) (from n : ℕ) (p : Pen) (o : List ℕ) : Type 0 where
+-- a record of n bytes of some file
+pub record Somewhere (lay : Bool) (f b n : ℕ) (p : Pen) (o : List ℕ) : Type 0 where
   pub file : Job
-  pub can : Recordable lay f b file bytes from n p o
+  pub can : Wanting lay f b file n p o
 
 -- pen r is in a block which the record enters whole
 pub record Whole (lay : Bool) (f b : ℕ) (j : Job) (n : ℕ) (p : Pen) (o q : List ℕ) (r : Pen) : Type 0 where
@@ -84,10 +78,10 @@ pub record Whole (lay : Bool) (f b : ℕ) (j : Job) (n : ℕ) (p : Pen) (o q : L
   pub whole : taken f b (r .used) n ≡ n
 
 -- the block for a record that goes whole into the open block or into the next of this reel; else nothing was done
-pub record QuickBlock (lay : Bool) (f b : ℕ) (bytes : List ℕ) (from n : ℕ) (p : Pen) (o q : List ℕ) (r : Quick) : Type 0 where
+pub record QuickBlock (lay : Bool) (f b n : ℕ) (p : Pen) (o q : List ℕ) (r : Quick) : Type 0 where
   pub kept : length q ≡ length o
   pub small : r .ok ≡ true → n ≤ mostOf f
-  pub yes : r .ok ≡ true → (j : Job) → Recordable lay f b j bytes from n p o → Whole lay f b j n p o q (r .pen)
+  pub yes : r .ok ≡ true → (j : Job) → Wanting lay f b j n p o → Whole lay f b j n p o q (r .pen)
   pub no : r .ok ≡ false → q ≡ o
 
 -- ---- a record in several segments

@@ -9,7 +9,9 @@ ghost use Rattle.writer.specs.Bodies.{Takable, Bodied, BodyPut};
 use crate::item::Labels;
 use crate::pen::Pen;
 use crate::record::most_of;
-use crate::record::put_record;
+use crate::record::put_slow;
+use crate::record::put_whole;
+use crate::record::quick_block;
 use crate::source::Cursor;
 use crate::source::Found;
 use crate::source::NONE;
@@ -40,8 +42,8 @@ fn moved_to(c: Cursor, at: usize, left: usize) -> Cursor
     }
 }
 
-// Packs a record that was found at a cursor.
-fn put_found(
+// Packs a record that was found at a cursor: segment by segment, whole into a block, or wherever it has room.
+fn put_record(
     f: u8,
     b: usize,
     w: usize,
@@ -63,20 +65,12 @@ fn put_found(
     if r.kind == SPLIT {
         return put_split(f, b, bytes, c, r.len, labels, rooms, p, out, lay);
     }
-    put_record(
-        f,
-        b,
-        w,
-        most,
-        bytes,
-        r.from,
-        r.len,
-        labels,
-        rooms,
-        p,
-        out,
-        lay,
-    )
+    let t = quick_block(f, b, w, most, r.len, p, out, lay);
+    if t.ok {
+        let q = t.pen;
+        return put_whole(f, w, bytes, r.from, r.len, q, out, lay);
+    }
+    put_slow(f, b, bytes, r.from, r.len, labels, rooms, p, out, lay)
 }
 
 // Packs all records from a cursor on, up to the open block; it stops where a reel is lacking.
@@ -107,7 +101,7 @@ pub(crate) fn put_records(
                 end: stop_of(lengths, bytes, c),
             };
         }
-        pen = put_found(f, b, w, most, bytes, c, r, labels, rooms, pen, out, lay);
+        pen = put_record(f, b, w, most, bytes, c, r, labels, rooms, pen, out, lay);
         if pen.short {
             return Body { pen, end: 0 };
         }

@@ -7,7 +7,7 @@ ghost use Rattle.writer.specs.Pass.{jobOf};
 ghost use Rattle.writer.specs.Packs.{entersOn, more, Steps, Headable, Headed, Partable, Spelled, Turns, Packable, Packed};
 use crate::item::Labels;
 use crate::lay::WORD;
-use crate::lay::put_word;
+use crate::lay::put_digits;
 use crate::pen::Pen;
 use crate::pen::close;
 use crate::pen::next_block;
@@ -17,6 +17,7 @@ use crate::unit::smaller;
 use crate::unit::taken;
 use crate::unit::word_of;
 use base::put_in;
+use output::four_digits;
 
 // Where the packing of a record is: the pen; the bytes that are left of the record, and of its open unit; the place in the piece; 1 where the record has a
 // unit already; whether a unit is open, and whether there is more to be packed of the piece.
@@ -64,7 +65,8 @@ fn put_head(f: u8, b: usize, s: Flow, out: &mut [u8], lay: bool) -> Flow
 {
     let p = s.pen;
     let k = taken(f, b, p.used, s.left);
-    let pen = more(p, word_of(f));
+    let w = word_of(f);
+    let pen = more(p, w);
     let r = Flow {
         pen,
         left: s.left,
@@ -76,7 +78,8 @@ fn put_head(f: u8, b: usize, s: Flow, out: &mut [u8], lay: bool) -> Flow
     };
     if lay {
         let i = indicator(s.begun, k, s.left);
-        put_word(out, p.at + WORD + p.used, f, i, k);
+        let d = four_digits(k + w);
+        put_digits(out, p.at + WORD + p.used, f, i, &d);
     }
     r
 }

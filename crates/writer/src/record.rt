@@ -1,16 +1,16 @@
 // A record that stands in one piece, packed into blocks: most often it goes whole into the open block or into the next one.
 ghost use mathlib.Core.Path.{_≡_};
 ghost use mathlib.Core.Bool.{true, false};
-ghost use Prim.Native.Nat.{_≤_, _<_};
+ghost use Prim.Native.Nat.{_≤_};
 ghost use lib.ListN.{length};
 ghost use Rattle.base.specs.Part.{part};
 ghost use Rattle.block.specs.Unit.{wordOf};
 ghost use Rattle.writer.specs.Pass.{jobOf};
-ghost use Rattle.writer.specs.Pens.{mostOf, Closable};
-ghost use Rattle.writer.specs.Records.{GoesIn, GoesNext, Wholable, Wholed, Turned, Recordable, Recorded, Somewhere, QuickBlock};
+ghost use Rattle.writer.specs.Pens.{mostOf};
+ghost use Rattle.writer.specs.Records.{GoesIn, GoesNext, Wholable, Wholed, Recordable, Recorded, Somewhere, QuickBlock};
 use crate::item::Labels;
 use crate::lay::WORD;
-use crate::lay::lay_unit;
+use crate::lay::put_digits;
 use crate::pack::Flow;
 use crate::pack::enters_on;
 use crate::pack::more;
@@ -20,6 +20,8 @@ use crate::pen::close;
 use crate::pen::opened;
 use base::FIXED;
 use base::VARIABLE;
+use base::put_short;
+use output::figures;
 
 // A block for a record, if there is one.
 pub struct Quick {
@@ -83,8 +85,8 @@ fn goes_next(
     false
 }
 
-// Writes a whole record into the open block.
-fn put_whole(
+// Writes a whole record into the open block, its control word before it.
+pub(crate) fn put_whole(
     f: u8,
     w: usize,
     bytes: &[u8],
@@ -98,23 +100,19 @@ fn put_whole(
     requires { ⌜ Wholable lay f (now bytes) from n p (length (now out)) ⌝ }
     ensures { λ r. ⌜ Wholed lay f (now (bytes .entry)) from n p (now (out .entry)) (now (out .exit)) r ⌝ }
 {
-    lay_unit(f, 0, bytes, from, n, out, p.at + WORD + p.used, lay);
-    more(p, w + n)
-}
-
-// Closes the open block and opens the next, for which the reel has room.
-fn turn_over(p: Pen, out: &mut [u8], lay: bool) -> Pen
-    requires { ⌜ Closable lay p (length (now out)) ⌝ }
-    requires { ⌜ 1 ≤ p .room ⌝ }
-    requires { ⌜ p .count < 1000000 ⌝ }
-    ensures { λ r. ⌜ Turned lay p (now (out .entry)) (now (out .exit)) r ⌝ }
-{
-    let c = close(p, out, lay);
-    opened(c)
+    let r = more(p, w + n);
+    if lay {
+        let at = p.at + WORD + p.used;
+        let end = from + n;
+        let d = figures(w + n);
+        put_digits(out, at, f, 0, &d);
+        put_short(out, at + w, &bytes[from..end]);
+    }
+    r
 }
 
 // Packs a record that does not go whole into the open block, nor into the next on this reel.
-fn put_slow(
+pub(crate) fn put_slow(
     f: u8,
     b: usize,
     bytes: &[u8],
@@ -144,13 +142,11 @@ fn put_slow(
 }
 
 // The block for a record that goes whole into the open block, or into the next of this reel; with `ok` false nothing was done.
-fn quick_block(
+pub(crate) fn quick_block(
     f: u8,
     b: usize,
     w: usize,
     most: usize,
-    bytes: &[u8],
-    from: usize,
     n: usize,
     p: Pen,
     out: &mut [u8],
@@ -158,43 +154,16 @@ fn quick_block(
 ) -> Quick
     requires { ⌜ w ≡ wordOf f ⌝ }
     requires { ⌜ most ≡ mostOf f ⌝ }
-    requires { ⌜ Somewhere lay f b (now bytes) from n p (now out) ⌝ }
-    ensures { λ r. ⌜ QuickBlock lay f b (now (bytes .entry)) from n p (now (out .entry)) (now (out .exit)) r ⌝ }
+    requires { ⌜ Somewhere lay f b n p (now out) ⌝ }
+    ensures { λ r. ⌜ QuickBlock lay f b n p (now (out .entry)) (now (out .exit)) r ⌝ }
 {
     if goes_in(f, b, w, most, p.on, p.used, n) {
         return Quick { pen: p, ok: true };
     }
     if goes_next(f, b, w, most, p.on, p.used, p.room, n) {
-        let pen = turn_over(p, out, lay);
+        let c = close(p, out, lay);
+        let pen = opened(c);
         return Quick { pen, ok: true };
     }
     Quick { pen: p, ok: false }
-}
-
-// Packs a record.
-pub(crate) fn put_record(
-    f: u8,
-    b: usize,
-    w: usize,
-    most: usize,
-    bytes: &[u8],
-    from: usize,
-    n: usize,
-    labels: &Labels,
-    rooms: &[u64],
-    p: Pen,
-    out: &mut [u8],
-    lay: bool,
-) -> Pen
-    requires { ⌜ w ≡ wordOf f ⌝ }
-    requires { ⌜ most ≡ mostOf f ⌝ }
-    requires { ⌜ Recordable lay f b (jobOf (now labels) (now rooms)) (now bytes) from n p (now out) ⌝ }
-    ensures { λ r. ⌜ Recorded lay f b (jobOf (now (labels .entry)) (now (rooms .entry))) (part from n (now (bytes .entry))) p (now (out .entry)) (now (out .exit)) r ⌝ }
-{
-    let t = quick_block(f, b, w, most, bytes, from, n, p, out, lay);
-    if t.ok {
-        let q = t.pen;
-        return put_whole(f, w, bytes, from, n, q, out, lay);
-    }
-    put_slow(f, b, bytes, from, n, labels, rooms, p, out, lay)
 }

@@ -35,8 +35,8 @@ same-length c = search writing
 returns : tie.Need-returns Inv-loop μ-loop
 returns c = search writing
 
-put-found-requires : tie.Need-put-found-requires Inv-loop μ-loop
-put-found-requires c κs = (
+put-record-requires : tie.Need-put-record-requires Inv-loop μ-loop
+put-record-requires c κs = (
   c .before .before .before .before .before .before .word-of .ensures,
   (c .before .before .before .before .before .most-of .ensures, writing-takable _ _ _ _ _ _ _ _ _ _ _ _ (c .before .before .before .before .loop .inv) _ (c .before .before .before .next .ensures) (c .before .if1 .left)),
 )
@@ -69,7 +69,7 @@ put-records-spec =
     stop-of-requires
     same-length
     returns
-    put-found-requires
+    put-record-requires
     same-length-2
     returns-2
     moved-to-requires

@@ -1,15 +1,7 @@
-use Rattle.writer.proofs.Records.{wholes}
+use borrow.Author.Needs.{needs}
+use Rattle.writer.proofs.Records.{wholes, whole-laid, whole-measured, whole-kept}
 use Rattle.writer.proofs.record.put_whole.Statement.{statement}
 use Rattle.writer.proofs.record.put_whole.Tie as tie
-
-add-lay-unit : tie.Need-add-lay-unit
-add-lay-unit c = search wholes
-
-add-lay-unit-2 : tie.Need-add-lay-unit-2
-add-lay-unit-2 c = search wholes
-
-lay-unit-requires : tie.Need-lay-unit-requires
-lay-unit-requires c κs = search wholes
 
 add-more : tie.Need-add-more
 add-more c = search wholes
@@ -17,20 +9,65 @@ add-more c = search wholes
 more-requires : tie.Need-more-requires
 more-requires c κs = search wholes
 
+add-at : tie.Need-add-at
+add-at c = search wholes
+
+add-at-2 : tie.Need-add-at-2
+add-at-2 c = search wholes
+
+add-end : tie.Need-add-end
+add-end c = search wholes
+
+add-figures : tie.Need-add-figures
+add-figures c = search wholes
+
+figures-requires : tie.Need-figures-requires
+figures-requires c κs = search needs
+
+put-digits-requires : tie.Need-put-digits-requires
+put-digits-requires c κs = search wholes
+
+add-put-short : tie.Need-add-put-short
+add-put-short c = search wholes
+
+sub-put-short : tie.Need-sub-put-short
+sub-put-short c = search needs
+
+part-put-short-start : tie.Need-part-put-short-start
+part-put-short-start c = search needs
+
+part-put-short-end : tie.Need-part-put-short-end
+part-put-short-end c = search wholes
+
+put-short-requires : tie.Need-put-short-requires
+put-short-requires c κs = search needs
+
 same-length : tie.Need-same-length
-same-length c = search wholes
+same-length c = search (whole-kept, needs)
 
 returns : tie.Need-returns
-returns c = search wholes
+returns c = search (whole-laid, needs)
+
+returns-2 : tie.Need-returns-2
+returns-2 c = search (whole-measured, needs)
 
 pub put-whole-spec : {M : Type 1} → statement M
 put-whole-spec =
     tie.close
     (tie.spec
-    add-lay-unit
-    add-lay-unit-2
-    lay-unit-requires
     add-more
     more-requires
+    add-at
+    add-at-2
+    add-end
+    add-figures
+    figures-requires
+    put-digits-requires
+    add-put-short
+    sub-put-short
+    part-put-short-start
+    part-put-short-end
+    put-short-requires
     same-length
-    returns)
+    returns
+    returns-2)

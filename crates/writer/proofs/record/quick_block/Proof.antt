@@ -1,3 +1,4 @@
+use borrow.Author.Needs.{needs}
 use Rattle.writer.proofs.Records.{quicks}
 use Rattle.writer.proofs.record.quick_block.Statement.{statement}
 use Rattle.writer.proofs.record.quick_block.Tie as tie
@@ -11,8 +12,11 @@ returns c = search quicks
 goes-next-requires : tie.Need-goes-next-requires
 goes-next-requires c κs = search quicks
 
-turn-over-requires : tie.Need-turn-over-requires
-turn-over-requires c κs = search quicks
+close-requires : tie.Need-close-requires
+close-requires c κs = search quicks
+
+opened-requires : tie.Need-opened-requires
+opened-requires c κs = search quicks
 
 same-length : tie.Need-same-length
 same-length c = search quicks
@@ -30,7 +34,8 @@ quick-block-spec =
     goes-in-requires
     returns
     goes-next-requires
-    turn-over-requires
+    close-requires
+    opened-requires
     same-length
     returns-2
     returns-3)
