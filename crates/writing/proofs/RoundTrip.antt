@@ -34,7 +34,8 @@ use Rattle.output.specs.Output.{Written, refused}
 use Rattle.writing.specs.Write.{stored, storedLaid, writeSheet, write}
 use Rattle.writing.proofs.Units.{both}
 use Rattle.writing.proofs.Packed.{held, flat, file-records}
-use Rattle.writing.proofs.Labels.{length-volume, set-back}
+use Rattle.writing.proofs.Labels.{set-back}
+use Rattle.label.proofs.Read.{length-volume}
 use Rattle.writing.proofs.Entry.{legal-first, legal-second, suited, entry-back}
 use Rattle.writing.proofs.Acts.{at, act-volume}
 use Rattle.writing.proofs.Laying.{read-label, Ends, IsLaid, ends-put, namesOf, Rooms, Usable, usable-next, Reels, heldBy, eventsFrom, legal-file, one-set, file-ends, files-end}
