@@ -13,12 +13,12 @@ use Rattle.image.specs.Item.{block}
 use Rattle.order.specs.Kind.{hdr, tapeMark, isKind}
 use Rattle.order.specs.declared.Phase.{Phase}
 use Rattle.label.specs.Field.{formatOf, blockLengthOf, recordLengthOf, offsetOf, leastRecord, suitsBoth, isLength, isRecordLength, hasRecordLength, good}
-use Rattle.label.specs.Table.{second, fieldsOf}
-use Rattle.label.specs.Judged.{goodAt, labelFault}
+use Rattle.label.specs.Table.{hdr2, recordLengthRow, fieldsOf}
+use Rattle.label.specs.Judged.{firstBad, goodAt, labelFault}
 use Rattle.volume.specs.Fault.{valueOf}
 use Rattle.volume.specs.Step.{kindIn}
 use Rattle.volume.proofs.Reels.{block-other}
-use Rattle.reading.proofs.Entries.{Rows, label-rows}
+use Rattle.label.proofs.Every.{all-hold, sound-fields}
 
 -- ---- a block is no mark
 
@@ -41,8 +41,8 @@ length-some f b (Value r) o h z =
 pub record-some : (l : List ℕ) → labelFault (hdr 2) l .number ≡ 0 → valueOf (recordLengthOf l) ≡ 0 → ⊥
 unfolding goodAt good hasRecordLength ifB
 record-some l h =
-    let all : Rows (goodAt l) 0 second = subst (Rows (goodAt l) 0) table (label-rows (hdr 2) l h) in
-    length-some (formatOf l) (blockLengthOf l) (recordLengthOf l) (offsetOf l) (all .1 .1 .1 .0)
+    length-some (formatOf l) (blockLengthOf l) (recordLengthOf l) (offsetOf l)
+    (all-hold (goodAt l) hdr2 (ap (firstBad (goodAt l) 0) (sym table) ∙ sound-fields (hdr 2) l h) recordLengthRow refl)
   where
-    table : fieldsOf (hdr 2) ≡ second
+    table : fieldsOf (hdr 2) ≡ hdr2
     table = unfold fieldsOf isKind ifB in refl

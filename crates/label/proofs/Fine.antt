@@ -1,123 +1,162 @@
--- What the walk over a table says of its fields, and that fields which suit a table make a label without a wrong field. Assumes nothing.
-use mathlib.Core.Path.{_≡_, refl, sym, ap, _∙_}
-use mathlib.Core.Bool.{Bool, true, false}
-use mathlib.Core.List.{List, [], _∷_, _++_, append-assoc}
-use Prim.{Unit, tt}
-use Prim.Native.Nat.{ℕ, zero, suc, _+_}
+-- Labels laid of fields, against their table: that they have no wrong field, and none that is unequal. A field set anew asks for one fact on its row alone,
+-- which a table gives by computing. Assumes nothing.
+use mathlib.Core.Path.{_≡_, refl, sym, ap, ap₂, _∙_, subst}
+use mathlib.Core.Bool.{Bool, true, false, false≢true, not, _&&_}
+use mathlib.Core.List.{List, [], _∷_}
+use Prim.Native.Nat.{ℕ, zero, suc, _+_, _≤_}
 use native.Mathlib.Omega.{arith}
-use lib.Dec.{eqb}
-use lib.ListN.{length, take, drop, length-append}
-use lib.Seq.{take-at, drop-append-seam}
-use borrow.Author.Tests.{eq-eqb}
-use Rattle.base.specs.If.{ifB, if-true, if-false, if-case, if-same}
-use Rattle.base.specs.Part.{part, same}
+use lib.Dec.{eqb, leb}
+use lib.ListN.{length}
+use borrow.Author.Tests.{eqb-true}
+use Rattle.base.specs.If.{ifB, if-true, if-false, if-case}
+use Rattle.base.specs.Part.{part, same, allAre}
+use Rattle.base.specs.Digits.{allDigits}
 use Rattle.base.proofs.Bytes.{same-refl}
-use Rattle.label.specs.Field.{good}
-use Rattle.label.specs.Table.{equal}
-use Rattle.label.specs.Judged.{firstBad, goodAt, agreeAt, wrongFrom, unequalFrom}
+use Rattle.base.proofs.Parts.{length-part}
+use Rattle.charset.specs.Class.{allA}
+use Rattle.charset.specs.Number.{numberIn}
+use Rattle.charset.specs.Date.{isDate}
+use Rattle.label.specs.Table.{placeOf, widthOf, recordLength}
+use Rattle.label.specs.Field.{isPositive, isFormat, hasRecordLength, good}
+use Rattle.label.specs.Judged.{firstBad, goodAt, agreeAt, wrongIn, unequalIn}
 use Rattle.label.specs.Made.{fitted, laid}
-use Rattle.label.proofs.Laid.{headOf, restOf, laid-row, length-fitted}
+use Rattle.label.proofs.Laid.{headOf, restOf, fieldAt, fielded, widths, filled-back, fitted-all}
+use Rattle.label.proofs.Every.{ruleOf, scopeOf, isRow, Hold, none-bad, all-hold}
 
--- ---- the walk, field by field
+-- ---- one field
 
--- every field of the table, from place `at` on, is as its row asks
-abbrev pub Passing : (ℕ → ℕ → ℕ → Bool) → ℕ → List ℕ → Type 0
-Passing ok at [] = Unit
-Passing ok at (w ∷ []) = Unit
-Passing ok at (w ∷ r ∷ rows) = (ok r at w ≡ true) × Passing ok (at + w) rows
+-- but for the record length, a rule sees the field alone
+good-alike : (r : ℕ) (l m f : List ℕ) → eqb r recordLength ≡ false → good r l f ≡ good r m f
+unfolding good
+good-alike r l m f h =
+    ap (λ (t : Bool).
+    ifB (eqb r 1) (allA f)
+    (ifB (eqb r 2) (allAre 32 f)
+    (ifB (eqb r 3) (allDigits f)
+    (ifB (eqb r 4) (allAre 48 f)
+    (ifB (eqb r 5) (isPositive (numberIn f))
+    (ifB (eqb r 6) (isDate f)
+    (ifB (eqb r 7) (same f (52 ∷ []))
+    (ifB (eqb r 8) (isFormat f) t)))))))) (if-false (eqb r 9) (hasRecordLength l) true h ∙ sym (if-false (eqb r 9) (hasRecordLength m) true h))
 
-pub none-bad : (ok : ℕ → ℕ → ℕ → Bool) (at : ℕ) (rows : List ℕ) → Passing ok at rows → firstBad ok at rows ≡ 0
-unfolding firstBad
-none-bad ok at [] p = refl
-none-bad ok at (w ∷ []) p = refl
-none-bad ok at (w ∷ r ∷ rows) p = if-true _ _ _ (p .0) ∙ none-bad ok (at + w) rows (p .1)
+-- so a field that suits its rule in one label suits it in another, if that one's record length is good where it is asked for
+good-other : (r : ℕ) (l m f : List ℕ) → (eqb r recordLength ≡ true → hasRecordLength m ≡ true) → good r l f ≡ true → good r m f ≡ true
+unfolding good ifB
+good-other r l m f h g = by (eqb r recordLength) refl
+  where
+    by : (t : Bool) → eqb r recordLength ≡ t → good r m f ≡ true
+    by true e = ap (λ (x : ℕ). good x m f) (eqb-true r recordLength e) ∙ h e
+    by false e = good-alike r m l f e ∙ g
 
-pub all-passing : (ok : ℕ → ℕ → ℕ → Bool) (at : ℕ) (rows : List ℕ) → firstBad ok at rows ≡ 0 → Passing ok at rows
-unfolding firstBad
-all-passing ok at [] h = tt
-all-passing ok at (w ∷ []) h = tt
-all-passing ok at (w ∷ r ∷ rows) h =
-    if-case (λ (n : ℕ). n ≡ 0 → (ok r at w ≡ true) × Passing ok (at + w) rows) (ok r at w) (firstBad ok (at + w) rows) (at + 1)
-    (λ e q. (e, all-passing ok (at + w) rows q)) (λ e q. absurd (omega arith)) h
-
--- ---- laid labels
-
--- a field of a label behind some of its bytes
-part-laid : (l pre f post : List ℕ) (w : ℕ) → l ≡ pre ++ (f ++ post) → length f ≡ w → part (length pre) w l ≡ f
-unfolding part
-part-laid l pre f post w e h =
-    ap (λ (x : List ℕ). take w (drop (length pre) x)) e ∙ ap (take w) (drop-append-seam pre (f ++ post)) ∙ take-at f post w h
-
-longer : (pre f : List ℕ) (w : ℕ) → length f ≡ w → length pre + w ≡ length (pre ++ f)
-longer pre f w h = simp length-append (omega arith)
+-- ---- the fields of a label
 
 -- each field, cut or filled to its width, suits its rule in label l
 abbrev pub Suit : List ℕ → List ℕ → List (List ℕ) → Type 0
-Suit l [] fs = Unit
-Suit l (w ∷ []) fs = Unit
-Suit l (w ∷ r ∷ rows) fs = (good r l (fitted w (headOf fs)) ≡ true) × Suit l rows (restOf fs)
-
-fine-row : (l pre post : List ℕ) (w r : ℕ) (f rows : List ℕ) → l ≡ pre ++ (fitted w f ++ post) → good r l (fitted w f) ≡ true
-    → wrongFrom l (length (pre ++ fitted w f)) rows ≡ 0 → wrongFrom l (length pre) (w ∷ r ∷ rows) ≡ 0
-unfolding firstBad goodAt
-fine-row l pre post w r f rows e g h =
-    if-true _ _ _ (ap (good r l) (part-laid l pre (fitted w f) post w e (length-fitted w f)) ∙ g)
-    ∙ ap (λ (k : ℕ). wrongFrom l k rows) (longer pre (fitted w f) w (length-fitted w f)) ∙ h
-
-fine-from : (l pre rows : List ℕ) (fs : List (List ℕ)) → l ≡ pre ++ laid rows fs → Suit l rows fs → wrongFrom l (length pre) rows ≡ 0
-unfolding firstBad
-fine-from l pre [] fs e s = refl
-fine-from l pre (w ∷ []) fs e s = refl
-fine-from l pre (w ∷ r ∷ rows) fs e s =
-    let row : l ≡ pre ++ (fitted w (headOf fs) ++ laid rows (restOf fs)) = e ∙ ap (λ (x : List ℕ). pre ++ x) (laid-row w r rows fs) in
-    fine-row l pre (laid rows (restOf fs)) w r (headOf fs) rows row (s .0)
-    (fine-from l (pre ++ fitted w (headOf fs)) rows (restOf fs) (row ∙ sym (append-assoc pre (fitted w (headOf fs)) (laid rows (restOf fs)))) (s .1))
+Suit rows l fs = (k : ℕ) → isRow rows k ≡ true → good (ruleOf rows k) l (fitted (widthOf rows k) (fieldAt k fs)) ≡ true
 
 -- fields that suit the table, laid end to end, have no wrong field
-pub filled-fine : (rows : List ℕ) (fs : List (List ℕ)) → Suit (laid rows fs) rows fs → wrongFrom (laid rows fs) 0 rows ≡ 0
-filled-fine rows fs s = fine-from (laid rows fs) [] rows fs refl s
+pub filled-fine : (rows : List ℕ) (fs : List (List ℕ)) → Suit rows (laid rows fs) fs → wrongIn (laid rows fs) rows ≡ 0
+unfolding goodAt
+filled-fine rows fs s =
+    none-bad (goodAt (laid rows fs)) rows (λ k e. ap (good (ruleOf rows k) (laid rows fs)) (filled-back rows fs k) ∙ s k e)
 
--- ---- two laid labels
+-- and the other way round
+pub fine-filled : (rows : List ℕ) (fs : List (List ℕ)) → wrongIn (laid rows fs) rows ≡ 0 → Suit rows (laid rows fs) fs
+unfolding goodAt
+fine-filled rows fs h k e = ap (good (ruleOf rows k) (laid rows fs)) (sym (filled-back rows fs k)) ∙ all-hold (goodAt (laid rows fs)) rows h k e
 
--- a field that a table compares is the same in both
-abbrev pub Alike : ℕ → List ℕ → List ℕ → Type 0
-Alike zero x y = Unit
-Alike (suc r) x y = x ≡ y
+-- the table with rule x in row j
+abbrev pub ruled : ℕ → ℕ → List ℕ → List ℕ
+ruled j x [] = []
+ruled j x (w ∷ []) = w ∷ []
+ruled j x (w ∷ r ∷ []) = w ∷ r ∷ []
+ruled zero x (w ∷ r ∷ s ∷ rows) = w ∷ x ∷ s ∷ rows
+ruled (suc j) x (w ∷ r ∷ s ∷ rows) = w ∷ r ∷ s ∷ ruled j x rows
 
-abbrev pub AllAlike : List ℕ → List (List ℕ) → List (List ℕ) → Type 0
-AllAlike [] fs gs = Unit
-AllAlike (w ∷ []) fs gs = Unit
-AllAlike (w ∷ r ∷ rows) fs gs = Alike r (headOf fs) (headOf gs) × AllAlike rows (restOf fs) (restOf gs)
+-- a field set anew, with a rule that it suits
+pub suit-with : (rows l : List ℕ) (fs : List (List ℕ)) (j x : ℕ) (f : List ℕ) → Suit rows l fs → good x l (fitted (widthOf rows j) f) ≡ true
+    → Suit (ruled j x rows) l (fielded j f fs)
+suit-with [] l fs j x f h g k e = absurd (false≢true e)
+suit-with (w ∷ []) l fs j x f h g k e = absurd (false≢true e)
+suit-with (w ∷ r ∷ []) l fs j x f h g k e = absurd (false≢true e)
+suit-with (w ∷ r ∷ s ∷ rows) l fs zero x f h g zero e = g
+suit-with (w ∷ r ∷ s ∷ rows) l fs zero x f h g (suc k) e = h (suc k) e
+suit-with (w ∷ r ∷ s ∷ rows) l fs (suc j) x f h g zero e = h zero e
+suit-with (w ∷ r ∷ s ∷ rows) l fs (suc j) x f h g (suc k) e = suit-with rows l (restOf fs) j x f (λ i. h (suc i)) g k e
 
-alike-row : (w r : ℕ) (f g : List ℕ) → Alike r f g → ifB (eqb r equal) (same (fitted w f) (fitted w g)) true ≡ true
-alike-row w zero f g s = if-false _ _ _ refl
-alike-row w (suc r) f g s =
-    let e : same (fitted w f) (fitted w g) ≡ true = ap (λ (x : List ℕ). same (fitted w f) (fitted w x)) (sym s) ∙ same-refl (fitted w f) in
-    ap (λ (b : Bool). ifB (eqb (suc r) equal) b true) e ∙ if-same (eqb (suc r) equal) true
+-- whether no field of a table is a record length
+abbrev pub isPlain : List ℕ → Bool
+isPlain [] = true
+isPlain (w ∷ []) = true
+isPlain (w ∷ r ∷ []) = true
+isPlain (w ∷ r ∷ s ∷ rows) = ifB (eqb r recordLength) false (isPlain rows)
 
-alike-from : (a b pre pre′ rows : List ℕ) (fs gs : List (List ℕ)) → a ≡ pre ++ laid rows fs → b ≡ pre′ ++ laid rows gs → length pre ≡ length pre′
-    → AllAlike rows fs gs → unequalFrom a b (length pre) rows ≡ 0
-unfolding firstBad agreeAt
-alike-from a b pre pre′ [] fs gs e h n s = refl
-alike-from a b pre pre′ (w ∷ []) fs gs e h n s = refl
-alike-from a b pre pre′ (w ∷ r ∷ rows) fs gs e h n s =
-    let f : List ℕ = fitted w (headOf fs) in
-    let g : List ℕ = fitted w (headOf gs) in
-    let rowA : a ≡ pre ++ (f ++ laid rows (restOf fs)) = e ∙ ap (λ (x : List ℕ). pre ++ x) (laid-row w r rows fs) in
-    let rowB : b ≡ pre′ ++ (g ++ laid rows (restOf gs)) = h ∙ ap (λ (x : List ℕ). pre′ ++ x) (laid-row w r rows gs) in
-    let partA : part (length pre) w a ≡ f = part-laid a pre f (laid rows (restOf fs)) w rowA (length-fitted w (headOf fs)) in
-    let partB : part (length pre) w b ≡ g
-    = ap (λ (k : ℕ). part k w b) n ∙ part-laid b pre′ g (laid rows (restOf gs)) w rowB (length-fitted w (headOf gs)) in
-    let here : ifB (eqb r equal) (same (part (length pre) w a) (part (length pre) w b)) true ≡ true
-    = ap (λ (x : List ℕ). ifB (eqb r equal) (same x (part (length pre) w b)) true) partA
-    ∙ ap (λ (x : List ℕ). ifB (eqb r equal) (same f x) true) partB ∙ alike-row w r (headOf fs) (headOf gs) (s .0) in
-    let lengths : length (pre ++ f) ≡ length (pre′ ++ g)
-    = sym (longer pre f w (length-fitted w (headOf fs))) ∙ ap (λ (k : ℕ). k + w) n ∙ longer pre′ g w (length-fitted w (headOf gs)) in
-    if-true _ _ _ here
-    ∙ ap (λ (k : ℕ). unequalFrom a b k rows) (longer pre f w (length-fitted w (headOf fs)))
-    ∙ alike-from a b (pre ++ f) (pre′ ++ g) rows (restOf fs) (restOf gs)
-    (rowA ∙ sym (append-assoc pre f (laid rows (restOf fs)))) (rowB ∙ sym (append-assoc pre′ g (laid rows (restOf gs)))) lengths (s .1)
+plain-row : (rows : List ℕ) (k : ℕ) → isRow rows k ≡ true → eqb (ruleOf rows k) recordLength ≡ true → isPlain rows ≡ false
+plain-row [] k e h = absurd (false≢true e)
+plain-row (w ∷ []) k e h = absurd (false≢true e)
+plain-row (w ∷ r ∷ []) k e h = absurd (false≢true e)
+plain-row (w ∷ r ∷ s ∷ rows) zero e h = if-true _ _ _ h
+plain-row (w ∷ r ∷ s ∷ rows) (suc k) e h =
+    if-case (λ (t : Bool). t ≡ false) (eqb r recordLength) false (isPlain rows) (λ _. refl) (λ _. plain-row rows k e h)
+
+-- fields that suit the table in one label suit it in another
+pub suit-other : (rows l m : List ℕ) (fs : List (List ℕ)) → (isPlain rows ≡ false → hasRecordLength m ≡ true) → Suit rows l fs → Suit rows m fs
+suit-other rows l m fs h s k e = good-other (ruleOf rows k) l m _ (λ r. h (plain-row rows k e r)) (s k e)
+
+-- ---- the fields of a label that was read
+
+-- they, from place `at` on
+abbrev pub fieldsIn : List ℕ → ℕ → List ℕ → List (List ℕ)
+fieldsIn [] at l = []
+fieldsIn (w ∷ []) at l = []
+fieldsIn (w ∷ r ∷ []) at l = []
+fieldsIn (w ∷ r ∷ s ∷ rows) at l = part at w l ∷ fieldsIn rows (at + w) l
+
+read-from : (rows l : List ℕ) (at : ℕ) → at + widths rows ≤ length l → (k : ℕ) → isRow rows k ≡ true
+    → fitted (widthOf rows k) (fieldAt k (fieldsIn rows at l)) ≡ part (at + placeOf rows k) (widthOf rows k) l
+unfolding widths
+read-from [] l at h k e = absurd (false≢true e)
+read-from (w ∷ []) l at h k e = absurd (false≢true e)
+read-from (w ∷ r ∷ []) l at h k e = absurd (false≢true e)
+read-from (w ∷ r ∷ s ∷ rows) l at h zero e =
+    let none : at ≡ at + 0 = omega arith in
+    fitted-all w (part at w l) (length-part at w l (omega arith)) ∙ ap (λ (n : ℕ). part n w l) none
+read-from (w ∷ r ∷ s ∷ rows) l at h (suc k) e =
+    let place : at + w + placeOf rows k ≡ at + (w + placeOf rows k) = omega arith in
+    read-from rows l (at + w) (omega arith) k e ∙ ap (λ (n : ℕ). part n (widthOf rows k) l) place
+
+-- a label without a wrong field: its fields suit the table
+pub read-suit : (rows l : List ℕ) → widths rows ≤ length l → wrongIn l rows ≡ 0 → Suit rows l (fieldsIn rows 0 l)
+unfolding goodAt
+read-suit rows l long h k e =
+    let place : 0 + placeOf rows k ≡ placeOf rows k = omega arith in
+    ap (good (ruleOf rows k) l) (read-from rows l 0 (omega arith) k e ∙ ap (λ (n : ℕ). part n (widthOf rows k) l) place) ∙ all-hold (goodAt l) rows h k e
+
+-- ---- two labels
+
+-- the fields of scope n are the same
+abbrev pub Alike : ℕ → List ℕ → List (List ℕ) → List (List ℕ) → Type 0
+Alike n rows fs gs = (k : ℕ) → isRow rows k ≡ true → leb n (scopeOf rows k) ≡ true → fieldAt k fs ≡ fieldAt k gs
+
+-- a field of a smaller scope set anew
+pub alike-with : (n : ℕ) (rows : List ℕ) (fs gs : List (List ℕ)) (j : ℕ) (f : List ℕ) → leb n (scopeOf rows j) ≡ false → Alike n rows fs gs
+    → Alike n rows fs (fielded j f gs)
+alike-with n [] fs gs j f d h k e t = absurd (false≢true e)
+alike-with n (w ∷ []) fs gs j f d h k e t = absurd (false≢true e)
+alike-with n (w ∷ r ∷ []) fs gs j f d h k e t = absurd (false≢true e)
+alike-with n (w ∷ r ∷ s ∷ rows) fs gs zero f d h zero e t = absurd (false≢true (sym d ∙ t))
+alike-with n (w ∷ r ∷ s ∷ rows) fs gs zero f d h (suc k) e t = h (suc k) e t
+alike-with n (w ∷ r ∷ s ∷ rows) fs gs (suc j) f d h zero e t = h zero e t
+alike-with n (w ∷ r ∷ s ∷ rows) fs gs (suc j) f d h (suc k) e t = alike-with n rows (restOf fs) (restOf gs) j f d (λ i. h (suc i)) k e t
 
 -- labels whose fields are the same where they are compared have no unequal field
-pub filled-alike : (rows : List ℕ) (fs gs : List (List ℕ)) → AllAlike rows fs gs → unequalFrom (laid rows fs) (laid rows gs) 0 rows ≡ 0
-filled-alike rows fs gs s = alike-from (laid rows fs) (laid rows gs) [] [] rows fs gs refl refl refl s
+pub filled-alike : (n : ℕ) (rows : List ℕ) (fs gs : List (List ℕ)) → Alike n rows fs gs → unequalIn n (laid rows fs) (laid rows gs) rows ≡ 0
+unfolding agreeAt
+filled-alike n rows fs gs h = none-bad (agreeAt n (laid rows fs) (laid rows gs)) rows row
+  where
+    row : Hold (agreeAt n (laid rows fs) (laid rows gs)) rows
+    row k e =
+        if-case (λ (t : Bool). t ≡ true) (leb n (scopeOf rows k)) _ true
+        (λ t. ap₂ same (filled-back rows fs k) (filled-back rows gs k)
+        ∙ ap (λ (f : List ℕ). same (fitted (widthOf rows k) f) (fitted (widthOf rows k) (fieldAt k gs))) (h k e t) ∙ same-refl _)
+        (λ _. refl)

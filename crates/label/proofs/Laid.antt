@@ -7,29 +7,17 @@ use lib.ListN.{length, take, drop, replicate, length-append, length-replicate}
 use lib.Seq.{take-at, length-take-le, drop-append-add}
 use Rattle.base.specs.Part.{part, putAt}
 use Rattle.label.specs.Made.{fitted, laid}
-use Rattle.label.specs.Table.{vol1, hdr1, trailer1, second, user}
+use Rattle.label.specs.Table.{placeOf, widthOf, vol1, hdr1, trailer1, hdr2, user}
 use Rattle.base.proofs.Put.{put-front, put-behind}
 
 -- ---- the rows of a table
-
--- where field k of a table begins, and its width
-unfoldable pub placeOf : List ℕ → ℕ → ℕ
-placeOf [] k = 0
-placeOf (w ∷ []) k = 0
-placeOf (w ∷ r ∷ rows) zero = 0
-placeOf (w ∷ r ∷ rows) (suc k) = w + placeOf rows k
-
-unfoldable pub widthOf : List ℕ → ℕ → ℕ
-widthOf [] k = 0
-widthOf (w ∷ []) k = 0
-widthOf (w ∷ r ∷ rows) zero = w
-widthOf (w ∷ r ∷ rows) (suc k) = widthOf rows k
 
 -- the bytes that a table covers
 unfoldable pub widths : List ℕ → ℕ
 widths [] = 0
 widths (w ∷ []) = 0
-widths (w ∷ r ∷ rows) = w + widths rows
+widths (w ∷ r ∷ []) = 0
+widths (w ∷ r ∷ s ∷ rows) = w + widths rows
 
 -- ---- the fields of a label: those that are missing are empty
 
@@ -42,12 +30,12 @@ restOf [] = []
 restOf (f ∷ fs) = fs
 
 -- field k
-unfoldable pub fieldAt : ℕ → List (List ℕ) → List ℕ
+abbrev pub fieldAt : ℕ → List (List ℕ) → List ℕ
 fieldAt zero fs = headOf fs
 fieldAt (suc k) fs = fieldAt k (restOf fs)
 
 -- the fields with f as field k
-unfoldable pub fielded : ℕ → List ℕ → List (List ℕ) → List (List ℕ)
+abbrev pub fielded : ℕ → List ℕ → List (List ℕ) → List (List ℕ)
 fielded zero f fs = f ∷ restOf fs
 fielded (suc k) f fs = headOf fs ∷ fielded k f (restOf fs)
 
@@ -62,19 +50,20 @@ fitted-all w f h = take-at f (replicate w 32) w h
 
 -- ---- laid end to end
 
-pub laid-row : (w r : ℕ) (rows : List ℕ) (fs : List (List ℕ)) → laid (w ∷ r ∷ rows) fs ≡ fitted w (headOf fs) ++ laid rows (restOf fs)
+pub laid-row : (w r s : ℕ) (rows : List ℕ) (fs : List (List ℕ)) → laid (w ∷ r ∷ s ∷ rows) fs ≡ fitted w (headOf fs) ++ laid rows (restOf fs)
 unfolding laid
-laid-row w r rows [] = refl
-laid-row w r rows (f ∷ fs) = refl
+laid-row w r s rows [] = refl
+laid-row w r s rows (f ∷ fs) = refl
 
 pub length-laid : (rows : List ℕ) (fs : List (List ℕ)) → length (laid rows fs) ≡ widths rows
 unfolding laid widths
 length-laid [] fs = refl
 length-laid (w ∷ []) fs = refl
-length-laid (w ∷ r ∷ rows) fs =
+length-laid (w ∷ r ∷ []) fs = refl
+length-laid (w ∷ r ∷ s ∷ rows) fs =
     let x : length (fitted w (headOf fs)) ≡ w = length-fitted w (headOf fs) in
     let y : length (laid rows (restOf fs)) ≡ widths rows = length-laid rows (restOf fs) in
-    ap length (laid-row w r rows fs) ∙ simp length-append (omega arith)
+    ap length (laid-row w r s rows fs) ∙ simp length-append (omega arith)
 
 -- the front of a label, and what is behind it
 part-front : (x y : List ℕ) (w : ℕ) → length x ≡ w → part 0 w (x ++ y) ≡ x
@@ -89,26 +78,28 @@ part-behind x y w at n h =
 
 -- cutting a laid label at a row gives that field again
 pub filled-back : (rows : List ℕ) (fs : List (List ℕ)) (k : ℕ) → part (placeOf rows k) (widthOf rows k) (laid rows fs) ≡ fitted (widthOf rows k) (fieldAt k fs)
-unfolding laid placeOf widthOf fieldAt part fitted
+unfolding laid part fitted
 filled-back [] fs k = refl
 filled-back (w ∷ []) fs k = refl
-filled-back (w ∷ r ∷ rows) fs zero = ap (part 0 w) (laid-row w r rows fs) ∙ part-front (fitted w (headOf fs)) (laid rows (restOf fs)) w (length-fitted w (headOf fs))
-filled-back (w ∷ r ∷ rows) fs (suc k) =
-    ap (part (w + placeOf rows k) (widthOf rows k)) (laid-row w r rows fs)
+filled-back (w ∷ r ∷ []) fs k = refl
+filled-back (w ∷ r ∷ s ∷ rows) fs zero = ap (part 0 w) (laid-row w r s rows fs) ∙ part-front (fitted w (headOf fs)) (laid rows (restOf fs)) w (length-fitted w (headOf fs))
+filled-back (w ∷ r ∷ s ∷ rows) fs (suc k) =
+    ap (part (w + placeOf rows k) (widthOf rows k)) (laid-row w r s rows fs)
     ∙ part-behind (fitted w (headOf fs)) (laid rows (restOf fs)) w (placeOf rows k) (widthOf rows k) (length-fitted w (headOf fs))
     ∙ filled-back rows (restOf fs) k
 
 -- a field set at its place is one of the fields laid
 pub put-field : (rows : List ℕ) (fs : List (List ℕ)) (k : ℕ) (f : List ℕ)
     → putAt (laid rows fs) (placeOf rows k) (fitted (widthOf rows k) f) ≡ laid rows (fielded k f fs)
-unfolding laid placeOf widthOf fielded putAt fitted
+unfolding laid putAt fitted
 put-field [] fs k f = refl
 put-field (w ∷ []) fs k f = refl
-put-field (w ∷ r ∷ rows) fs zero f =
-    ap (λ (l : List ℕ). putAt l 0 (fitted w f)) (laid-row w r rows fs)
+put-field (w ∷ r ∷ []) fs k f = refl
+put-field (w ∷ r ∷ s ∷ rows) fs zero f =
+    ap (λ (l : List ℕ). putAt l 0 (fitted w f)) (laid-row w r s rows fs)
     ∙ put-front (fitted w (headOf fs)) (laid rows (restOf fs)) (fitted w f) (length-fitted w f ∙ sym (length-fitted w (headOf fs)))
-put-field (w ∷ r ∷ rows) fs (suc k) f =
-    ap (λ (l : List ℕ). putAt l (w + placeOf rows k) (fitted (widthOf rows k) f)) (laid-row w r rows fs)
+put-field (w ∷ r ∷ s ∷ rows) fs (suc k) f =
+    ap (λ (l : List ℕ). putAt l (w + placeOf rows k) (fitted (widthOf rows k) f)) (laid-row w r s rows fs)
     ∙ put-behind (fitted w (headOf fs)) (laid rows (restOf fs)) (fitted (widthOf rows k) f) w (placeOf rows k) (length-fitted w (headOf fs))
     ∙ ap (λ (l : List ℕ). fitted w (headOf fs) ++ l) (put-field rows (restOf fs) k f)
 
@@ -126,9 +117,9 @@ pub eighty-trailer1 : widths trailer1 ≡ 80
 unfolding widths
 eighty-trailer1 = refl
 
-pub eighty-second : widths second ≡ 80
+pub eighty-hdr2 : widths hdr2 ≡ 80
 unfolding widths
-eighty-second = refl
+eighty-hdr2 = refl
 
 pub eighty-user : widths user ≡ 80
 unfolding widths

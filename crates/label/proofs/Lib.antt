@@ -3,8 +3,9 @@ mod Composed
 pub mod Walk
 pub mod Filled
 pub mod Laid
+pub mod Every
+pub mod Fine
 pub mod Setting
 pub mod Making
-pub mod Fine
 pub mod Read
 pub mod Families

@@ -1,5 +1,5 @@
--- What a field of a label may hold. Document 01, "Label fields". A rule has a number, so that a table of fields is plain data; it sees the
--- field and, for the record length, the whole label.
+-- The fields that are read by name, and what a field of a label may hold. Document 01, "Label fields". A rule sees the field and, for the record length,
+-- the whole label.
 -- The record length of a D file counts its control word: 8.5.2.6 of ECMA-13 makes it the maximum length of an MDU, and 7.2.3 puts the word
 -- into the MDU. So for D it is 5 or more, and a record has at most R - 4 bytes.
 use mathlib.Core.Bool.{Bool, true, false, _&&_, _||_}
@@ -9,76 +9,45 @@ use lib.Dec.{leb, eqb}
 use lib.ListN.{length, getD}
 use Rattle.base.specs.If.{ifB}
 use Rattle.base.specs.Format.{F, D, S}
-use Rattle.base.specs.Part.{part, same, allAre}
+use Rattle.base.specs.Part.{same, allAre}
 use Rattle.base.specs.Digits.{allDigits}
 use Rattle.charset.specs.Class.{allA}
 use Rattle.charset.specs.Number.{numberIn}
 use Rattle.charset.specs.Date.{isDate}
 use Rattle.charset.specs.declared.Number.{Number}
 use Rattle.charset.specs.declared.Number.the-variants.{Value, Wrong}
-
--- ---- the rules, by number
-
-abbrev pub free : ℕ
-free = 0
-
-abbrev pub characters : ℕ
-characters = 1
-
-abbrev pub spaces : ℕ
-spaces = 2
-
-abbrev pub digits : ℕ
-digits = 3
-
-abbrev pub zeros : ℕ
-zeros = 4
-
-abbrev pub positive : ℕ
-positive = 5
-
-abbrev pub date : ℕ
-date = 6
-
-abbrev pub standard : ℕ
-standard = 7
-
-abbrev pub format : ℕ
-format = 8
-
-abbrev pub recordLength : ℕ
-recordLength = 9
+use Rattle.label.specs.Table.{characters, spaces, digits, zeros, positive, date, standard, format, recordLength, placeOf, field, vol1, hdr1, hdr2, volumeRow, setRow, sectionRow, sequenceRow, countRow, formatRow, blockLengthRow, recordLengthRow, offsetRow}
 
 -- ---- the volume identifier of VOL1, and what the cross-checks read of HDR1, EOV1 and EOF1
 
 unfoldable pub volumeOf : List ℕ → List ℕ
-volumeOf l = part 4 6 l
+volumeOf l = field vol1 volumeRow l
 
 unfoldable pub setOf : List ℕ → List ℕ
-setOf l = part 21 6 l
+setOf l = field hdr1 setRow l
 
 unfoldable pub sectionOf : List ℕ → Number
-sectionOf l = numberIn (part 27 4 l)
+sectionOf l = numberIn (field hdr1 sectionRow l)
 
 unfoldable pub sequenceOf : List ℕ → Number
-sequenceOf l = numberIn (part 31 4 l)
+sequenceOf l = numberIn (field hdr1 sequenceRow l)
 
 unfoldable pub countOf : List ℕ → Number
-countOf l = numberIn (part 54 6 l)
+countOf l = numberIn (field hdr1 countRow l)
 
 -- ---- the record format and the three lengths of HDR2, EOV2 and EOF2
 
 unfoldable pub formatOf : List ℕ → ℕ
-formatOf l = getD l 4 0
+formatOf l = getD l (placeOf hdr2 formatRow) 0
 
 unfoldable pub blockLengthOf : List ℕ → Number
-blockLengthOf l = numberIn (part 5 5 l)
+blockLengthOf l = numberIn (field hdr2 blockLengthRow l)
 
 unfoldable pub recordLengthOf : List ℕ → Number
-recordLengthOf l = numberIn (part 10 5 l)
+recordLengthOf l = numberIn (field hdr2 recordLengthRow l)
 
 unfoldable pub offsetOf : List ℕ → Number
-offsetOf l = numberIn (part 50 2 l)
+offsetOf l = numberIn (field hdr2 offsetRow l)
 
 -- the least record length of a format
 unfoldable pub leastRecord : ℕ → ℕ

@@ -1,5 +1,6 @@
 pub mod Name
-pub mod Field
 pub mod Table
+pub mod Field
 pub mod Judged
+pub mod Asked
 pub mod Made

@@ -8,15 +8,7 @@ ghost use Rattle.charset.specs.Number.{numberIn};
 ghost use Rattle.label.specs.Field.{volumeOf, setOf, sectionOf, sequenceOf, countOf, formatOf, blockLengthOf, recordLengthOf, offsetOf};
 ghost use Rattle.label.specs.Field.{leastRecord, suits, suitsBoth, isLength, isRecordLength, hasRecordLength, isPositive, isFormat, good};
 ghost use Rattle.label.specs.Judged.{goodAt};
-use super::table::CHARACTERS;
-use super::table::DATE;
-use super::table::DIGITS;
-use super::table::FORMAT;
-use super::table::POSITIVE;
-use super::table::RECORD_LENGTH;
-use super::table::SPACES;
-use super::table::STANDARD;
-use super::table::ZEROS;
+use super::table;
 use base::SEGMENTED;
 use base::VARIABLE;
 use base::equal;
@@ -41,63 +33,63 @@ pub(crate) fn byte_or(s: &[u8], at: usize, other: u8) -> u8
 pub fn volume_of(l: &[u8]) -> &[u8]
     ensures { λ r. ⌜ now r ≡ volumeOf (now (l .entry)) ⌝ }
 {
-    part_of(l, 4, 6)
+    part_of(l, table::VOLUME, table::VOLUME_WIDTH)
 }
 
 // HDR1, EOV1 and EOF1: the set identifier.
 pub fn set_of(l: &[u8]) -> &[u8]
     ensures { λ r. ⌜ now r ≡ setOf (now (l .entry)) ⌝ }
 {
-    part_of(l, 21, 6)
+    part_of(l, table::SET, table::SET_WIDTH)
 }
 
 // HDR1, EOV1 and EOF1: the section number.
 pub fn section_of(l: &[u8]) -> Number
     ensures { λ r. ⌜ r ≡ sectionOf (now (l .entry)) ⌝ }
 {
-    number_in(part_of(l, 27, 4))
+    number_in(part_of(l, table::SECTION, table::SECTION_WIDTH))
 }
 
 // HDR1, EOV1 and EOF1: the sequence number.
 pub fn sequence_of(l: &[u8]) -> Number
     ensures { λ r. ⌜ r ≡ sequenceOf (now (l .entry)) ⌝ }
 {
-    number_in(part_of(l, 31, 4))
+    number_in(part_of(l, table::SEQUENCE, table::SEQUENCE_WIDTH))
 }
 
 // HDR1, EOV1 and EOF1: the block count.
 pub fn count_of(l: &[u8]) -> Number
     ensures { λ r. ⌜ r ≡ countOf (now (l .entry)) ⌝ }
 {
-    number_in(part_of(l, 54, 6))
+    number_in(part_of(l, table::COUNT, table::COUNT_WIDTH))
 }
 
 // HDR2, EOV2 and EOF2: the record format.
 pub fn format_of(l: &[u8]) -> u8
     ensures { λ r. ⌜ r ≡ formatOf (now (l .entry)) ⌝ }
 {
-    byte_or(l, 4, 0)
+    byte_or(l, table::RECORD_FORMAT, 0)
 }
 
 // HDR2, EOV2 and EOF2: the block length B.
 pub fn block_length(l: &[u8]) -> Number
     ensures { λ r. ⌜ r ≡ blockLengthOf (now (l .entry)) ⌝ }
 {
-    number_in(part_of(l, 5, 5))
+    number_in(part_of(l, table::BLOCK_LENGTH, table::BLOCK_LENGTH_WIDTH))
 }
 
 // HDR2, EOV2 and EOF2: the record length R.
 pub fn record_length(l: &[u8]) -> Number
     ensures { λ r. ⌜ r ≡ recordLengthOf (now (l .entry)) ⌝ }
 {
-    number_in(part_of(l, 10, 5))
+    number_in(part_of(l, table::SIZE, table::SIZE_WIDTH))
 }
 
 // HDR2, EOV2 and EOF2: the offset length O.
 pub fn offset_length(l: &[u8]) -> Number
     ensures { λ r. ⌜ r ≡ offsetOf (now (l .entry)) ⌝ }
 {
-    number_in(part_of(l, 50, 2))
+    number_in(part_of(l, table::OFFSET, table::OFFSET_WIDTH))
 }
 
 // Whether every byte is b.
@@ -206,39 +198,39 @@ fn has_record_length(l: &[u8]) -> bool
 fn suits_rule(rule: u8, l: &[u8], f: &[u8]) -> bool
     ensures { λ r. ⌜ r ≡ good rule (now (l .entry)) (now (f .entry)) ⌝ }
 {
-    if rule == CHARACTERS {
+    if rule == table::CHARACTERS {
         return all_characters(f);
     }
-    if rule == SPACES {
+    if rule == table::SPACES {
         return all_are(b' ', f);
     }
-    if rule == DIGITS {
+    if rule == table::DIGITS {
         return all_digits(f);
     }
-    if rule == ZEROS {
+    if rule == table::ZEROS {
         return all_are(b'0', f);
     }
-    if rule == POSITIVE {
+    if rule == table::POSITIVE {
         return holds_positive(f);
     }
-    if rule == DATE {
+    if rule == table::DATE {
         return date(f);
     }
-    if rule == STANDARD {
+    if rule == table::STANDARD {
         return equal(f, b"4");
     }
-    if rule == FORMAT {
+    if rule == table::FORMAT {
         return is_format(f);
     }
-    if rule == RECORD_LENGTH {
+    if rule == table::RECORD_LENGTH {
         return has_record_length(l);
     }
     true
 }
 
 // Whether the w bytes at a place of a label suit their rule.
-pub(crate) fn good_at(l: &[u8], rule: u8, at: usize, w: usize) -> bool
-    ensures { λ r. ⌜ r ≡ goodAt (now (l .entry)) rule at w ⌝ }
+pub(crate) fn good_at(l: &[u8], rule: u8, scope: u8, at: usize, w: usize) -> bool
+    ensures { λ r. ⌜ r ≡ goodAt (now (l .entry)) rule scope at w ⌝ }
 {
     suits_rule(rule, l, part_of(l, at, w))
 }

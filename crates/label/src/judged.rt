@@ -1,83 +1,28 @@
 // The judgement of one label by itself: its first wrong field, and its accessibility. It knows no other label.
 ghost use mathlib.Core.Path.{_≡_};
 ghost use mathlib.Core.List.{[], _∷_};
-ghost use Prim.Native.Nat.{_≤_};
-ghost use lib.ListN.{length};
 ghost use Rattle.base.specs.Part.{part, same};
-ghost use Rattle.label.specs.Judged.{wrongFrom, accessOf, accessAt, fieldFault, labelFault};
+ghost use Rattle.label.specs.Judged.{wrongIn, accessOf, accessAt, fieldFault, labelFault};
 ghost use Rattle.label.specs.Table.{fieldsOf};
-use super::field::good_at;
+use super::rows::Ask;
+use super::rows::first_bad_of;
 use super::table::FILE_ACCESS;
-use super::table::HDR1_FIELDS;
-use super::table::SECOND_FIELDS;
-use super::table::TRAILER1_FIELDS;
-use super::table::USER_FIELDS;
-use super::table::VOL1_FIELDS;
 use super::table::VOLUME_ACCESS;
 use base::Fault;
 use base::equal;
 use base::part_of;
-use base::wide;
 use order::EOF;
 use order::EOV;
 use order::HDR;
 use order::Kind;
-use order::UHL;
-use order::UTL;
 use order::VOL;
 use order::is;
 
 // The first BP of the first field that does not suit its rule, or 0.
-fn wrong_field(l: &[u8], table: &[u8]) -> u32
-    requires { ⌜ length (now table) ≤ 64 ⌝ }
-    ensures { λ r. ⌜ r ≡ wrongFrom (now (l .entry)) 0 (now (table .entry)) ⌝ }
-{
-    let mut at: usize = 0;
-    let mut i = 0;
-    while i + 1 < table.len() {
-        let w = wide(table[i]);
-        if good_at(l, table[i + 1], at, w) {
-            at += w;
-            i += 2;
-        } else {
-            return at as u32 + 1;
-        }
-    }
-    0
-}
-
-// The same by the table of the label's kind; the labels that have none are free.
 fn wrong_of(k: Kind, l: &[u8]) -> u32
-    ensures { λ r. ⌜ r ≡ wrongFrom (now (l .entry)) 0 (fieldsOf k) ⌝ }
+    ensures { λ r. ⌜ r ≡ wrongIn (now (l .entry)) (fieldsOf k) ⌝ }
 {
-    if is(k, VOL, 1) {
-        return wrong_field(l, &VOL1_FIELDS);
-    }
-    if is(k, HDR, 1) {
-        return wrong_field(l, &HDR1_FIELDS);
-    }
-    if is(k, EOV, 1) {
-        return wrong_field(l, &TRAILER1_FIELDS);
-    }
-    if is(k, EOF, 1) {
-        return wrong_field(l, &TRAILER1_FIELDS);
-    }
-    if is(k, HDR, 2) {
-        return wrong_field(l, &SECOND_FIELDS);
-    }
-    if is(k, EOV, 2) {
-        return wrong_field(l, &SECOND_FIELDS);
-    }
-    if is(k, EOF, 2) {
-        return wrong_field(l, &SECOND_FIELDS);
-    }
-    if is(k, UHL, 0) {
-        return wrong_field(l, &USER_FIELDS);
-    }
-    if is(k, UTL, 0) {
-        return wrong_field(l, &USER_FIELDS);
-    }
-    0
+    first_bad_of(k, Ask::Suits, l, l)
 }
 
 // The BP of the accessibility of a kind of label, or 0 where it has none.

@@ -5,6 +5,7 @@ mod field; // field.rt: the fields of a label and their rules
 mod judged; // judged.rt: one label by itself
 mod made; // made.rt: the labels that the writer makes
 mod name; // name.rt: the kind of a label
+mod rows; // rows.rt: the one walk over the fields of a label
 mod table; // table.rt: the fields of each label
 mod within; // within.rt: the field in which a byte stands
 
@@ -26,4 +27,16 @@ pub use made::first_label;
 pub use made::second_label;
 pub use made::volume_label;
 pub use name::kind;
+pub use table::COUNT_BP;
+pub use table::FORMAT_IN;
+pub use table::IDENTIFIER;
+pub use table::IDENTIFIER_WIDTH;
+pub use table::RECORD_FORMAT;
+pub use table::RECORD_FORMAT_WIDTH;
+pub use table::SECTION_BP;
+pub use table::SEQUENCE_BP;
+pub use table::SET_BP;
+pub use table::SIZE_IN;
+pub use table::SIZE_WIDTH;
+pub use table::VOLUME_BP;
 pub use within::field_with;

@@ -6,6 +6,7 @@ ghost use Rattle.base.specs.Digits.{digits};
 ghost use Rattle.base.specs.Part.{part, putAt};
 ghost use Rattle.label.specs.Made.{fitted, madeVolume, madeFirst, madeSecond};
 use super::field::byte_or;
+use super::table;
 use base::part_of;
 
 // A label with f as its field of w bytes at a place, cut or filled with SPACEs.
@@ -51,9 +52,14 @@ pub fn volume_label(id: &[u8]) -> [u8; 80]
     ensures { λ r. ⌜ r ≡ madeVolume (now (id .entry)) ⌝ }
 {
     let blank = [b' '; 80];
-    let named = with_field(blank, 0, 4, b"VOL1");
-    let identified = with_field(named, 4, 6, id);
-    with_field(identified, 79, 1, b"4")
+    let named = with_field(blank, table::NAME, table::NAME_WIDTH, b"VOL1");
+    let identified = with_field(named, table::VOLUME, table::VOLUME_WIDTH, id);
+    with_field(
+        identified,
+        table::STANDARD_VERSION,
+        table::STANDARD_VERSION_WIDTH,
+        b"4",
+    )
 }
 
 // HDR1, EOV1 or EOF1, as the name says, of a file's entry: its section and sequence in the set and its block count.
@@ -68,16 +74,46 @@ pub fn first_label(
     ensures { λ r. ⌜ r ≡ madeFirst (now (name .entry)) (now (set .entry)) (now (file .entry)) section sequence count ⌝ }
 {
     let blank = [b' '; 80];
-    let named = with_field(blank, 0, 4, name);
-    let identified = with_part(named, 4, 17, file, 0);
-    let in_set = with_field(identified, 21, 6, set);
-    let in_section = with_number(in_set, 27, 4, section);
-    let in_sequence = with_number(in_section, 31, 4, sequence);
-    let generation = with_part(in_sequence, 35, 4, file, 17);
-    let version = with_part(generation, 39, 2, file, 21);
-    let created = with_part(version, 41, 6, file, 23);
-    let expires = with_part(created, 47, 6, file, 29);
-    with_number(expires, 54, 6, count)
+    let named = with_field(blank, table::NAME, table::NAME_WIDTH, name);
+    let identified = with_part(
+        named,
+        table::IDENTIFIER,
+        table::IDENTIFIER_WIDTH,
+        file,
+        table::IDENTIFIER_IN,
+    );
+    let in_set = with_field(identified, table::SET, table::SET_WIDTH, set);
+    let in_section = with_number(in_set, table::SECTION, table::SECTION_WIDTH, section);
+    let in_sequence = with_number(in_section, table::SEQUENCE, table::SEQUENCE_WIDTH, sequence);
+    let generation = with_part(
+        in_sequence,
+        table::GENERATION,
+        table::GENERATION_WIDTH,
+        file,
+        table::GENERATION_IN,
+    );
+    let version = with_part(
+        generation,
+        table::VERSION,
+        table::VERSION_WIDTH,
+        file,
+        table::VERSION_IN,
+    );
+    let created = with_part(
+        version,
+        table::CREATED,
+        table::CREATED_WIDTH,
+        file,
+        table::CREATED_IN,
+    );
+    let expires = with_part(
+        created,
+        table::EXPIRES,
+        table::EXPIRES_WIDTH,
+        file,
+        table::EXPIRES_IN,
+    );
+    with_number(expires, table::COUNT, table::COUNT_WIDTH, count)
 }
 
 // HDR2, EOV2 or EOF2, as the name says, of a file's entry: offset length 00.
@@ -85,9 +121,21 @@ pub fn second_label(name: &[u8], file: &[u8]) -> [u8; 80]
     ensures { λ r. ⌜ r ≡ madeSecond (now (name .entry)) (now (file .entry)) ⌝ }
 {
     let blank = [b' '; 80];
-    let named = with_field(blank, 0, 4, name);
-    let format = with_part(named, 4, 1, file, 35);
-    let block = with_part(format, 5, 5, file, 36);
-    let record = with_part(block, 10, 5, file, 41);
-    with_number(record, 50, 2, 0)
+    let named = with_field(blank, table::NAME, table::NAME_WIDTH, name);
+    let format = with_part(
+        named,
+        table::RECORD_FORMAT,
+        table::RECORD_FORMAT_WIDTH,
+        file,
+        table::FORMAT_IN,
+    );
+    let block = with_part(
+        format,
+        table::BLOCK_LENGTH,
+        table::BLOCK_LENGTH_WIDTH,
+        file,
+        table::BLOCK_LENGTH_IN,
+    );
+    let record = with_part(block, table::SIZE, table::SIZE_WIDTH, file, table::SIZE_IN);
+    with_number(record, table::OFFSET, table::OFFSET_WIDTH, 0)
 }

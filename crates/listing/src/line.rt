@@ -9,6 +9,10 @@ use base::Verdict;
 use base::part_of;
 use block::Held;
 use content::FileAt;
+use label::IDENTIFIER;
+use label::IDENTIFIER_WIDTH;
+use label::RECORD_FORMAT;
+use label::RECORD_FORMAT_WIDTH;
 use output::four_digits;
 
 // Writes the place of a refusal, and ends the line.
@@ -60,7 +64,9 @@ fn put_file(out: &mut [u8], at: usize, image: &[u8], f: FileAt, held: Held) -> u
 {
     let first = part_of(image, f.first, 80);
     let second = part_of(image, f.second, 80);
-    let behind = put_names(out, at, part_of(first, 4, 17), part_of(second, 4, 1));
+    let identifier = part_of(first, IDENTIFIER, IDENTIFIER_WIDTH);
+    let format = part_of(second, RECORD_FORMAT, RECORD_FORMAT_WIDTH);
+    let behind = put_names(out, at, identifier, format);
     put_counts(out, behind, held.records as u64, held.bytes as u64)
 }
 

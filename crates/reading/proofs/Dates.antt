@@ -22,9 +22,10 @@ use Rattle.order.specs.declared.Phase.{Phase}
 use Rattle.order.specs.declared.Due.the-variants.{To}
 use Rattle.charset.specs.Number.{numberIn}
 use Rattle.label.specs.Field.{setOf, sectionOf, sequenceOf}
-use Rattle.label.specs.Judged.{firstBad, agreeAt, unequalFrom}
+use Rattle.label.specs.Judged.{firstBad, agreeAt, unequalIn}
 use Rattle.label.specs.Name.{named as namedKind, kindOf}
-use Rattle.label.specs.Table.{equal, sectionFirst, trailerFirst}
+use Rattle.label.specs.Table.{hdr1, perSection, perFile, createdRow, expiresRow}
+use Rattle.label.proofs.Every.{Hold, all-hold}
 use Rattle.volume.specs.State.{State, start}
 use Rattle.volume.specs.Fault.{crossed, newFilePlace, laterPlace, fileFault, firstHeaderFault, firstTrailerFault}
 use Rattle.volume.specs.Step.{Event, begins, continues, holds, Next, kindIn, bytesIn, isDue, stateAfter, namesAfter, filesAfter, goesOnAfter, firstAfter, secondAfter, countAfter, pendingAfter, segmentsIn, eventsOf}
@@ -34,7 +35,7 @@ use Rattle.volume.specs.Accepted.{Faultless, All, MayEnd, behind}
 use Rattle.volume.specs.Dates.{isDated, undated, undatedIn, undatedBehind, undatedFrom, SameDates}
 use Rattle.volume.proofs.Accepted.{faultless-go, accepted-iff}
 use Rattle.volume.proofs.Events.{handed-more, OneMeaning, meaning-behind, meaning-continued}
-use Rattle.reading.proofs.Entries.{Rows, bad-rows, byte-part}
+use Rattle.reading.proofs.Entries.{byte-part}
 use Rattle.reading.proofs.Stages.{crossed-none, lower-first}
 use Rattle.reading.proofs.Steps.{events-quiet}
 use Rattle.order.proofs.Moves.{Stage, stage, before, named, within, fileOver, reelOver, Numbered, Quiet, Move, Goes, stays, nextReel, header1, nextFile, header2, datum, eof1, eov1, finish, due-goes}
@@ -91,11 +92,12 @@ kind-undated l =
 abbrev beside : ℕ → ℕ → Bool
 beside at w = ifB (leb (at + w) 41) true (leb 53 at)
 
--- that holds of all fields that are to be equal by a table
+-- that holds of all fields of a table that are one throughout a file
 unfoldable undatedRows : ℕ → List ℕ → Bool
 undatedRows at [] = true
 undatedRows at (w ∷ []) = true
-undatedRows at (w ∷ r ∷ rows) = ifB (eqb r equal) (beside at w) true && undatedRows (at + w) rows
+undatedRows at (w ∷ r ∷ []) = true
+undatedRows at (w ∷ r ∷ s ∷ rows) = ifB (leb perFile s) (beside at w) true && undatedRows (at + w) rows
 
 row-same : (t outside x y : Bool) → (outside ≡ true → x ≡ y) → ifB t outside true ≡ true → ifB t x true ≡ ifB t y true
 unfolding ifB
@@ -114,15 +116,16 @@ module _ (l m : List ℕ) (long-l : length l ≡ 80) (long-m : length m ≡ 80) 
       if-case (λ (t : Bool). t ≡ true → part a w l ≡ part a w m) (leb (a + w) 41) true (leb 53 a)
       (λ h _. before-dates a w (leb-true (a + w) 41 h)) (λ _ h. behind-dates a w (leb-true 53 a h))
 
-  unequal-same : (f : List ℕ) (at : ℕ) (rows : List ℕ) → undatedRows at rows ≡ true → unequalFrom f l at rows ≡ unequalFrom f m at rows
+  unequal-same : (f : List ℕ) (at : ℕ) (rows : List ℕ) → undatedRows at rows ≡ true → firstBad (agreeAt perFile f l) at rows ≡ firstBad (agreeAt perFile f m) at rows
   unfolding undatedRows firstBad agreeAt
   unequal-same f at [] h = refl
   unequal-same f at (w ∷ []) h = refl
-  unequal-same f at (w ∷ r ∷ rows) h =
-      let row : Bool = ifB (eqb r equal) (beside at w) true in
+  unequal-same f at (w ∷ r ∷ []) h = refl
+  unequal-same f at (w ∷ r ∷ s ∷ rows) h =
+      let row : Bool = ifB (leb perFile s) (beside at w) true in
       let rest : Bool = undatedRows (at + w) rows in
       ap₂ (λ (t : Bool) (n : ℕ). ifB t n (at + 1))
-      (row-same (eqb r equal) (beside at w) _ _ (λ o. ap (same (part at w f)) (beside-dates at w o)) (and-first row rest h)) (unequal-same f (at + w) rows (and-second row rest h))
+      (row-same (leb perFile s) (beside at w) _ _ (λ o. ap (same (part at w f)) (beside-dates at w o)) (and-first row rest h)) (unequal-same f (at + w) rows (and-second row rest h))
 
   set-same : setOf l ≡ setOf m
   unfolding setOf
@@ -139,7 +142,7 @@ module _ (l m : List ℕ) (long-l : length l ≡ 80) (long-m : length m ≡ 80) 
   later-same : (f : List ℕ) → laterPlace f l ≡ laterPlace f m
   unfolding laterPlace undatedRows ifB
   later-same f =
-      let fields : unequalFrom f l 0 sectionFirst ≡ unequalFrom f m 0 sectionFirst = unequal-same f 0 sectionFirst refl in
+      let fields : unequalIn perFile f l hdr1 ≡ unequalIn perFile f m hdr1 = unequal-same f 0 hdr1 refl in
       let section : sectionOf l ≡ sectionOf m = section-same in
       cc
 
@@ -161,11 +164,11 @@ module _ (l m : List ℕ) (long-l : length l ≡ 80) (long-m : length m ≡ 80) 
 pub trailer-dates : (first l : List ℕ) (count : ℕ) → firstTrailerFault first count l .number ≡ 0 → SameDates first l
 unfolding firstTrailerFault agreeAt ifB
 trailer-dates first l count h =
-    let rows : Rows (agreeAt first l) 0 trailerFirst
-    = bad-rows (agreeAt first l) 0 trailerFirst (lower-first (firstBad (agreeAt first l) 0 trailerFirst) _ (crossed-none _ h)) in
+    let rows : Hold (agreeAt perSection first l) hdr1
+    = all-hold (agreeAt perSection first l) hdr1 (lower-first (unequalIn perSection first l hdr1) _ (crossed-none _ h)) in
     record {
-      creation = same-true (part 41 6 first) (part 41 6 l) (rows .1 .1 .1 .1 .1 .1 .1 .0);
-      expiration = same-true (part 47 6 first) (part 47 6 l) (rows .1 .1 .1 .1 .1 .1 .1 .1 .0);
+      creation = same-true (part 41 6 first) (part 41 6 l) (rows createdRow refl);
+      expiration = same-true (part 47 6 first) (part 47 6 l) (rows expiresRow refl);
     }
 
 -- ---- two items that are the same without their dates

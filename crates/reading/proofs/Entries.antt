@@ -25,76 +25,16 @@ use Rattle.order.specs.Kind.{hdr, isKind}
 use Rattle.order.specs.declared.Kind.{Kind}
 use Rattle.label.specs.Name.{HDR1, HDR2}
 use Rattle.label.specs.Field.{setOf, formatOf, blockLengthOf, recordLengthOf, offsetOf, leastRecord, suits, suitsBoth, isLength, isRecordLength, isPositive, isFormat, hasRecordLength, good}
-use Rattle.label.specs.Table.{hdr1, second, fieldsOf}
-use Rattle.label.specs.Judged.{firstBad, goodAt, accessOf, accessAt, fieldFault, labelFault}
-use Rattle.label.specs.Made.{fitted, identifierIn, generationIn, versionIn, createdIn, expiresIn, formatIn, blockLengthIn, recordLengthIn, madeFirst, madeSecond}
-use Rattle.label.proofs.Laid.{placeOf, widthOf, fieldAt, fitted-all, filled-back}
+use Rattle.label.specs.Table.{hdr1, hdr2, fieldsOf, free, characters, spaces, zeros, digits as digitsRule, formatRow, blockLengthRow, recordLengthRow, offsetRow}
+use Rattle.label.specs.Judged.{goodAt, wrongIn, accessOf, accessAt, labelFault}
+use Rattle.label.specs.Made.{fitted, laid, identifierIn, generationIn, versionIn, createdIn, expiresIn, formatIn, blockLengthIn, recordLengthIn, madeFirst, madeSecond}
+use Rattle.label.proofs.Laid.{fielded, eighty-hdr1, eighty-hdr2}
+use Rattle.label.proofs.Every.{Hold, all-hold, sound, sound-fields}
+use Rattle.label.proofs.Fine.{Suit, fieldsIn, filled-fine, suit-with, suit-other, read-suit}
+use Rattle.label.proofs.Read.{second-field, access-first}
 use Rattle.volume.specs.Fault.{valueOf}
 use Rattle.volume.specs.Meaning.{fieldsFrom}
 use Rattle.reading.specs.Legal.{formatFrom, recordLengthFrom, isSound, legalEntry}
-
--- ---- a label without fault: each row of its table holds
-
-abbrev pub Rows : (ℕ → ℕ → ℕ → Bool) → ℕ → List ℕ → Type 0
-Rows ok at [] = Unit {0}
-Rows ok at (w ∷ []) = Unit {0}
-Rows ok at (w ∷ r ∷ rows) = (ok r at w ≡ true) × Rows ok (at + w) rows
-
-pub bad-rows : (ok : ℕ → ℕ → ℕ → Bool) (at : ℕ) (rows : List ℕ) → firstBad ok at rows ≡ 0 → Rows ok at rows
-unfolding firstBad
-bad-rows ok at [] h = tt
-bad-rows ok at (w ∷ []) h = tt
-bad-rows ok at (w ∷ r ∷ rows) h =
-    if-case (λ (n : ℕ). n ≡ 0 → Rows ok at (w ∷ r ∷ rows)) (ok r at w) (firstBad ok (at + w) rows) (at + 1)
-    (λ e q. (e, bad-rows ok (at + w) rows q)) (λ _ q. absurd (omega arith)) h
-
-rows-bad : (ok : ℕ → ℕ → ℕ → Bool) (at : ℕ) (rows : List ℕ) → Rows ok at rows → firstBad ok at rows ≡ 0
-unfolding firstBad
-rows-bad ok at [] h = refl
-rows-bad ok at (w ∷ []) h = refl
-rows-bad ok at (w ∷ r ∷ rows) (e, h) = if-true _ _ _ e ∙ rows-bad ok (at + w) rows h
-
-field-none : (w : ℕ) (f : Fault) → fieldFault w f .number ≡ 0 → w ≡ 0
-unfolding fieldFault fault
-field-none w f = if-case (λ (g : Fault). g .number ≡ 0 → w ≡ 0) (eqb w 0) f (fault 4 w) (λ e _. eqb-true w 0 e) (λ _ q. absurd (eqb-false 4 0 refl q))
-
-pub label-rows : (k : Kind) (l : List ℕ) → labelFault k l .number ≡ 0 → Rows (goodAt l) 0 (fieldsOf k)
-unfolding labelFault
-label-rows k l h = bad-rows (goodAt l) 0 (fieldsOf k) (field-none (firstBad (goodAt l) 0 (fieldsOf k)) (accessAt (accessOf k) l) h)
-
-rows-label : (k : Kind) (l : List ℕ) → Rows (goodAt l) 0 (fieldsOf k) → accessAt (accessOf k) l .number ≡ 0 → labelFault k l .number ≡ 0
-unfolding labelFault fieldFault
-rows-label k l h a =
-    ap (λ (f : Fault). f .number) (if-true _ _ _ (eq-eqb (firstBad (goodAt l) 0 (fieldsOf k)) 0 (rows-bad (goodAt l) 0 (fieldsOf k) h))) ∙ a
-
--- ---- one field
-
--- but for the record length, a rule sees the field alone
-good-alike : (r : ℕ) (l m f : List ℕ) → eqb r 9 ≡ false → good r l f ≡ good r m f
-unfolding good
-good-alike r l m f h =
-    ap (λ (t : Bool).
-    ifB (eqb r 1) (allA f)
-    (ifB (eqb r 2) (allAre 32 f)
-    (ifB (eqb r 3) (allDigits f)
-    (ifB (eqb r 4) (allAre 48 f)
-    (ifB (eqb r 5) (isPositive (numberIn f))
-    (ifB (eqb r 6) (isDate f)
-    (ifB (eqb r 7) (same f (52 ∷ []))
-    (ifB (eqb r 8) (isFormat f) t)))))))) (if-false (eqb r 9) (hasRecordLength l) true h ∙ sym (if-false (eqb r 9) (hasRecordLength m) true h))
-
--- a field of a made label that was read
-from-read : (r at w : ℕ) (m f x : List ℕ) → eqb r 9 ≡ false → part at w m ≡ fitted w x → x ≡ part at w f → at + w ≤ length f
-    → goodAt f r at w ≡ true → goodAt m r at w ≡ true
-unfolding goodAt
-from-read r at w m f x h p q l g =
-    let here : part at w m ≡ part at w f = p ∙ fitted-all w x (ap length q ∙ length-part at w f l) ∙ q in
-    ap (good r m) here ∙ good-alike r m f (part at w f) h ∙ g
-
--- a field of a made label that is the writer's own
-from-made : (r at w : ℕ) (m x : List ℕ) → part at w m ≡ fitted w x → good r m (fitted w x) ≡ true → goodAt m r at w ≡ true
-unfolding goodAt
-from-made r at w m x p g = ap (good r m) p ∙ g
 
 -- ---- the entry of a file: 46 bytes of its first HDR1 and HDR2
 
@@ -147,94 +87,49 @@ module _ (f s : List ℕ) (lf : length f ≡ 80) (ls : length s ≡ 80) where
 
 -- ---- the first header label
 
-abbrev firstFields : List ℕ → List ℕ → List (List ℕ)
-firstFields set e =
-    HDR1 ∷ identifierIn e ∷ set ∷ digits 4 1 ∷ digits 4 1 ∷ generationIn e ∷ versionIn e ∷ createdIn e ∷ expiresIn e ∷ [] ∷ digits 6 0 ∷ []
+-- the fields of HDR1 made of a label read: those of that label, but for what the writer gives itself
+abbrev firstRead : List ℕ → List (List ℕ)
+firstRead f = fielded 0 HDR1 (fielded 3 (digits 4 1) (fielded 4 (digits 4 1) (fielded 9 [] (fielded 10 (digits 6 0) (fielded 11 [] (fielded 12 [] (fieldsIn hdr1 0 f)))))))
 
-abbrev made1 : List ℕ → List ℕ → List ℕ
-made1 set e = madeFirst HDR1 set e 1 1 0
+first-suit : (f : List ℕ) → length f ≡ 80 → wrongIn f hdr1 ≡ 0 → Suit hdr1 f (firstRead f)
+unfolding good ifB digits fitted allDigits isDigit allA isA allAre
+first-suit f lf h =
+    let read : Suit hdr1 f (fieldsIn hdr1 0 f) = read-suit hdr1 f (omega (arith, eighty-hdr1, lf)) h in
+    let own12 : Suit hdr1 f (fielded 12 [] (fieldsIn hdr1 0 f)) = suit-with hdr1 f _ 12 spaces [] read refl in
+    let own11 : Suit hdr1 f (fielded 11 [] (fielded 12 [] (fieldsIn hdr1 0 f))) = suit-with hdr1 f _ 11 characters [] own12 refl in
+    let own10 = suit-with hdr1 f (fielded 11 [] (fielded 12 [] (fieldsIn hdr1 0 f))) 10 zeros (digits 6 0) own11 refl in
+    let own9 = suit-with hdr1 f (fielded 10 (digits 6 0) (fielded 11 [] (fielded 12 [] (fieldsIn hdr1 0 f)))) 9 characters [] own10 refl in
+    let own4 = suit-with hdr1 f (fielded 9 [] (fielded 10 (digits 6 0) (fielded 11 [] (fielded 12 [] (fieldsIn hdr1 0 f))))) 4 digitsRule (digits 4 1) own9 refl in
+    let own3 = suit-with hdr1 f (fielded 4 (digits 4 1) (fielded 9 [] (fielded 10 (digits 6 0) (fielded 11 [] (fielded 12 [] (fieldsIn hdr1 0 f)))))) 3 digitsRule (digits 4 1) own4 refl in
+    suit-with hdr1 f (fielded 3 (digits 4 1) (fielded 4 (digits 4 1) (fielded 9 [] (fielded 10 (digits 6 0) (fielded 11 [] (fielded 12 [] (fieldsIn hdr1 0 f))))))) 0 free HDR1 own3 refl
 
-cut-first : (set e : List ℕ) (k : ℕ) → part (placeOf hdr1 k) (widthOf hdr1 k) (made1 set e) ≡ fitted (widthOf hdr1 k) (fieldAt k (firstFields set e))
-unfolding madeFirst
-cut-first set e k = filled-back hdr1 (firstFields set e) k
-
-first-rows : (f s : List ℕ) → length f ≡ 80 → length s ≡ 80 → Rows (goodAt f) 0 hdr1 → Rows (goodAt (made1 (setOf f) (fieldsFrom f s))) 0 hdr1
-unfolding placeOf widthOf fieldAt good ifB digits fitted allDigits isDigit allA isA allAre setOf
-first-rows f s lf ls (_, (name, (set, (_, (_, (generation, (version, (created, (expires, _))))))))) = (
-  from-made 0 0 4 m HDR1 (cut-first (setOf f) e 0) refl,
-  (
-    from-read 1 4 17 m f (identifierIn e) refl (cut-first (setOf f) e 1) (entry-name f s lf ls 0 17 (omega arith)) (omega arith) name,
-    (
-      from-read 1 21 6 m f (setOf f) refl (cut-first (setOf f) e 2) refl (omega arith) set,
-      (
-        from-made 3 27 4 m (digits 4 1) (cut-first (setOf f) e 3) refl,
-        (
-          from-made 3 31 4 m (digits 4 1) (cut-first (setOf f) e 4) refl,
-          (
-            from-read 5 35 4 m f (generationIn e) refl (cut-first (setOf f) e 5) (entry-dates f s lf ls 0 4 (omega arith)) (omega arith) generation,
-            (
-              from-read 3 39 2 m f (versionIn e) refl (cut-first (setOf f) e 6) (entry-dates f s lf ls 4 2 (omega arith)) (omega arith) version,
-              (
-                from-read 6 41 6 m f (createdIn e) refl (cut-first (setOf f) e 7) (entry-dates f s lf ls 6 6 (omega arith)) (omega arith) created,
-                (
-                  from-read 6 47 6 m f (expiresIn e) refl (cut-first (setOf f) e 8) (entry-dates f s lf ls 12 6 (omega arith)) (omega arith) expires,
-                  (
-                    from-made 1 53 1 m [] (cut-first (setOf f) e 9) refl,
-                    (
-                      from-made 4 54 6 m (digits 6 0) (cut-first (setOf f) e 10) refl,
-                      (
-                        from-made 1 60 13 m [] (cut-first (setOf f) e 11) refl,
-                        (
-                          from-made 2 73 7 m [] (cut-first (setOf f) e 12) refl,
-                          tt,
-                        ),
-                      ),
-                    ),
-                  ),
-                ),
-              ),
-            ),
-          ),
-        ),
-      ),
-    ),
-  ),
-)
+first-made : (f s : List ℕ) → length f ≡ 80 → length s ≡ 80 → laid hdr1 (firstRead f) ≡ madeFirst HDR1 (setOf f) (fieldsFrom f s) 1 1 0
+unfolding madeFirst laid setOf
+first-made f s lf ls =
+    ap (λ (x : List ℕ). shape x (part 35 4 f) (part 39 2 f) (part 41 6 f) (part 47 6 f)) (sym (entry-name f s lf ls 0 17 (omega arith)))
+    ∙ ap (λ (x : List ℕ). shape (identifierIn e) x (part 39 2 f) (part 41 6 f) (part 47 6 f)) (sym (entry-dates f s lf ls 0 4 (omega arith)))
+    ∙ ap (λ (x : List ℕ). shape (identifierIn e) (generationIn e) x (part 41 6 f) (part 47 6 f)) (sym (entry-dates f s lf ls 4 2 (omega arith)))
+    ∙ ap (λ (x : List ℕ). shape (identifierIn e) (generationIn e) (versionIn e) x (part 47 6 f)) (sym (entry-dates f s lf ls 6 6 (omega arith)))
+    ∙ ap (shape (identifierIn e) (generationIn e) (versionIn e) (createdIn e)) (sym (entry-dates f s lf ls 12 6 (omega arith)))
   where
     e : List ℕ
     e = fieldsFrom f s
 
-    m : List ℕ
-    m = made1 (setOf f) e
-
-first-access : (set e : List ℕ) → accessAt (accessOf (hdr 1)) (made1 set e) .number ≡ 0
-unfolding accessAt accessOf isKind ifB placeOf widthOf fieldAt fitted fault same
-first-access set e =
-    let here : part 53 1 (made1 set e) ≡ 32 ∷ [] = cut-first set e 9 in
-    ap (λ (x : List ℕ). ifB (same x (32 ∷ [])) (fault 0 0) (fault 5 54) .number) here
+    shape : List ℕ → List ℕ → List ℕ → List ℕ → List ℕ → List ℕ
+    shape i g v c x = laid hdr1 (HDR1 ∷ i ∷ part 21 6 f ∷ digits 4 1 ∷ digits 4 1 ∷ g ∷ v ∷ c ∷ x ∷ [] ∷ digits 6 0 ∷ [])
 
 pub first-sound : (f s : List ℕ) → length f ≡ 80 → length s ≡ 80 → labelFault (hdr 1) f .number ≡ 0
-    → labelFault (hdr 1) (made1 (setOf f) (fieldsFrom f s)) .number ≡ 0
+    → labelFault (hdr 1) (madeFirst HDR1 (setOf f) (fieldsFrom f s) 1 1 0) .number ≡ 0
+unfolding fieldsOf accessOf isKind ifB fault
 first-sound f s lf ls h =
-    rows-label (hdr 1) (made1 (setOf f) (fieldsFrom f s))
-    (subst (Rows (goodAt (made1 (setOf f) (fieldsFrom f s))) 0) (sym table)
-    (first-rows f s lf ls (subst (Rows (goodAt f) 0) table (label-rows (hdr 1) f h))))
-    (first-access (setOf f) (fieldsFrom f s))
-  where
-    table : fieldsOf (hdr 1) ≡ hdr1
-    table = unfold fieldsOf isKind ifB in refl
+    let fine : wrongIn (laid hdr1 (firstRead f)) hdr1 ≡ 0
+    = filled-fine hdr1 (firstRead f)
+    (suit-other hdr1 f (laid hdr1 (firstRead f)) (firstRead f) (λ p. absurd (false≢true (sym p))) (first-suit f lf (sound-fields (hdr 1) f h))) in
+    ap (λ (x : Fault). x .number)
+    (sound (hdr 1) (madeFirst HDR1 (setOf f) (fieldsFrom f s) 1 1 0) (ap (λ (l : List ℕ). wrongIn l hdr1) (sym (first-made f s lf ls)) ∙ fine)
+    (access-first HDR1 (setOf f) (fieldsFrom f s) 1 1 0))
 
 -- ---- the second header label
-
-abbrev secondFields : List ℕ → List (List ℕ)
-secondFields e = HDR2 ∷ formatIn e ∷ blockLengthIn e ∷ recordLengthIn e ∷ [] ∷ digits 2 0 ∷ []
-
-abbrev made2 : List ℕ → List ℕ
-made2 e = madeSecond HDR2 e
-
-cut-second : (e : List ℕ) (k : ℕ) → part (placeOf second k) (widthOf second k) (made2 e) ≡ fitted (widthOf second k) (fieldAt k (secondFields e))
-unfolding madeSecond
-cut-second e k = filled-back second (secondFields e) k
 
 -- a byte is that of the part of one byte at its place
 pub byte-part : (a : ℕ) (l : List ℕ) → getD l a 0 ≡ getD (part a 1 l) 0 0
@@ -260,31 +155,35 @@ length-none f (Value b) (Value r) o h =
     if-case (λ (t : Bool). t ≡ true → ifB (leb (leastRecord f) r) (suits f b r 0) false ≡ true) (leb (leastRecord f) r) (suits f b r o) false
     (λ e q. if-true _ _ _ e ∙ suits-none f b r o q) (λ _ q. absurd (false≢true q)) h
 
-module _ (f s : List ℕ) (lf : length f ≡ 80) (ls : length s ≡ 80) where
-  -- a field of the made label is that of the label read
-  made-part : (at n a : ℕ) → part at n (made2 (fieldsFrom f s)) ≡ fitted n (part (17 + (18 + a)) n (fieldsFrom f s)) → a + n ≤ 11
-      → part at n (made2 (fieldsFrom f s)) ≡ part (4 + a) n s
-  made-part at n a p h =
-      p ∙ fitted-all n (part (17 + (18 + a)) n (fieldsFrom f s)) (ap length q ∙ length-part (4 + a) n s (omega arith)) ∙ q
-    where
-      q : part (17 + (18 + a)) n (fieldsFrom f s) ≡ part (4 + a) n s
-      q = entry-second f s lf ls a n h
+abbrev made2 : List ℕ → List ℕ
+made2 e = madeSecond HDR2 e
 
+-- the fields of HDR2 made of a label read
+abbrev secondRead : List ℕ → List (List ℕ)
+secondRead s = fielded 0 HDR2 (fielded 4 [] (fielded 5 (digits 2 0) (fielded 6 [] (fieldsIn hdr2 0 s))))
+
+second-suit : (s : List ℕ) → length s ≡ 80 → wrongIn s hdr2 ≡ 0 → Suit hdr2 s (secondRead s)
+unfolding good ifB digits fitted allDigits isDigit allAre
+second-suit s ls h =
+    let read : Suit hdr2 s (fieldsIn hdr2 0 s) = read-suit hdr2 s (omega (arith, eighty-hdr2, ls)) h in
+    let own6 = suit-with hdr2 s (fieldsIn hdr2 0 s) 6 spaces [] read refl in
+    let own5 = suit-with hdr2 s (fielded 6 [] (fieldsIn hdr2 0 s)) 5 digitsRule (digits 2 0) own6 refl in
+    let own4 = suit-with hdr2 s (fielded 5 (digits 2 0) (fielded 6 [] (fieldsIn hdr2 0 s))) 4 free [] own5 refl in
+    suit-with hdr2 s (fielded 4 [] (fielded 5 (digits 2 0) (fielded 6 [] (fieldsIn hdr2 0 s)))) 0 free HDR2 own4 refl
+
+module _ (f s : List ℕ) (lf : length f ≡ 80) (ls : length s ≡ 80) where
   made-format : part 4 1 (made2 (fieldsFrom f s)) ≡ part 4 1 s
-  unfolding placeOf widthOf fieldAt
-  made-format = made-part 4 1 0 (cut-second (fieldsFrom f s) 1) (omega arith)
+  made-format = second-field HDR2 (fieldsFrom f s) formatRow (length-part 35 1 _ (omega (arith, length-entry f s lf ls))) ∙ entry-second f s lf ls 0 1 (omega arith)
 
   made-block : part 5 5 (made2 (fieldsFrom f s)) ≡ part 5 5 s
-  unfolding placeOf widthOf fieldAt
-  made-block = made-part 5 5 1 (cut-second (fieldsFrom f s) 2) (omega arith)
+  made-block = second-field HDR2 (fieldsFrom f s) blockLengthRow (length-part 36 5 _ (omega (arith, length-entry f s lf ls))) ∙ entry-second f s lf ls 1 5 (omega arith)
 
   made-record : part 10 5 (made2 (fieldsFrom f s)) ≡ part 10 5 s
-  unfolding placeOf widthOf fieldAt
-  made-record = made-part 10 5 6 (cut-second (fieldsFrom f s) 3) (omega arith)
+  made-record = second-field HDR2 (fieldsFrom f s) recordLengthRow (length-part 41 5 _ (omega (arith, length-entry f s lf ls))) ∙ entry-second f s lf ls 6 5 (omega arith)
 
   made-offset : numberIn (part 50 2 (made2 (fieldsFrom f s))) ≡ Value 0
-  unfolding placeOf widthOf fieldAt fitted digits numberIn allDigits isDigit value ifB
-  made-offset = ap numberIn (cut-second (fieldsFrom f s) 5)
+  unfolding digits numberIn allDigits isDigit value ifB
+  made-offset = ap numberIn (second-field HDR2 (fieldsFrom f s) offsetRow refl)
 
   -- R against B and O
   made-suits : allDigits (part 50 2 s) ≡ true → hasRecordLength s ≡ true → hasRecordLength (made2 (fieldsFrom f s)) ≡ true
@@ -303,47 +202,28 @@ module _ (f s : List ℕ) (lf : length f ≡ 80) (ls : length s ≡ 80) where
       m : List ℕ
       m = made2 (fieldsFrom f s)
 
-  second-rows : Rows (goodAt s) 0 second → Rows (goodAt (made2 (fieldsFrom f s))) 0 second
-  unfolding placeOf widthOf fieldAt good goodAt ifB digits fitted allDigits isDigit allAre
-  second-rows (_, (format, (block, (record-length, (_, (offset, _)))))) = (
-    from-made 0 0 4 m HDR2 (cut-second e 0) refl,
-    (
-      from-read 8 4 1 m s (formatIn e) refl (cut-second e 1) (entry-second f s lf ls 0 1 (omega arith)) (omega arith) format,
-      (
-        from-read 5 5 5 m s (blockLengthIn e) refl (cut-second e 2) (entry-second f s lf ls 1 5 (omega arith)) (omega arith) block,
-        (
-          made-suits offset record-length,
-          (
-            from-made 0 15 35 m [] (cut-second e 4) refl,
-            (
-              from-made 3 50 2 m (digits 2 0) (cut-second e 5) refl,
-              (
-                from-made 2 52 28 m [] (cut-second e 6) refl,
-                tt,
-              ),
-            ),
-          ),
-        ),
-      ),
-    ),
-  )
+  second-made : laid hdr2 (secondRead s) ≡ made2 (fieldsFrom f s)
+  unfolding madeSecond laid
+  second-made =
+      ap (λ (x : List ℕ). shape x (part 5 5 s) (part 10 5 s)) (sym (entry-second f s lf ls 0 1 (omega arith)))
+      ∙ ap (λ (x : List ℕ). shape (formatIn e) x (part 10 5 s)) (sym (entry-second f s lf ls 1 5 (omega arith)))
+      ∙ ap (shape (formatIn e) (blockLengthIn e)) (sym (entry-second f s lf ls 6 5 (omega arith)))
     where
       e : List ℕ
       e = fieldsFrom f s
 
-      m : List ℕ
-      m = made2 e
+      shape : List ℕ → List ℕ → List ℕ → List ℕ
+      shape o b r = laid hdr2 (HDR2 ∷ o ∷ b ∷ r ∷ [] ∷ digits 2 0 ∷ [])
 
   pub second-sound : labelFault (hdr 2) s .number ≡ 0 → labelFault (hdr 2) (made2 (fieldsFrom f s)) .number ≡ 0
+  unfolding fieldsOf accessOf accessAt isKind ifB fault goodAt good
   second-sound h =
-      rows-label (hdr 2) (made2 (fieldsFrom f s))
-      (subst (Rows (goodAt (made2 (fieldsFrom f s))) 0) (sym table) (second-rows (subst (Rows (goodAt s) 0) table (label-rows (hdr 2) s h)))) access
-    where
-      table : fieldsOf (hdr 2) ≡ second
-      table = unfold fieldsOf isKind ifB in refl
-
-      access : accessAt (accessOf (hdr 2)) (made2 (fieldsFrom f s)) .number ≡ 0
-      access = unfold accessAt accessOf isKind ifB fault in refl
+      let none : wrongIn s hdr2 ≡ 0 = sound-fields (hdr 2) s h in
+      let rows : Hold (goodAt s) hdr2 = all-hold (goodAt s) hdr2 none in
+      let suits : hasRecordLength (laid hdr2 (secondRead s)) ≡ true = ap hasRecordLength second-made ∙ made-suits (rows offsetRow refl) (rows recordLengthRow refl) in
+      let fine : wrongIn (laid hdr2 (secondRead s)) hdr2 ≡ 0
+      = filled-fine hdr2 (secondRead s) (suit-other hdr2 s (laid hdr2 (secondRead s)) (secondRead s) (λ _. suits) (second-suit s ls none)) in
+      ap (λ (x : Fault). x .number) (sound (hdr 2) (made2 (fieldsFrom f s)) (ap (λ (l : List ℕ). wrongIn l hdr2) (sym second-made) ∙ fine) refl)
 
   -- the entry is legal, and its format and record length are those of HDR2
   pub entry-legal : labelFault (hdr 1) f .number ≡ 0 → labelFault (hdr 2) s .number ≡ 0 → legalEntry (setOf f) (fieldsFrom f s) ≡ true
@@ -351,7 +231,7 @@ module _ (f s : List ℕ) (lf : length f ≡ 80) (ls : length s ≡ 80) where
   entry-legal h k =
       if-true _ _ _ (eq-eqb (length (part 21 6 f)) 6 (length-part 21 6 f (omega arith)))
       ∙ (if-true _ _ _ (eq-eqb (length (fieldsFrom f s)) 46 (length-entry f s lf ls))
-      ∙ (if-true _ _ _ (eq-eqb (labelFault (hdr 1) (made1 (part 21 6 f) (fieldsFrom f s)) .number) 0 (first-sound f s lf ls h))
+      ∙ (if-true _ _ _ (eq-eqb (labelFault (hdr 1) (madeFirst HDR1 (part 21 6 f) (fieldsFrom f s) 1 1 0) .number) 0 (first-sound f s lf ls h))
       ∙ eq-eqb (labelFault (hdr 2) (made2 (fieldsFrom f s)) .number) 0 (second-sound k)))
 
   pub entry-format : formatFrom (fieldsFrom f s) ≡ formatOf s

@@ -18,7 +18,8 @@ use Rattle.charset.specs.Number.{numberIn}
 use Rattle.charset.specs.declared.Number.{Number}
 use Rattle.order.specs.Kind.{hdr}
 use Rattle.label.specs.Field.{setOf, sectionOf, formatOf, blockLengthOf, recordLengthOf, offsetOf}
-use Rattle.label.specs.Table.{sectionFirst, sectionSecond}
+use Rattle.label.specs.Table.{hdr1, hdr2, perFile, bpOf, setRow, sectionRow, formatRow, recordLengthRow, offsetRow}
+use Rattle.label.proofs.Every.{Hold, all-hold}
 use Rattle.label.specs.Judged.{labelFault, agreeAt, firstBad}
 use Rattle.block.specs.Cut.{Segment, units}
 use Rattle.block.specs.Turn.{blockOutcome}
@@ -28,7 +29,7 @@ use Rattle.volume.specs.Step.{Event, begins, continues, holds, segmentsOf}
 use Rattle.volume.specs.Meaning.{File, joined, collect, setFrom, fieldsFrom}
 use Rattle.reading.specs.Legal.{formatFrom, recordLengthFrom, legalEntry, legalRecords, legalFile, legalFiles}
 use Rattle.reading.proofs.Assembled.{Owed, units-fair, block-owed}
-use Rattle.reading.proofs.Entries.{Rows, bad-rows, byte-part, entry-legal, entry-format, entry-record}
+use Rattle.reading.proofs.Entries.{byte-part, entry-legal, entry-format, entry-record}
 use Rattle.order.proofs.Moves.{Stage, before, named, within, fileOver, reelOver}
 
 -- ---- what the meaning hangs on
@@ -135,8 +136,8 @@ later-set : (f l : List ℕ) → laterPlace f l ≡ 0 → setOf f ≡ setOf l
 unfolding laterPlace setOf agreeAt ifB
 later-set f l h =
     same-true (part 21 6 f) (part 21 6 l)
-    (bad-rows (agreeAt f l) 0 sectionFirst
-    (lower-first (firstBad (agreeAt f l) 0 sectionFirst) (ifB (says (valueOf (sectionOf f) + 1) (sectionOf l)) 0 28) h) .1 .1 .0)
+    (all-hold (agreeAt perFile f l) hdr1
+    (lower-first (firstBad (agreeAt perFile f l) 0 hdr1) (ifB (says (valueOf (sectionOf f) + 1) (sectionOf l)) 0 (bpOf hdr1 sectionRow)) h) setRow refl)
 
 new-set : (n : ℕ) (f l : List ℕ) → newFilePlace n f l ≡ 0 → (n ≡ 0 → ⊥) → setOf f ≡ setOf l
 unfolding newFilePlace
@@ -163,13 +164,13 @@ pub second-same : (f l : List ℕ) → secondHeaderFault true f l .number ≡ 0
     → (formatOf f ≡ formatOf l) × (recordLengthOf f ≡ recordLengthOf l) × (offsetOf f ≡ offsetOf l)
 unfolding secondHeaderFault formatOf recordLengthOf offsetOf agreeAt ifB
 second-same f l h = (
-  byte-part 4 f ∙ ap (λ (x : List ℕ). getD x 0 0) (same-true (part 4 1 f) (part 4 1 l) (rows .1 .0)) ∙ sym (byte-part 4 l),
-  ap numberIn (same-true (part 10 5 f) (part 10 5 l) (rows .1 .1 .1 .0)),
-  ap numberIn (same-true (part 50 2 f) (part 50 2 l) (rows .1 .1 .1 .1 .1 .0)),
+  byte-part 4 f ∙ ap (λ (x : List ℕ). getD x 0 0) (same-true (part 4 1 f) (part 4 1 l) (rows formatRow refl)) ∙ sym (byte-part 4 l),
+  ap numberIn (same-true (part 10 5 f) (part 10 5 l) (rows recordLengthRow refl)),
+  ap numberIn (same-true (part 50 2 f) (part 50 2 l) (rows offsetRow refl)),
 )
   where
-    rows : Rows (agreeAt f l) 0 sectionSecond
-    rows = bad-rows (agreeAt f l) 0 sectionSecond (crossed-none (firstBad (agreeAt f l) 0 sectionSecond) h)
+    rows : Hold (agreeAt perFile f l) hdr2
+    rows = all-hold (agreeAt perFile f l) hdr2 (crossed-none (firstBad (agreeAt perFile f l) 0 hdr2) h)
 
 -- EOF1: no record is open
 pub end-idle : (f : List ℕ) (c q : ℕ) (l : List ℕ) → fileEndFault f c q l .number ≡ 0 → q ≡ 0

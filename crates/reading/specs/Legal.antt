@@ -15,7 +15,8 @@ use Rattle.image.specs.Framing.{mostReels}
 use Rattle.order.specs.Kind.{vol, hdr}
 use Rattle.label.specs.Name.{HDR1, HDR2}
 use Rattle.label.specs.Judged.{labelFault}
-use Rattle.label.specs.Made.{madeVolume, madeFirst, madeSecond, blockLengthIn, recordLengthIn}
+use Rattle.label.specs.Table.{placeOf}
+use Rattle.label.specs.Made.{entry, madeVolume, madeFirst, madeSecond, blockLengthIn, recordLengthIn}
 use Rattle.block.specs.Unit.{pad}
 use Rattle.volume.specs.Fault.{isAmong, valueOf, mostFiles}
 use Rattle.volume.specs.Meaning.{File, Meaning}
@@ -28,7 +29,7 @@ pub record Sheet : Type 0 where
 -- ---- the numbers of a file's entry
 
 unfoldable pub formatFrom : List ℕ → ℕ
-formatFrom e = getD e 35 0
+formatFrom e = getD e (placeOf entry 5) 0
 
 unfoldable pub blockLengthFrom : List ℕ → ℕ
 blockLengthFrom e = valueOf (numberIn (blockLengthIn e))

@@ -17,6 +17,9 @@ use base::part_of;
 use block::all_padding;
 use charset::Number;
 use charset::number_in;
+use label::FORMAT_IN;
+use label::SIZE_IN;
+use label::SIZE_WIDTH;
 use label::first_label;
 use label::label_fault;
 use label::second_label;
@@ -87,8 +90,8 @@ fn is_legal_entry(set: &[u8], entry: &[u8]) -> bool
 pub fn format_in(entry: &[u8]) -> u8
     ensures { λ r. ⌜ r ≡ formatFrom (now (entry .entry)) ⌝ }
 {
-    if 35 < entry.len() {
-        return entry[35];
+    if FORMAT_IN < entry.len() {
+        return entry[FORMAT_IN];
     }
     0
 }
@@ -97,7 +100,7 @@ pub fn format_in(entry: &[u8]) -> u8
 fn record_length_in(entry: &[u8]) -> u32
     ensures { λ r. ⌜ r ≡ recordLengthFrom (now (entry .entry)) ⌝ }
 {
-    let n = number_in(part_of(entry, 41, 5));
+    let n = number_in(part_of(entry, SIZE_IN, SIZE_WIDTH));
     match n {
         Number::Value(v) => v,
         Number::Wrong => 0,

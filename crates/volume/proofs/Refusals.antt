@@ -20,7 +20,7 @@ use Rattle.order.specs.Due.{dueAfter}
 use Rattle.order.specs.declared.Kind.{Kind}
 use Rattle.order.specs.declared.Due.{Due}
 use Rattle.order.specs.declared.Due.the-variants.{To, Wrong}
-use Rattle.label.specs.Judged.{accessAt, accessOf, fieldFault, labelFault, wrongFrom}
+use Rattle.label.specs.Judged.{accessAt, accessOf, fieldFault, labelFault, wrongIn}
 use Rattle.label.specs.Table.{fieldsOf}
 use Rattle.block.specs.Cut.{Segment}
 use Rattle.block.specs.Turn.{outcome, isTurn, openAfter, turnsFrom, turned, blockOutcome}
@@ -188,8 +188,8 @@ sound-access a l =
 sound-label : (k : Kind) (l : List ℕ) → Sound (labelFault k l)
 unfolding labelFault fieldFault
 sound-label k l =
-    if-case Sound (eqb (wrongFrom l 0 (fieldsOf k)) 0) _ _ (λ _. sound-access (accessOf k) l)
-    (λ e. in-field 4 (wrongFrom l 0 (fieldsOf k)) (omega arith) (omega arith) (eqb-false (wrongFrom l 0 (fieldsOf k)) 0 e))
+    if-case Sound (eqb (wrongIn l (fieldsOf k)) 0) _ _ (λ _. sound-access (accessOf k) l)
+    (λ e. in-field 4 (wrongIn l (fieldsOf k)) (omega arith) (omega arith) (eqb-false (wrongIn l (fieldsOf k)) 0 e))
 
 sound-item : (s : State) (k : Kind) (l : List ℕ) → Sound (itemFault s k l)
 unfolding itemFault

@@ -3,14 +3,15 @@
 use mathlib.Core.Path.{_≡_}
 use mathlib.Core.Bool.{Bool, _&&_, _||_}
 use mathlib.Core.List.{List, [], _∷_}
-use Prim.Native.Nat.{ℕ}
+use Prim.Native.Nat.{ℕ, _+_}
 use lib.ListN.{replicate}
 use Rattle.base.specs.If.{ifB}
-use Rattle.base.specs.Part.{part, putAt}
+use Rattle.base.specs.Part.{putAt}
 use Rattle.image.specs.Item.{Item, block, mark, reelEnd, broken}
 use Rattle.order.specs.Kind.{hdr, eov, eof, isKind}
 use Rattle.order.specs.declared.Kind.{Kind}
 use Rattle.order.specs.declared.Phase.{Phase}
+use Rattle.label.specs.Table.{hdr1, placeOf, widthOf, field, createdRow, expiresRow}
 use Rattle.volume.specs.State.{State}
 use Rattle.volume.specs.Step.{Next, go, no, kindIn, step}
 
@@ -18,9 +19,9 @@ use Rattle.volume.specs.Step.{Next, go, no, kindIn, step}
 unfoldable pub isDated : Kind → Bool
 isDated k = isKind k (hdr 1) || (isKind k (eov 1) || isKind k (eof 1))
 
--- a label with SPACEs in place of its dates, BP 42-53
+-- a label with SPACEs in place of its dates
 unfoldable pub undated : List ℕ → List ℕ
-undated l = putAt l 41 (replicate 12 32)
+undated l = putAt l (placeOf hdr1 createdRow) (replicate (widthOf hdr1 createdRow + widthOf hdr1 expiresRow) 32)
 
 -- an item of a phase, without its dates where a file goes on: there it stands in a later section
 unfoldable pub undatedIn : Bool → Phase → Item → Item
@@ -38,7 +39,7 @@ unfoldable pub undatedFrom : State → List Item → List Item
 undatedFrom s [] = []
 undatedFrom s (x ∷ xs) = undatedIn (s .goesOn) (s .phase) x ∷ undatedBehind (step s x) (λ t. undatedFrom t xs)
 
--- the dates of a label, BP 42-47 and 48-53, are those of another
+-- the dates of a label are those of another
 pub record SameDates (a b : List ℕ) : Type 0 where
-  pub creation : part 41 6 a ≡ part 41 6 b
-  pub expiration : part 47 6 a ≡ part 47 6 b
+  pub creation : field hdr1 createdRow a ≡ field hdr1 createdRow b
+  pub expiration : field hdr1 expiresRow a ≡ field hdr1 expiresRow b

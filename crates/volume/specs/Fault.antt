@@ -16,8 +16,8 @@ use Rattle.image.specs.Framing.{mostReels}
 use Rattle.order.specs.Kind.{vol, hdr, eov, eof, dataBlock, isKind}
 use Rattle.order.specs.declared.Kind.{Kind}
 use Rattle.label.specs.Field.{formatOf, blockLengthOf, recordLengthOf, offsetOf, volumeOf, setOf, sectionOf, sequenceOf, countOf}
-use Rattle.label.specs.Table.{trailerFirst, trailerSecond, sectionFirst, sectionSecond}
-use Rattle.label.specs.Judged.{labelFault, unequalFrom}
+use Rattle.label.specs.Table.{perSection, perFile, vol1, hdr1, hdr2, bpOf, volumeRow, setRow, sectionRow, sequenceRow, countRow}
+use Rattle.label.specs.Judged.{labelFault, unequalIn}
 use Rattle.block.specs.Turn.{blockOutcome}
 use Rattle.block.specs.declared.Outcome.{Outcome}
 use Rattle.volume.specs.State.{State}
@@ -53,17 +53,17 @@ isAmong v (u ∷ us) = ifB (same v u) true (isAmong v us)
 
 -- A 17th reel is 2 by the framing, before any item is read; the same number here bounds the names that reading has to keep.
 unfoldable pub volumeFault : List (List ℕ) → List ℕ → Fault
-volumeFault names l = ifB (leb mostReels (length names)) (fault 2 0) (crossed (ifB (isAmong (volumeOf l) names) 5 0))
+volumeFault names l = ifB (leb mostReels (length names)) (fault 2 0) (crossed (ifB (isAmong (volumeOf l) names) (bpOf vol1 volumeRow) 0))
 
 -- the first HDR1 of a file, behind `files` others of which `first` was the last HDR1: one set identifier throughout, section 0001, sequence 0001 or
 -- one higher than that of the file before
 unfoldable pub newFilePlace : ℕ → List ℕ → List ℕ → ℕ
 newFilePlace files first l =
-    ifB (ifB (eqb files 0) true (same (setOf l) (setOf first))) (ifB (says 1 (sectionOf l)) (ifB (says (files + 1) (sequenceOf l)) 0 32) 28) 22
+    ifB (ifB (eqb files 0) true (same (setOf l) (setOf first))) (ifB (says 1 (sectionOf l)) (ifB (says (files + 1) (sequenceOf l)) 0 (bpOf hdr1 sequenceRow)) (bpOf hdr1 sectionRow)) (bpOf hdr1 setRow)
 
 -- HDR1 of a later section: section one higher, and BP 5-27, 32-41 and 54 as in the section before (house)
 unfoldable pub laterPlace : List ℕ → List ℕ → ℕ
-laterPlace first l = lower (unequalFrom first l 0 sectionFirst) (ifB (says (valueOf (sectionOf first) + 1) (sectionOf l)) 0 28)
+laterPlace first l = lower (unequalIn perFile first l hdr1) (ifB (says (valueOf (sectionOf first) + 1) (sectionOf l)) 0 (bpOf hdr1 sectionRow))
 
 -- at most 64 files (house): the 65th is 9 at its HDR1
 abbrev pub mostFiles : ℕ
@@ -77,11 +77,11 @@ firstHeaderFault goesOn files first l = ifB goesOn (crossed (laterPlace first l)
 
 -- HDR2 of a later section: BP 5-15 and 51-52 as in the section before (house)
 unfoldable pub secondHeaderFault : Bool → List ℕ → List ℕ → Fault
-secondHeaderFault goesOn second l = ifB goesOn (crossed (unequalFrom second l 0 sectionSecond)) (fault 0 0)
+secondHeaderFault goesOn second l = ifB goesOn (crossed (unequalIn perFile second l hdr2)) (fault 0 0)
 
 -- the first trailer label equals its header's; its count is the number of blocks of this section
 unfoldable pub firstTrailerFault : List ℕ → ℕ → List ℕ → Fault
-firstTrailerFault first count l = crossed (lower (unequalFrom first l 0 trailerFirst) (ifB (says count (countOf l)) 0 55))
+firstTrailerFault first count l = crossed (lower (unequalIn perSection first l hdr1) (ifB (says count (countOf l)) 0 (bpOf hdr1 countRow)))
 
 -- no record may be open at EOF1
 unfoldable pub openFault : ℕ → Fault
@@ -92,7 +92,7 @@ fileEndFault first count pending l = orElse (firstTrailerFault first count l) (o
 
 -- the second trailer label equals its header's
 unfoldable pub secondTrailerFault : List ℕ → List ℕ → Fault
-secondTrailerFault second l = crossed (unequalFrom second l 0 trailerSecond)
+secondTrailerFault second l = crossed (unequalIn perSection second l hdr2)
 
 -- ---- data blocks
 

@@ -5,7 +5,7 @@ use mathlib.Core.List.{List, [], _∷_, _++_}
 use Prim.Native.Nat.{ℕ}
 use lib.Dec.{eqb}
 use Rattle.base.specs.If.{ifB}
-use Rattle.base.specs.Part.{part}
+use Rattle.label.specs.Table.{hdr1, hdr2, field, fieldsTo, identifierRow, generationRow, expiresRow, formatRow, recordLengthRow}
 use Rattle.label.specs.Field.{setOf}
 use Rattle.block.specs.Cut.{Segment}
 use Rattle.image.specs.Framing.{items}
@@ -43,9 +43,9 @@ pub record Collected : Type 0 where
   pub segments : List Segment
   pub files : List File
 
--- the fields of a file from its first HDR1 and HDR2: BP 5-21, 36-39, 40-41, 42-47, 48-53 and 5, 6-10, 11-15
+-- the fields of a file from its first HDR1 and HDR2: the file identifier, generation to expiration date, and format to record length
 unfoldable pub fieldsFrom : List ℕ → List ℕ → List ℕ
-fieldsFrom f s = part 4 17 f ++ (part 35 18 f ++ part 4 11 s)
+fieldsFrom f s = field hdr1 identifierRow f ++ (fieldsTo hdr1 generationRow expiresRow f ++ fieldsTo hdr2 formatRow recordLengthRow s)
 
 unfoldable pub collect : List Event → Collected
 collect [] = record { segments = []; files = [] }

@@ -21,6 +21,11 @@ use base::equal;
 use block::Outcome;
 use block::block_outcome;
 use charset::Number;
+use label::COUNT_BP;
+use label::SECTION_BP;
+use label::SEQUENCE_BP;
+use label::SET_BP;
+use label::VOLUME_BP;
 use label::block_length;
 use label::count_of;
 use label::format_of;
@@ -115,7 +120,10 @@ fn volume_fault(image: &[u8], names: &[usize], l: &[u8]) -> Fault
         return Fault { number: 2, byte: 0 };
     }
     if is_among(image, names, volume_of(l)) {
-        return Fault { number: 6, byte: 5 };
+        return Fault {
+            number: 6,
+            byte: VOLUME_BP,
+        };
     }
     Fault { number: 0, byte: 0 }
 }
@@ -139,11 +147,11 @@ fn new_file_place(files: u32, first: &[u8], l: &[u8]) -> u32
             if says(files as u64 + 1, sequence_of(l)) {
                 return 0;
             }
-            return 32;
+            return SEQUENCE_BP;
         }
-        return 28;
+        return SECTION_BP;
     }
-    22
+    SET_BP
 }
 
 // The BP of the section number, where it is not one higher than in the section before, or 0.
@@ -154,7 +162,7 @@ fn section_place(first: &[u8], l: &[u8]) -> u32
     if says(before + 1, section_of(l)) {
         return 0;
     }
-    28
+    SECTION_BP
 }
 
 // The BP at which HDR1 of a later section is wrong against the section before, or 0.
@@ -201,7 +209,7 @@ fn count_place(count: usize, l: &[u8]) -> u32
     if says(count as u64, count_of(l)) {
         return 0;
     }
-    55
+    COUNT_BP
 }
 
 // The fault of EOV1 or EOF1 against the HDR1 and the blocks of its section.

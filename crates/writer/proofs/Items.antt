@@ -15,7 +15,7 @@ use Rattle.image.proofs.RoundTrip.{encode-append}
 use Rattle.label.specs.Name.{HDR1, HDR2, EOV1, EOV2, EOF1, EOF2}
 use Rattle.label.specs.Made.{madeVolume, madeFirst, madeSecond}
 use Rattle.writing.specs.Lay.{headers, fileEnd, volumeEnd}
-use Rattle.writing.proofs.Labels.{length-first, length-second, length-volume}
+use Rattle.label.proofs.Read.{length-first, length-second, length-volume}
 use Rattle.writer.specs.Pass.{entryIn, sequenceIn, setIn, Puts, pairOf}
 use Rattle.writer.specs.Sets.{headOf}
 

@@ -35,7 +35,8 @@ use Rattle.volume.specs.Fault.{says, valueOf, lower, crossed, isAmong, volumeFa
 use Rattle.volume.specs.Step.{begins, continues, holds, isDue, kindIn, bytesIn, namesAfter, filesAfter, goesOnAfter, firstAfter, secondAfter, countAfter, pendingAfter, stateAfter, segmentsOf, segmentsIn, eventsOf, go, judged, ordered, step}
 use Rattle.reading.specs.Legal.{formatFrom, blockLengthFrom, recordLengthFrom}
 use Rattle.writing.proofs.Packed.{Block}
-use Rattle.writing.proofs.Labels.{GoodFirst, GoodSecond, header-sound, header-kind, volume-end-sound, volume-end-kind, file-end-sound, file-end-kind, section-back, sequence-back, count-back, set-back, trailer-agrees, section-agrees, second-agrees, second-section-agrees, format-back, block-back, record-back, offset-back, second-header-sound, second-header-kind, second-volume-end-sound, second-volume-end-kind, second-file-end-sound, second-file-end-kind, volume-back, volume-kind}
+use Rattle.writing.proofs.Labels.{GoodFirst, GoodSecond, header-sound, header-kind, volume-end-sound, volume-end-kind, file-end-sound, file-end-kind, section-back, sequence-back, count-back, set-back, trailer-agrees, section-agrees, second-agrees, second-section-agrees, format-back, block-back, record-back, offset-back, second-header-sound, second-header-kind, second-volume-end-sound, second-volume-end-kind, second-file-end-sound, second-file-end-kind}
+use Rattle.label.proofs.Read.{volume-back, kind-volume}
 
 -- a state, field by field
 abbrev pub at : Phase → List (List ℕ) → ℕ → Bool → List ℕ → List ℕ → ℕ → ℕ → State
@@ -78,7 +79,7 @@ pub act-volume : (names : List (List ℕ)) (files : ℕ) (on : Bool) (f s : List
     → step (at Reel names files on f s c o) (block (madeVolume n)) ≡ go (at (Volume 1) (names ++ (n ∷ [])) files on f s c o) []
 unfolding dueAfter dues choose isDue contextFault isKind ifB stateAfter namesAfter filesAfter goesOnAfter firstAfter secondAfter countAfter pendingAfter eventsOf
 act-volume names files on f s c o n h a m d =
-    labelled (at Reel names files on f s c o) (madeVolume n) (vol 1) (Volume 1) refl (volume-kind n) refl a (volume-fault names n h m d)
+    labelled (at Reel names files on f s c o) (madeVolume n) (vol 1) (Volume 1) refl (kind-volume n) refl a (volume-fault names n h m d)
     ∙ ap (λ (v : List ℕ). go (at (Volume 1) (names ++ (v ∷ [])) files on f s c o) []) (volume-back n h)
 
 -- ---- the first header label

@@ -33,7 +33,8 @@ use Rattle.writing.specs.Pack.{blocksOf}
 use Rattle.writing.specs.Lay.{Reel, Laid, laid, short, put, headers, fileEnd, volumeEnd, rest, layFiles}
 use Rattle.writing.proofs.Units.{both}
 use Rattle.writing.proofs.Packed.{Block, Blocks, held, flat, file-blocks, file-records}
-use Rattle.writing.proofs.Labels.{GoodFirst, GoodSecond, length-first, length-second, length-volume, set-back}
+use Rattle.writing.proofs.Labels.{GoodFirst, GoodSecond, set-back}
+use Rattle.label.proofs.Read.{length-first, length-second, length-volume}
 use Rattle.writing.proofs.Entry.{legal-first, legal-second, suited, entry-back}
 use Rattle.writing.proofs.Acts.{at, OneSet, act-mark, act-reel-end, act-volume, act-header, act-header-later, act-second, act-second-later, act-eof1, act-eov1, act-eof2, act-eov2, act-block}
 

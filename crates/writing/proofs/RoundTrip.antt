@@ -31,7 +31,7 @@ use Rattle.writing.specs.Lay.{Reel, reelsOf, Laid, laid, short, layFiles
 use Rattle.output.specs.Output.{Written, refused}
 use Rattle.writing.specs.Write.{stored, storedLaid, writeSheet, write}
 use Rattle.writing.proofs.Units.{both}
-use Rattle.writing.proofs.Labels.{length-volume}
+use Rattle.label.proofs.Read.{length-volume}
 use Rattle.writing.proofs.Entry.{legal-first}
 use Rattle.writing.proofs.Acts.{at, act-volume}
 use Rattle.writing.proofs.Laying.{read-label, Ends, IsLaid, ends-put, namesOf, Rooms, Usable, usable-next, Reels, Files, legal-file, one-set, file-ends, files-end}

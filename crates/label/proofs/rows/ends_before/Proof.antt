@@ -1,8 +1,8 @@
 use Rattle.base.proofs.Rules.{ifs}
 use Rattle.label.specs.Judged.{endsBefore}
 use borrow.Author.Needs.{needs}
-use Rattle.label.proofs.within.ends_before.Statement.{statement}
-use Rattle.label.proofs.within.ends_before.Tie as tie
+use Rattle.label.proofs.rows.ends_before.Statement.{statement}
+use Rattle.label.proofs.rows.ends_before.Tie as tie
 
 add-result : tie.Need-add-result
 add-result c = search needs

@@ -1,7 +1,7 @@
 use Rattle.label.proofs.Composed.{composed}
 use borrow.Author.Needs.{needs}
-use Rattle.label.proofs.compared.same_part.Statement.{statement}
-use Rattle.label.proofs.compared.same_part.Tie as tie
+use Rattle.label.proofs.rows.same_part.Statement.{statement}
+use Rattle.label.proofs.rows.same_part.Tie as tie
 
 part-of-requires : tie.Need-part-of-requires
 part-of-requires c κs = search needs

@@ -1,8 +1,8 @@
 use Rattle.base.proofs.Rules.{ifs}
 use Rattle.label.specs.Judged.{agreeAt}
 use borrow.Author.Needs.{needs}
-use Rattle.label.proofs.compared.agree_at.Statement.{statement}
-use Rattle.label.proofs.compared.agree_at.Tie as tie
+use Rattle.label.proofs.rows.agree_at.Statement.{statement}
+use Rattle.label.proofs.rows.agree_at.Tie as tie
 
 same-part-requires : tie.Need-same-part-requires
 same-part-requires c κs = search needs
