@@ -64,17 +64,24 @@ right-here : (b : ℕ) (p : Bool) (s : List ℕ) → p ≡ isDigit b → p ≡ t
 unfolding allDigits
 right-here b p s e h w = if-true _ _ _ (sym e ∙ h) ∙ w
 
+-- the codes of three digits, at their places, are as much too high as is taken off
+pub four-least : (a b c t u v w : ℕ) (p q x : Bool) → p ≡ isDigit a → p ≡ true → q ≡ isDigit b → q ≡ true → x ≡ isDigit c → x ≡ true
+    → t ≡ a → u ≡ b → v ≡ c → 53280 ≤ t * 1000 + u * 100 + (v * 10 + w)
+four-least a b c t u v w p q x e₁ h₁ e₂ h₂ e₃ h₃ q₁ q₂ q₃ =
+    omega (arith, digit-least a (sym e₁ ∙ h₁), digit-least b (sym e₂ ∙ h₂), digit-least c (sym e₃ ∙ h₃))
+
 pub four-right : (a b c d t u v w : ℕ) (p q x y : Bool)
     → p ≡ isDigit a → p ≡ true → q ≡ isDigit b → q ≡ true → x ≡ isDigit c → x ≡ true → y ≡ isDigit d → y ≡ true
-    → t ≡ a - 48 → u ≡ b - 48 → v ≡ c - 48 → w ≡ d - 48
-    → Value (t * 1000 + u * 100 + (v * 10 + w)) ≡ numberIn (a ∷ b ∷ c ∷ d ∷ [])
+    → t ≡ a → u ≡ b → v ≡ c → w ≡ d - 48
+    → Value (t * 1000 + u * 100 + (v * 10 + w) - 53280) ≡ numberIn (a ∷ b ∷ c ∷ d ∷ [])
 unfolding numberIn value
 four-right a b c d t u v w p q x y e₁ h₁ e₂ h₂ e₃ h₃ e₄ h₄ q₁ q₂ q₃ q₄ =
     let all : allDigits (a ∷ b ∷ c ∷ d ∷ []) ≡ true = right-here a p _ e₁ h₁ (right-here b q _ e₂ h₂ (right-here c x _ e₃ h₃ (right-here d y [] e₄ h₄ right-none))) in
-    let sum : t * 1000 + u * 100 + (v * 10 + w) ≡ value 0 (a ∷ b ∷ c ∷ d ∷ []) = omega arith in
+    let sum : t * 1000 + u * 100 + (v * 10 + w) - 53280 ≡ value 0 (a ∷ b ∷ c ∷ d ∷ [])
+    = omega (arith, digit-least a (sym e₁ ∙ h₁), digit-least b (sym e₂ ∙ h₂), digit-least c (sym e₃ ∙ h₃)) in
     ap Value sum ∙ sym (if-true _ _ _ refl ∙ if-true _ _ _ all)
 
-pub ruleset four = (wrong-here, wrong-later, number-wrong, four-right, so-true, needs)
+pub ruleset four = (wrong-here, wrong-later, number-wrong, four-least, four-right, so-true, needs)
 
 -- ---- the bytes of a fixed-length record
 

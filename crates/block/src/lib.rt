@@ -120,7 +120,16 @@ fn value_of(b: u8) -> u32
     (b - b'0') as u32
 }
 
-// The number that four digits mean: of products side by side, since a walk waits for it before the next record is found.
+// The code of a digit.
+fn code_of(b: u8) -> u32
+    requires { ⌜ isDigit b ≡ true ⌝ }
+    ensures { λ r. ⌜ (r ≡ b) × (r - 48 ≤ 9) ⌝ }
+{
+    b as u32
+}
+
+// The number that four digits mean: of products side by side, since a walk waits for it before the next record is found. What the codes of the first
+// three are too high, 48 each, is taken off the sum; the last is a value, or the compiler reads all four into one wide register, for which the walk waits longer.
 fn four_digits(a: u8, b: u8, c: u8, d: u8) -> Number
     ensures { λ r. ⌜ r ≡ numberIn (a ∷ b ∷ c ∷ d ∷ []) ⌝ }
 {
@@ -128,8 +137,9 @@ fn four_digits(a: u8, b: u8, c: u8, d: u8) -> Number
         if is_digit(b) {
             if is_digit(c) {
                 if is_digit(d) {
-                    let high = value_of(a) * 1000 + value_of(b) * 100;
-                    return Number::Value(high + (value_of(c) * 10 + value_of(d)));
+                    let high = code_of(a) * 1000 + code_of(b) * 100;
+                    let sum = high + (code_of(c) * 10 + value_of(d));
+                    return Number::Value(sum - 53280);
                 }
             }
         }

@@ -14,14 +14,14 @@ is-digit-requires-3 c κs = search four
 is-digit-requires-4 : tie.Need-is-digit-requires-4
 is-digit-requires-4 c κs = search four
 
-value-of-requires : tie.Need-value-of-requires
-value-of-requires c κs = search four
+code-of-requires : tie.Need-code-of-requires
+code-of-requires c κs = search four
 
 mul-high : tie.Need-mul-high
 mul-high c = search four
 
-value-of-requires-2 : tie.Need-value-of-requires-2
-value-of-requires-2 c κs = search four
+code-of-requires-2 : tie.Need-code-of-requires-2
+code-of-requires-2 c κs = search four
 
 mul-high-2 : tie.Need-mul-high-2
 mul-high-2 c = search four
@@ -29,20 +29,23 @@ mul-high-2 c = search four
 add-high : tie.Need-add-high
 add-high c = search four
 
-value-of-requires-3 : tie.Need-value-of-requires-3
-value-of-requires-3 c κs = search four
+code-of-requires-3 : tie.Need-code-of-requires-3
+code-of-requires-3 c κs = search four
 
-mul-t13 : tie.Need-mul-t13
-mul-t13 c = search four
+mul-sum : tie.Need-mul-sum
+mul-sum c = search four
 
-value-of-requires-4 : tie.Need-value-of-requires-4
-value-of-requires-4 c κs = search four
+value-of-requires : tie.Need-value-of-requires
+value-of-requires c κs = search four
 
-add-t11 : tie.Need-add-t11
-add-t11 c = search four
+add-sum : tie.Need-add-sum
+add-sum c = search four
 
-add-t14 : tie.Need-add-t14
-add-t14 c = search four
+add-sum-2 : tie.Need-add-sum-2
+add-sum-2 c = search four
+
+sub-t11 : tie.Need-sub-t11
+sub-t11 c = search four
 
 returns : tie.Need-returns
 returns c = search four
@@ -67,16 +70,17 @@ four-digits-spec =
     is-digit-requires-2
     is-digit-requires-3
     is-digit-requires-4
-    value-of-requires
+    code-of-requires
     mul-high
-    value-of-requires-2
+    code-of-requires-2
     mul-high-2
     add-high
-    value-of-requires-3
-    mul-t13
-    value-of-requires-4
-    add-t11
-    add-t14
+    code-of-requires-3
+    mul-sum
+    value-of-requires
+    add-sum
+    add-sum-2
+    sub-t11
     returns
     returns-2
     returns-3
