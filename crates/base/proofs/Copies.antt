@@ -2,7 +2,7 @@
 use mathlib.Core.Path.{_≡_, refl, sym, ap, ap₂, _∙_}
 use mathlib.Core.Bool.{Bool, true, false}
 use mathlib.Core.List.{List, [], _∷_, _++_}
-use Prim.Native.Nat.{ℕ, _+_, _-_, _≤_, _<_}
+use Prim.Native.Nat.{ℕ, _+_, _-_, _%_, _≤_, _<_}
 use native.Mathlib.Omega.{arith}
 use native.Mathlib.Numerals.{add-one}
 use borrow.Author.Needs.{needs}
@@ -12,7 +12,7 @@ use lib.ListN.{length, take, drop, getD, set, length-take, length-drop, length-s
 use lib.Seq.{drop-cons, drop-drop, getD-drop, length-take-le, take-add, take-all, take-take}
 use Rattle.base.specs.If.{ifB, if-true, if-false, if-case}
 use Rattle.base.specs.Part.{part, putAt, putIn}
-use Rattle.base.specs.Copy.{Short}
+use Rattle.base.specs.Copy.{Short, Chunked}
 use Rattle.base.proofs.Parts.{drop-take, length-part, length-put, put-none, put-put, put-again}
 use Rattle.base.proofs.Put.{put-first}
 
@@ -176,17 +176,64 @@ module _ (w : ℕ) (o s : List ℕ) (at : ℕ) (y : Short w (length s)) where
 
 pub ruleset ends = (put-ends, put-both, ends-behind, ends-least, ends-front, ends-room, ends-last, needs)
 
--- ---- words of 64 bytes, one behind the other: the first i bytes are written
+-- ---- words of 64 bytes, one behind the other
 
-pub record Chunked (old : List ℕ) (at : ℕ) (s out : List ℕ) (i : ℕ) : Type 0 where
-  pub least : 64 ≤ length s
-  pub fits : at + length s ≤ length old
-  pub within : i ≤ length s
-  pub is : out ≡ putAt old at (take i s)
-  pub size : length out ≡ length old
+-- a second word, k bytes behind the first, which it meets or touches
+pub chunked-two : (o : List ℕ) (at : ℕ) (s : List ℕ) (k : ℕ) (p q : List ℕ) → 128 ≤ length s → at + length s ≤ length o → k ≤ 16
+    → p ≡ putAt o at (part 0 64 s) → q ≡ putAt p (at + k) (part k 64 s) → Chunked o at s q (k + 64)
+unfolding part
+chunked-two o at s k p q h fits small e f =
+    let both : List ℕ = take (k + 64) s in
+    let wide : length both ≡ k + 64 = length-take-le (k + 64) s (omega arith) in
+    let first : take 64 both ≡ part 0 64 s = take-take 64 (k + 64) s (omega arith) in
+    let second : drop k both ≡ part k 64 s = drop-take k (k + 64) s ∙ ap (λ (n : ℕ). take n (drop k s)) (the-rest k) in
+    let is : q ≡ putAt o at both =
+    f ∙ ap₂ (λ (x y : List ℕ). putAt x (at + k) y) (e ∙ ap (putAt o at) (sym first)) (sym second)
+    ∙ put-meet o both at 64 k (omega arith) (omega arith) (omega arith) in
+    record {
+      least = omega arith;
+      fits = fits;
+      within = omega arith;
+      is = is;
+      size = ap length is ∙ length-put o at both (omega arith);
+    }
+  where
+    the-rest : (n : ℕ) → n + 64 - n ≡ 64
+    the-rest n = omega arith
 
-pub chunked-none : (o : List ℕ) (at : ℕ) (s : List ℕ) → 64 ≤ length s → at + length s ≤ length o → Chunked o at s o 0
-chunked-none o at s h k = record { least = h; fits = k; within = omega arith; is = sym (put-none o at); size = refl }
+-- the place of that word
+pub step-small : (at : ℕ) → 16 - at % 16 ≤ 16
+step-small at = omega arith
+
+pub step-room : (at k : ℕ) (s o : List ℕ) → 128 ≤ length s → at + length s ≤ length o → k ≤ 16 → at + k + 64 ≤ length o
+step-room at k s o h fits small = omega arith
+
+pub step-inside : (k : ℕ) (s : List ℕ) → 128 ≤ length s → k ≤ 16 → k + 64 ≤ length s
+step-inside k s h small = omega arith
+
+pub ruleset firsts = (chunked-two, step-small, step-room, step-inside, needs)
+
+-- what is written stands there, and may be written again with all the rest
+pub chunked-again : (o : List ℕ) (at : ℕ) (s p : List ℕ) (i : ℕ) → Chunked o at s p i → Chunked p at s p i
+chunked-again o at s p i c =
+    let wide : length (take i s) ≡ i = length-take-le i s (c .within) in
+    record {
+      least = c .least;
+      fits = omega (arith, c .fits, c .size);
+      within = c .within;
+      is =
+          c .is
+          ∙ sym (put-again o at (take i s) (take i s) (omega arith) (omega (arith, c .fits, c .within)))
+          ∙ ap (λ (l : List ℕ). putAt l at (take i s)) (sym (c .is));
+      size = refl;
+    }
+
+pub chunked-over : (o : List ℕ) (at : ℕ) (s p : List ℕ) (i : ℕ) (q : List ℕ) → Chunked o at s p i → q ≡ putAt p at s → q ≡ putAt o at s
+chunked-over o at s p i q c e =
+    let wide : length (take i s) ≡ i = length-take-le i s (c .within) in
+    e ∙ ap (λ (l : List ℕ). putAt l at s) (c .is) ∙ put-again o at (take i s) s (omega (arith, c .within)) (c .fits)
+
+pub ruleset wholes = (chunked-again, chunked-over, needs)
 
 module _ (old : List ℕ) (at : ℕ) (s out : List ℕ) (i : ℕ) (c : Chunked old at s out i) where
   pub chunk-room : i < length s - 64 → at + i + 64 ≤ length out
@@ -234,7 +281,7 @@ chunk-index s i h = omega arith
 pub chunk-less : (n i : ℕ) → i < n → n - (i + 64) < n - i
 chunk-less n i h = omega arith
 
-pub ruleset chunks = (chunked-none, chunk-room, chunk-behind, chunk-last, chunked-more, chunked-all, chunked-kept, chunk-index, chunk-less, needs)
+pub ruleset chunks = (chunk-room, chunk-behind, chunk-last, chunked-more, chunked-all, chunked-kept, chunk-index, chunk-less, needs)
 
 -- ---- a write that has room, or is not made
 

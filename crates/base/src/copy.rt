@@ -5,7 +5,7 @@ ghost use Prim.Native.Nat.{_+_, _≤_, _<_};
 ghost use lib.ListN.{length};
 ghost use lib.Dec.{leb};
 ghost use Rattle.base.specs.Part.{part, putAt, putIn};
-ghost use Rattle.base.specs.Copy.{Short};
+ghost use Rattle.base.specs.Copy.{Short, Chunked};
 
 // ---- some bytes, at a place where they have room
 
@@ -176,19 +176,41 @@ fn copy_some(out: &mut [u8], at: usize, s: &[u8])
     copy_by_64(out, at, s);
 }
 
-// Writes 64 bytes or more: 64 at a time, and the last 64, which may meet those before.
-fn copy_many(out: &mut [u8], at: usize, s: &[u8])
-    requires { ⌜ 64 ≤ length (now s) ⌝ }
+// Writes the first 64 bytes of s, and 64 from where the places become multiples of 16 on: a write across two lines of the cache takes longer. Says how many
+// bytes are written.
+fn put_first(out: &mut [u8], at: usize, s: &[u8]) -> usize
+    requires { ⌜ 128 ≤ length (now s) ⌝ }
     requires { ⌜ at + length (now s) ≤ length (now out) ⌝ }
+    ensures { λ r. ⌜ Chunked (now (out .entry)) at (now (s .entry)) (now (out .exit)) r ⌝ }
+{
+    let step = 16 - at % 16;
+    put_64(out, at, s, 0);
+    put_64(out, at + step, s, step);
+    step + 64
+}
+
+// Writes s, of which the first `from` bytes are written: 64 at a time, and the last 64, which may meet those before.
+fn put_words(out: &mut [u8], at: usize, s: &[u8], from: usize)
+    requires { ⌜ Chunked (now out) at (now s) (now out) from ⌝ }
     ensures { λ _. ⌜ now (out .exit) ≡ putAt (now (out .entry)) at (now (s .entry)) ⌝ }
 {
     let behind = s.len() - 64;
-    let mut i = 0;
+    let mut i = from;
     while i < behind {
         put_64(out, at + i, s, i);
         i += 64;
     }
     put_64(out, at + behind, s, behind);
+}
+
+// Writes 128 bytes or more.
+fn copy_many(out: &mut [u8], at: usize, s: &[u8])
+    requires { ⌜ 128 ≤ length (now s) ⌝ }
+    requires { ⌜ at + length (now s) ≤ length (now out) ⌝ }
+    ensures { λ _. ⌜ now (out .exit) ≡ putAt (now (out .entry)) at (now (s .entry)) ⌝ }
+{
+    let from = put_first(out, at, s);
+    put_words(out, at, s, from);
 }
 
 // Writes s.
