@@ -1,7 +1,7 @@
 -- Laws of the search for the next file, and of going from file to file. Assumes nothing.
-use mathlib.Core.Path.{_≡_, refl, sym, ap, ap₂, _∙_}
-use mathlib.Core.Bool.{Bool, true, false}
-use mathlib.Core.List.{List, [], _∷_}
+use mathlib.Core.Path.{_≡_, refl, sym, ap, ap₂, _∙_, subst}
+use mathlib.Core.Bool.{false}
+use mathlib.Core.List.{List}
 use Prim.Native.Nat.{ℕ, zero, suc, _+_, _-_, _≤_, _<_}
 use native.Mathlib.Omega.{arith}
 use native.Mathlib.Decide.{decLt}
@@ -13,28 +13,22 @@ use lib.ListN.{length, drop}
 use Rattle.base.specs.If.{ifB, if-true, if-false}
 use Rattle.base.specs.Part.{part}
 use Rattle.base.proofs.Parts.{length-part}
-use Rattle.image.specs.Item.{Item, broken, shape, decode}
-use Rattle.image.specs.Framing.{items}
+use Rattle.image.specs.Item.{Item, shape, decode}
 use Rattle.image.specs.declared.Shape.{Shape}
-use Rattle.image.specs.declared.Shape.the-variants.{Block, Mark, ReelEnd, Broken}
+use Rattle.image.specs.declared.Shape.the-variants.{Block as Bytes, Mark, ReelEnd, Broken}
 use Rattle.image.proofs.Items.{block-within, mark-within, reel-end-within, decode-block, decode-mark, decode-reel-end, decode-broken, decode-past}
-use Rattle.order.specs.Kind.{other, isKind}
-use Rattle.order.specs.Due.{dueAfter}
-use Rattle.order.specs.declared.Kind.{Kind}
-use Rattle.order.specs.declared.Phase.{Phase}
 use Rattle.order.specs.declared.Phase.the-variants.{Reel, Header, Data}
-use Rattle.order.specs.declared.Due.{Due}
-use Rattle.order.specs.declared.Due.the-variants.{To, Wrong}
-use Rattle.volume.specs.Step.{kindIn, bytesIn}
-use Rattle.content.specs.Section.{placeBehind, seenAt}
-use Rattle.content.specs.File.{markFrom, walkFrom, beginsFile, goesOnBehind, firstBehind, onward, headerFrom, firstFile, nextFile, fileBehind, fromFile, filesOn, fileNumbered}
+use Rattle.volume.specs.Step.{bytesIn}
+use Rattle.content.specs.Part.{placeBehind, partsFrom, partsAt, parts, firstIn, firstFrom}
+use Rattle.content.specs.File.{markFrom, walkFrom, fileAt, asFile, fileIn, fileFrom, firstFile, nextFile, fileBehind, fromFile, filesOn, fileNumbered}
 use Rattle.content.specs.declared.Walk.{Walk}
-use Rattle.content.specs.declared.section.Seen.{Seen}
-use Rattle.content.specs.declared.section.Seen.the-variants.{Item as Of, Nothing}
+use Rattle.content.specs.declared.part.Position.{Position}
+use Rattle.content.specs.declared.part.Part.the-variants.{File, Section, Block, None}
+use Rattle.content.specs.declared.part.PartAt.{PartAt}
 use Rattle.content.specs.declared.FileAt.{FileAt}
 use Rattle.content.specs.declared.NextFile.{NextFile}
 use Rattle.content.specs.declared.NextFile.the-variants.{At, Nowhere}
-use Rattle.content.proofs.Sections.{start-fits, end-fits, sees, unseen, item-within, item-start, item-end, item-falls}
+use Rattle.content.proofs.Parts.{start-fits, end-fits, stands, found-part, IsAhead, first-ahead}
 use Rattle.content.proofs.Cases.{said}
 
 -- ---- up to the mark
@@ -46,7 +40,7 @@ pub record Marking (s : List ℕ) (from at : ℕ) : Type 0 where
 pub marking-none : (s : List ℕ) (from : ℕ) → length s < 18446744073709551616 → Marking s from from
 marking-none s from h = record { room = h; same = refl }
 
-pub marking-block : (s : List ℕ) (from at n : ℕ) (p : Shape) → Marking s from at → p ≡ shape (drop at s) → p ≡ Block n → Marking s from (at + 3 + n)
+pub marking-block : (s : List ℕ) (from at n : ℕ) (p : Shape) → Marking s from at → p ≡ shape (drop at s) → p ≡ Bytes n → Marking s from (at + 3 + n)
 unfolding markFrom placeBehind bytesIn
 marking-block s from at n p c e q =
     let w = block-within s at n p e q in
@@ -80,7 +74,7 @@ marking-broken s from at p c e q = by-end (decLt at (length s)) ∙ c .same
 pub mark-fits : (s : List ℕ) (from at : ℕ) (p : Shape) → Marking s from at → p ≡ shape (drop at s) → p ≡ Mark → Fits w64 (at + 3)
 mark-fits s from at p c e q = record { fits = omega (arith, mark-within s at p e q, c .room) }
 
-pub block-falls : (s : List ℕ) (at n : ℕ) (p : Shape) → p ≡ shape (drop at s) → p ≡ Block n → length s - (at + 3 + n) < length s - at
+pub block-falls : (s : List ℕ) (at n : ℕ) (p : Shape) → p ≡ shape (drop at s) → p ≡ Bytes n → length s - (at + 3 + n) < length s - at
 block-falls s at n p e q = omega (arith, block-within s at n p e q)
 
 pub ruleset markings =
@@ -88,109 +82,51 @@ pub ruleset markings =
 
 -- ---- up to a file
 
--- what is left from a place answers as the whole
-pub record Seeking (s : List ℕ) (due : Phase) (header from : ℕ) (goesOn : Bool) (p : Phase) (first at : ℕ) : Type 0 where
-  pub room : length s < 18446744073709551616
-  pub same : headerFrom goesOn p first at (decode (drop at s)) ≡ headerFrom false due header from (decode (drop from s))
+pub file-made : (s : List ℕ) (hdr1 hdr2 m : ℕ) (l : List ℕ) (w : Walk) → l ≡ part hdr2 80 s → m ≡ markFrom (hdr2 + 80) (decode (drop (hdr2 + 80) s)) → w ≡ walkFrom l m
+    → _≡_ {A = FileAt} (record { first = hdr1; second = hdr2; walk = w }) (fileAt s hdr1 hdr2)
+file-made s hdr1 hdr2 m l w e f g = ap (λ (v : Walk). record { first = hdr1; second = hdr2; walk = v }) (g ∙ ap₂ walkFrom e f)
 
-pub seeking-none : (s : List ℕ) (due : Phase) (header from : ℕ) → length s < 18446744073709551616 → Seeking s due header from false due header from
-seeking-none s due header from h = record { room = h; same = refl }
+-- what the search finds
+file-by : (s : List ℕ) (c : Position) (r : PartAt) → r ≡ firstFrom c false false (partsAt s c) → asFile s (r .part) ≡ fileFrom s c
+unfolding fileFrom fileIn
+file-by s c r e = ap (asFile s) (ap (λ (y : PartAt). y .part) e ∙ found-part c false false (partsAt s c))
 
--- an item of kind k
-pub header-item : (g : Bool) (p : Phase) (first at : ℕ) (x : Item) (xs : List Item) (k : Kind) → kindIn p x ≡ k
-    → headerFrom g p first at (x ∷ xs)
-    ≡ ifB (beginsFile g k) (At (record { first = first; second = at + 3; walk = walkFrom (bytesIn x) (markFrom (placeBehind at x) xs) }))
-    (onward (dueAfter p k) (λ q. headerFrom (goesOnBehind g k) q (firstBehind first (at + 3) k) (placeBehind at x) xs))
-unfolding headerFrom
-header-item g p first at x xs k e =
-    ap (λ (j : Kind).
-    ifB (beginsFile g j) (At (record { first = first; second = at + 3; walk = walkFrom (bytesIn x) (markFrom (placeBehind at x) xs) }))
-    (onward (dueAfter p j) (λ q. headerFrom (goesOnBehind g j) q (firstBehind first (at + 3) j) (placeBehind at x) xs))) e
+pub file-there : (s : List ℕ) (c : Position) (r : PartAt) (hdr1 hdr2 : ℕ) (f : FileAt) → r ≡ firstFrom c false false (partsAt s c) → r .part ≡ File hdr1 hdr2
+    → f ≡ fileAt s hdr1 hdr2 → At f ≡ fileFrom s c
+unfolding asFile
+file-there s c r hdr1 hdr2 f e q m = ap At m ∙ sym (ap (asFile s) q) ∙ file-by s c r e
 
--- the same, as the code sees it
-header-seen : (s : List ℕ) (g : Bool) (p : Phase) (first at len : ℕ) (k : Kind) (x : Seen) → x ≡ seenAt s p at → x ≡ Of k len
-    → headerFrom g p first at (decode (drop at s))
-    ≡ ifB (beginsFile g k)
-    (At (record { first = first; second = at + 3; walk = walkFrom (part (at + 3) len s) (markFrom (at + 3 + len) (decode (drop (at + 3 + len) s))) }))
-    (onward (dueAfter p k) (λ q. headerFrom (goesOnBehind g k) q (firstBehind first (at + 3) k) (at + 3 + len) (decode (drop (at + 3 + len) s))))
-unfolding placeBehind
-header-seen s g p first at len k x e q =
-    let c = sees s p at len k x e q in
-    ap (headerFrom g p first at) (c .here)
-    ∙ header-item g p first at (c .item) (decode (drop (at + 3 + len) s)) k (c .kind)
-    ∙ ap₂ (λ (bs : List ℕ) (l : ℕ).
-    ifB (beginsFile g k) (At (record { first = first; second = at + 3; walk = walkFrom bs (markFrom (at + 3 + l) (decode (drop (at + 3 + len) s))) }))
-    (onward (dueAfter p k) (λ r. headerFrom (goesOnBehind g k) r (firstBehind first (at + 3) k) (at + 3 + l) (decode (drop (at + 3 + len) s)))))
-    (c .bytes) (c .long)
+pub file-section : (s : List ℕ) (c : Position) (r : PartAt) (a b : ℕ) → r ≡ firstFrom c false false (partsAt s c) → r .part ≡ Section a b → Nowhere ≡ fileFrom s c
+unfolding asFile
+file-section s c r a b e q = sym (ap (asFile s) q) ∙ file-by s c r e
 
-pub seeking-found : (s : List ℕ) (due : Phase) (header from : ℕ) (g : Bool) (p : Phase) (first at len : ℕ) (k : Kind) (x : Seen) (b : Bool) (w : Walk)
-    → Seeking s due header from g p first at → x ≡ seenAt s p at → x ≡ Of k len → b ≡ beginsFile g k → b ≡ true
-    → w ≡ walkFrom (part (at + 3) len s) (markFrom (at + 3 + len) (decode (drop (at + 3 + len) s)))
-    → At (record { first = first; second = at + 3; walk = w }) ≡ headerFrom false due header from (decode (drop from s))
-seeking-found s due header from g p first at len k x b w c e q h t m =
-    ap (λ (v : Walk). At (record { first = first; second = at + 3; walk = v })) m
-    ∙ sym (header-seen s g p first at len k x e q ∙ if-true _ _ _ (sym h ∙ t)) ∙ c .same
+pub file-block : (s : List ℕ) (c : Position) (r : PartAt) (start n : ℕ) → r ≡ firstFrom c false false (partsAt s c) → r .part ≡ Block start n → Nowhere ≡ fileFrom s c
+unfolding asFile
+file-block s c r start n e q = sym (ap (asFile s) q) ∙ file-by s c r e
 
--- an item that begins no file goes by what is due
-header-due : (s : List ℕ) (due : Phase) (header from : ℕ) (g : Bool) (p : Phase) (first at len : ℕ) (k : Kind) (x : Seen) (b : Bool) (d : Due)
-    → Seeking s due header from g p first at → x ≡ seenAt s p at → x ≡ Of k len → b ≡ beginsFile g k → b ≡ false → d ≡ dueAfter p k
-    → onward d (λ q. headerFrom (goesOnBehind g k) q (firstBehind first (at + 3) k) (at + 3 + len) (decode (drop (at + 3 + len) s)))
-    ≡ headerFrom false due header from (decode (drop from s))
-header-due s due header from g p first at len k x b d c e q h t u =
-    ap (λ (y : Due). onward y (λ r. headerFrom (goesOnBehind g k) r (firstBehind first (at + 3) k) (at + 3 + len) (decode (drop (at + 3 + len) s)))) u
-    ∙ sym (header-seen s g p first at len k x e q ∙ if-false _ _ _ (sym h ∙ t)) ∙ c .same
+pub file-none : (s : List ℕ) (c : Position) (r : PartAt) → r ≡ firstFrom c false false (partsAt s c) → r .part ≡ None → Nowhere ≡ fileFrom s c
+unfolding asFile
+file-none s c r e q = sym (ap (asFile s) q) ∙ file-by s c r e
 
-pub seeking-wrong : (s : List ℕ) (due : Phase) (header from : ℕ) (g : Bool) (p : Phase) (first at len : ℕ) (k : Kind) (x : Seen) (b : Bool) (d : Due)
-    → Seeking s due header from g p first at → x ≡ seenAt s p at → x ≡ Of k len → b ≡ beginsFile g k → b ≡ false → d ≡ dueAfter p k → d ≡ Wrong
-    → Nowhere ≡ headerFrom false due header from (decode (drop from s))
-unfolding onward
-seeking-wrong s due header from g p first at len k x b d c e q h t u w =
-    ap (λ (y : Due). onward y (λ r. headerFrom (goesOnBehind g k) r (firstBehind first (at + 3) k) (at + 3 + len) (decode (drop (at + 3 + len) s)))) (sym w)
-    ∙ header-due s due header from g p first at len k x b d c e q h t u
+-- the HDR2 of a file that is found lies in the image
+pub file-within : (s : List ℕ) (c : Position) (r : PartAt) (hdr1 hdr2 : ℕ) → r ≡ firstFrom c false false (partsAt s c) → r .part ≡ File hdr1 hdr2 → hdr2 + 80 ≤ length s
+file-within s c r hdr1 hdr2 e q =
+    subst (IsAhead s (c .at)) (sym (ap (λ (y : PartAt). y .part) e ∙ found-part c false false (partsAt s c)) ∙ q)
+    (first-ahead s false false (c .at) (c .hdr1) (c .phase) (c .continues)) .within
 
-pub seeking-more : (s : List ℕ) (due : Phase) (header from : ℕ) (g : Bool) (p r : Phase) (first at len : ℕ) (k : Kind) (x : Seen) (b : Bool) (d : Due) (g′ : Bool) (first′ : ℕ)
-    → Seeking s due header from g p first at → x ≡ seenAt s p at → x ≡ Of k len → b ≡ beginsFile g k → b ≡ false → d ≡ dueAfter p k → d ≡ To r
-    → g′ ≡ goesOnBehind g k → first′ ≡ firstBehind first (at + 3) k → Seeking s due header from g′ r first′ (at + 3 + len)
-unfolding onward
-seeking-more s due header from g p r first at len k x b d g′ first′ c e q h t u w i j =
-    record {
-      room = c .room;
-      same = ap₂ (λ (y : Bool) (m : ℕ). headerFrom y r m (at + 3 + len) (decode (drop (at + 3 + len) s))) i j
-          ∙ ap (λ (y : Due). onward y (λ r. headerFrom (goesOnBehind g k) r (firstBehind first (at + 3) k) (at + 3 + len) (decode (drop (at + 3 + len) s)))) (sym w)
-          ∙ header-due s due header from g p first at len k x b d c e q h t u;
-    }
-
-header-none : (g : Bool) (p : Phase) (first at : ℕ) → headerFrom g p first at [] ≡ Nowhere
-unfolding headerFrom
-header-none g p first at = refl
-
-onward-nowhere : (d : Due) → onward d (λ q. Nowhere) ≡ Nowhere
-unfolding onward
-onward-nowhere (To q) = refl
-onward-nowhere Wrong = refl
-
-header-broken : (g : Bool) (p : Phase) (first at : ℕ) → headerFrom g p first at (broken ∷ []) ≡ Nowhere
-unfolding headerFrom beginsFile kindIn isKind ifB
-header-broken g p first at = onward-nowhere (dueAfter p other)
-
-pub seeking-nothing : (s : List ℕ) (due : Phase) (header from : ℕ) (g : Bool) (p : Phase) (first at : ℕ) (x : Seen) → Seeking s due header from g p first at
-    → x ≡ seenAt s p at → x ≡ Nothing → Nowhere ≡ headerFrom false due header from (decode (drop from s))
-seeking-nothing s due header from g p first at x c e q =
-    sym (unseen s p at x e q (λ (xs : List Item). headerFrom g p first at xs ≡ Nowhere) (header-none g p first at) (header-broken g p first at)) ∙ c .same
-
-pub ruleset seekings = (seeking-none, seeking-found, seeking-wrong, seeking-more, seeking-nothing, item-start, item-end, item-falls, item-within, needs)
+pub ruleset founds = (file-made, file-there, file-section, file-block, file-none, file-within, needs)
 
 -- ---- from file to file
 
-pub first-file : (s : List ℕ) (x : NextFile) → x ≡ headerFrom false Reel (length s) 5 (decode (drop 5 s)) → x ≡ firstFile s
-unfolding firstFile items
+pub first-file : (s : List ℕ) (x : NextFile) → x ≡ fileFrom s (stands 5 (length s) Reel false) → x ≡ firstFile s
+unfolding firstFile
 first-file s x e = e
 
 -- nothing stands behind a label that runs past the image
 next-past : (s : List ℕ) (f : FileAt) → length s ≤ f .second + 80 → Nowhere ≡ nextFile s f
-unfolding nextFile
+unfolding nextFile fileFrom fileIn firstIn asFile partsFrom
 next-past s f h =
-    sym (ap (headerFrom false (Header 2) (f .first) (f .second + 80)) (decode-past s (f .second + 80) h) ∙ header-none false (Header 2) (f .first) (f .second + 80))
+    sym (ap (λ (xs : List Item). fileIn s (parts (stands (f .second + 80) (f .first) (Header 2) false) xs)) (decode-past s (f .second + 80) h))
 
 pub next-outside : (s : List ℕ) (f : FileAt) → length s < f .second → Nowhere ≡ nextFile s f
 next-outside s f h = next-past s f (omega arith)
@@ -198,12 +134,11 @@ next-outside s f h = next-past s f (omega arith)
 pub next-cut : (s : List ℕ) (f : FileAt) → f .second ≤ length s → length s - f .second < 80 → Nowhere ≡ nextFile s f
 next-cut s f h k = next-past s f (omega arith)
 
-pub next-file : (s : List ℕ) (f : FileAt) (x : NextFile)
-    → x ≡ headerFrom false (Header 2) (f .first) (f .second + 80) (decode (drop (f .second + 80) s)) → x ≡ nextFile s f
+pub next-file : (s : List ℕ) (f : FileAt) (x : NextFile) → x ≡ fileFrom s (stands (f .second + 80) (f .first) (Header 2) false) → x ≡ nextFile s f
 unfolding nextFile
 next-file s f x e = e
 
-pub file-behind : (s : List ℕ) (f : FileAt) (at : ℕ) (x : NextFile) → x ≡ headerFrom false Data (f .first) at (decode (drop at s)) → x ≡ fileBehind s f at
+pub file-behind : (s : List ℕ) (f : FileAt) (at : ℕ) (x : NextFile) → x ≡ fileFrom s (stands at (f .first) Data false) → x ≡ fileBehind s f at
 unfolding fileBehind
 file-behind s f at x e = e
 

@@ -36,7 +36,8 @@ use Rattle.content.specs.declared.holding.FileHeld.{FileHeld}
 use Rattle.content.specs.declared.section.Extent.{Extent}
 use Rattle.content.specs.declared.section.Extent.the-variants.{At as Block, Nowhere}
 use Rattle.content.specs.declared.unit.Taken.{Taken}
-use Rattle.content.proofs.Sections.{by-place, Ahead, data-within}
+use Rattle.content.proofs.Parts.{by-place, Ahead}
+use Rattle.content.proofs.Sections.{data-within}
 use Rattle.content.proofs.Searches.{Follows, Leads, data-leads}
 use Rattle.content.proofs.Blocks.{Hands, turns-shut, joined-whole, joined-one, joined-two, open-one, open-two, units-of, units-empty}
 

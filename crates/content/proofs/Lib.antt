@@ -1,5 +1,6 @@
 mod Composed
 pub mod Cases
+pub mod Parts
 pub mod Sections
 pub mod Searches
 pub mod Units
@@ -15,6 +16,7 @@ pub mod Founds
 pub mod Blocks
 pub mod Helds
 pub mod Phases
+pub mod Read
 pub mod Walked
 pub mod Records
 pub mod Unsplit

@@ -1,8 +1,7 @@
--- The two searches over items in order, for the next data block of a file and for the next file: from whatever place in the data of a file on, the
--- same file follows. Assumes nothing.
+-- Laws of the parts of an image whose items are in order: from whatever place in the data of a file on, the same parts follow. Assumes nothing.
 use mathlib.Core.Path.{_≡_, refl, sym, ap, ap₂, _∙_, subst}
-use mathlib.Core.Bool.{Bool, true, false, not, false≢true}
-use mathlib.Core.List.{List, [], _∷_}
+use mathlib.Core.Bool.{Bool, true, false, false≢true}
+use mathlib.Core.List.{List, [], _∷_, map}
 use Prim.Native.Nat.{ℕ, _+_, _≤_}
 use native.Mathlib.Omega.{arith}
 use lib.ListN.{length, drop}
@@ -13,22 +12,24 @@ use Rattle.order.specs.Kind.{hdr, eof, eov, dataBlock, endOfImage, isKind}
 use Rattle.order.specs.Due.{dueAfter}
 use Rattle.order.specs.declared.Kind.{Kind}
 use Rattle.order.specs.declared.Phase.{Phase}
-use Rattle.order.specs.declared.Phase.the-variants.{Data}
+use Rattle.order.specs.declared.Phase.the-variants.{Header, Data}
 use Rattle.order.specs.declared.Due.{Due}
 use Rattle.order.specs.declared.Due.the-variants.{To}
-use Rattle.order.proofs.Laws.{kind-is}
-use Rattle.volume.specs.Step.{kindIn, bytesIn}
 use Rattle.order.proofs.Moves.{Stage, stage, before, named, within, fileOver, reelOver, Numbered, Quiet, Move, stays, nextReel, header1, nextFile, header2, datum, eof1, eov1, finish, due-goes}
+use Rattle.volume.specs.Step.{kindIn, bytesIn}
 use Rattle.reading.proofs.Stages.{isOpen}
-use Rattle.content.specs.Section.{placeBehind, seenAt, turnOf, turnTo, follow, dataFrom}
-use Rattle.content.specs.File.{beginsFile, goesOnBehind, firstBehind, onward, headerFrom}
+use Rattle.content.specs.Part.{placeBehind, seenAt, beginsFile, ledTo, goesOnBehind, firstBehind, after, partIn, onto, partsBy, partsFrom, parts, isWanted, firstIn}
+use Rattle.content.specs.Section.{asBlock, blockIn, dataFrom}
+use Rattle.content.specs.File.{fileIn}
 use Rattle.content.specs.declared.NextFile.{NextFile}
-use Rattle.content.specs.declared.section.Seen.{Seen}
-use Rattle.content.specs.declared.section.Seen.the-variants.{Item as Of, Nothing}
-use Rattle.content.specs.declared.section.Turn.{Turn}
-use Rattle.content.specs.declared.section.Extent.the-variants.{At as Block, Nowhere}
-use Rattle.content.proofs.Sections.{sees, unseen}
-use Rattle.content.proofs.Files.{header-item}
+use Rattle.content.specs.declared.part.Seen.{Seen}
+use Rattle.content.specs.declared.part.Seen.the-variants.{Item as Of, Nothing}
+use Rattle.content.specs.declared.part.Position.{Position}
+use Rattle.content.specs.declared.part.Part.{Part}
+use Rattle.content.specs.declared.part.Part.the-variants.{File, Section, Block}
+use Rattle.content.specs.declared.part.PartAt.{PartAt}
+use Rattle.content.specs.declared.section.Extent.the-variants.{At, Nowhere}
+use Rattle.content.proofs.Parts.{sees, unseen, stands}
 use Rattle.order.proofs.Groups.{block-data}
 
 -- ---- the items of an image by their places
@@ -66,36 +67,46 @@ abbrev pub InOrder : List ℕ → Phase → ℕ → List Item → Type 0
 InOrder s p at [] = Unit {0}
 InOrder s p at (x ∷ xs) = (q : Phase) × ItemAt s at x xs × (dueAfter p (kindIn p x) ≡ To q) × InOrder s q (placeBehind at x) xs
 
--- ---- one item, as the two searches take it
+-- ---- the parts from one item on
 
-pub data-on : (p q : Phase) (at : ℕ) (x : Item) (xs : List Item) (k : Kind) → kindIn p x ≡ k → isKind k dataBlock ≡ false → isKind k (eof 1) ≡ false → dueAfter p k ≡ To q
-    → dataFrom p at (x ∷ xs) ≡ dataFrom q (placeBehind at x) xs
-unfolding dataFrom turnOf turnTo follow
-data-on p q at x xs k e a b d =
-    ap (λ (t : Turn). follow t at x (λ r. dataFrom r (placeBehind at x) xs))
-    (ap (turnOf p) e ∙ if-false _ _ _ a ∙ if-false _ _ _ b ∙ ap turnTo d)
+parts-item : (c : Position) (q : Phase) (x : Item) (xs : List Item) (k : Kind) → kindIn (c .phase) x ≡ k → ledTo (c .continues) (c .phase) k ≡ To q
+    → parts c (x ∷ xs)
+    ≡ map (λ (p : PartAt). p .part)
+    (onto (partIn (c .continues) (c .hdr1) (c .at + 3) (length (bytesIn x)) k) (after c k (length (bytesIn x)) q) (partsFrom (after c k (length (bytesIn x)) q) xs))
+unfolding partsFrom partsBy
+parts-item c q x xs k e d = ap (map (λ (p : PartAt). p .part)) (ap (λ (j : Kind). partsBy (ledTo (c .continues) (c .phase) j) (λ r. rest j r)) e ∙ ap (λ (y : Due). partsBy y (λ r. rest k r)) d)
+  where
+    rest : Kind → Phase → List PartAt
+    rest j r = onto (partIn (c .continues) (c .hdr1) (c .at + 3) (length (bytesIn x)) j) (after c j (length (bytesIn x)) r) (partsFrom (after c j (length (bytesIn x)) r) xs)
 
-pub data-block : (p : Phase) (at : ℕ) (x : Item) (xs : List Item) → kindIn p x ≡ dataBlock → dataFrom p at (x ∷ xs) ≡ Block (at + 3) (length (bytesIn x))
-unfolding dataFrom turnOf follow isKind ifB
-data-block p at x xs e = ap (λ (k : Kind). follow (turnOf p k) at x (λ r. dataFrom r (placeBehind at x) xs)) e
+-- one that is no part
+pub parts-on : (c : Position) (q : Phase) (x : Item) (xs : List Item) (k : Kind) → kindIn (c .phase) x ≡ k → isKind k dataBlock ≡ false → isKind k (hdr 2) ≡ false
+    → dueAfter (c .phase) k ≡ To q → parts c (x ∷ xs) ≡ parts (after c k (length (bytesIn x)) q) xs
+unfolding ledTo beginsFile partIn onto
+parts-on c q x xs k e a b d =
+    parts-item c q x xs k e (if-false _ _ _ (if-false _ _ _ b) ∙ d)
+    ∙ ap (λ (p : Part). map (λ (r : PartAt). r .part) (onto p (after c k (length (bytesIn x)) q) (partsFrom (after c k (length (bytesIn x)) q) xs)))
+    (if-false _ _ _ a ∙ if-false _ _ _ b)
 
-pub data-end : (p : Phase) (at : ℕ) (x : Item) (xs : List Item) → kindIn p x ≡ eof 1 → dataFrom p at (x ∷ xs) ≡ Nowhere
-unfolding dataFrom turnOf follow isKind ifB
-data-end p at x xs e = ap (λ (k : Kind). follow (turnOf p k) at x (λ r. dataFrom r (placeBehind at x) xs)) e
+-- a data block
+pub parts-block : (p q : Phase) (g : Bool) (hdr1 at : ℕ) (x : Item) (xs : List Item) → kindIn p x ≡ dataBlock → dueAfter p dataBlock ≡ To q
+    → parts (stands at hdr1 p g) (x ∷ xs) ≡ Block (at + 3) (length (bytesIn x)) ∷ parts (stands (placeBehind at x) hdr1 q g) xs
+unfolding ledTo beginsFile goesOnBehind firstBehind partIn onto isKind ifB placeBehind
+parts-block p q g hdr1 at x xs e d = parts-item (stands at hdr1 p g) q x xs dataBlock e d
 
--- an item that begins no file
-pub header-on : (g : Bool) (p q : Phase) (first at : ℕ) (x : Item) (xs : List Item) (k : Kind) → kindIn p x ≡ k → beginsFile g k ≡ false → dueAfter p k ≡ To q
-    → headerFrom g p first at (x ∷ xs) ≡ headerFrom (goesOnBehind g k) q (firstBehind first (at + 3) k) (placeBehind at x) xs
-unfolding onward
-header-on g p q first at x xs k e b d =
-    header-item g p first at x xs k e ∙ if-false _ _ _ b
-    ∙ ap (λ (r : Due). onward r (λ y. headerFrom (goesOnBehind g k) y (firstBehind first (at + 3) k) (placeBehind at x) xs)) d
+-- HDR2 of a file that goes on
+pub parts-section : (p q : Phase) (hdr1 at : ℕ) (x : Item) (xs : List Item) → kindIn p x ≡ hdr 2 → dueAfter p (hdr 2) ≡ To q
+    → parts (stands at hdr1 p true) (x ∷ xs) ≡ Section hdr1 (at + 3) ∷ parts (stands (placeBehind at x) hdr1 q true) xs
+unfolding ledTo beginsFile goesOnBehind firstBehind partIn onto isKind ifB placeBehind
+parts-section p q hdr1 at x xs e d = parts-item (stands at hdr1 p true) q x xs (hdr 2) e d
 
-pub quiet-begins : (g : Bool) (k : Kind) → isKind k (hdr 2) ≡ false → beginsFile g k ≡ false
-unfolding beginsFile
-quiet-begins g k h = if-false _ _ _ h
+-- HDR2 of a new one
+pub parts-file : (p : Phase) (hdr1 at : ℕ) (x : Item) (xs : List Item) → kindIn p x ≡ hdr 2
+    → parts (stands at hdr1 p false) (x ∷ xs) ≡ File hdr1 (at + 3) ∷ parts (stands (placeBehind at x) hdr1 (Header 2) false) xs
+unfolding ledTo beginsFile goesOnBehind firstBehind partIn onto isKind ifB placeBehind
+parts-file p hdr1 at x xs e = parts-item (stands at hdr1 p false) (Header 2) x xs (hdr 2) e refl
 
-pub quiet-goes : (g : Bool) (k : Kind) → Quiet k → goesOnBehind g k ≡ g
+quiet-goes : (g : Bool) (k : Kind) → Quiet k → goesOnBehind g k ≡ g
 unfolding goesOnBehind
 quiet-goes g k c = if-false _ _ _ (c .reelEnd) ∙ if-false _ _ _ (c .fileEnd)
 
@@ -103,13 +114,14 @@ quiet-first : (first at : ℕ) (k : Kind) → Quiet k → firstBehind first at k
 unfolding firstBehind
 quiet-first first at k c = if-false _ _ _ (c .first)
 
-header-quiet : (g : Bool) (p q : Phase) (first at : ℕ) (x : Item) (xs : List Item) (k : Kind) → Quiet k → kindIn p x ≡ k → dueAfter p k ≡ To q
-    → headerFrom g p first at (x ∷ xs) ≡ headerFrom g q first (placeBehind at x) xs
-header-quiet g p q first at x xs k c e d =
-    header-on g p q first at x xs k e (quiet-begins g k (c .second)) d
-    ∙ ap₂ (λ (y : Bool) (i : ℕ). headerFrom y q i (placeBehind at x) xs) (quiet-goes g k c) (quiet-first first (at + 3) k c)
+parts-quiet : (g : Bool) (p q : Phase) (hdr1 at : ℕ) (x : Item) (xs : List Item) (k : Kind) → Quiet k → kindIn p x ≡ k → dueAfter p k ≡ To q
+    → parts (stands at hdr1 p g) (x ∷ xs) ≡ parts (stands (placeBehind at x) hdr1 q g) xs
+unfolding placeBehind
+parts-quiet g p q hdr1 at x xs k c e d =
+    parts-on (stands at hdr1 p g) q x xs k e (c .datum) (c .second) d
+    ∙ ap₂ (λ (i : ℕ) (y : Bool). parts (stands (at + 3 + length (bytesIn x)) i q y) xs) (quiet-first hdr1 (at + 3) k c) (quiet-goes g k c)
 
--- ---- what a search for the next file has to know
+-- ---- what a search has to know
 
 -- from HDR2 up to the first trailer label nothing; then whether the file goes on, and behind HDR1 its place too
 abbrev Alike : Stage → Bool → Bool → ℕ → ℕ → Type 0
@@ -121,112 +133,185 @@ Alike reelOver g h a b = g ≡ h
 
 alike-step : (g h : Bool) (p q : Phase) (a b at : ℕ) (x : Item) (xs : List Item) {k : Kind} {m n : Stage} → Move k m n → kindIn p x ≡ k → dueAfter p k ≡ To q
     → Alike m g h a b
-    → ((g h : Bool) (a b : ℕ) → Alike n g h a b → headerFrom g q a (placeBehind at x) xs ≡ headerFrom h q b (placeBehind at x) xs)
-    → headerFrom g p a at (x ∷ xs) ≡ headerFrom h p b at (x ∷ xs)
-unfolding isKind ifB beginsFile goesOnBehind firstBehind
+    → ((g h : Bool) (a b : ℕ) → Alike n g h a b → parts (stands (placeBehind at x) a q g) xs ≡ parts (stands (placeBehind at x) b q h) xs)
+    → parts (stands at a p g) (x ∷ xs) ≡ parts (stands at b p h) (x ∷ xs)
+unfolding isKind ifB goesOnBehind firstBehind placeBehind
 alike-step g h p q a b at x xs {k} (stays c) e d l again =
-    header-quiet g p q a at x xs k c e d ∙ again g h a b l ∙ sym (header-quiet h p q b at x xs k c e d)
+    parts-quiet g p q a at x xs k c e d ∙ again g h a b l ∙ sym (parts-quiet h p q b at x xs k c e d)
 alike-step g h p q a b at x xs {k} (nextReel c) e d l again =
-    header-quiet g p q a at x xs k c e d ∙ again g h a b l ∙ sym (header-quiet h p q b at x xs k c e d)
+    parts-quiet g p q a at x xs k c e d ∙ again g h a b l ∙ sym (parts-quiet h p q b at x xs k c e d)
 alike-step g h p q a b at x xs header1 e d l again =
-    header-on g p q a at x xs (hdr 1) e refl d ∙ again g h (at + 3) (at + 3) (l, refl) ∙ sym (header-on h p q b at x xs (hdr 1) e refl d)
+    parts-on (stands at a p g) q x xs (hdr 1) e refl refl d ∙ again g h (at + 3) (at + 3) (l, refl) ∙ sym (parts-on (stands at b p h) q x xs (hdr 1) e refl refl d)
 alike-step g h p q a b at x xs nextFile e d l again =
-    header-on g p q a at x xs (hdr 1) e refl d ∙ again g h (at + 3) (at + 3) (l, refl) ∙ sym (header-on h p q b at x xs (hdr 1) e refl d)
-alike-step g h p q a b at x xs header2 e d (l, f) again = ap₂ (λ (y : Bool) (i : ℕ). headerFrom y p i at (x ∷ xs)) l f
+    parts-on (stands at a p g) q x xs (hdr 1) e refl refl d ∙ again g h (at + 3) (at + 3) (l, refl) ∙ sym (parts-on (stands at b p h) q x xs (hdr 1) e refl refl d)
+alike-step g h p q a b at x xs header2 e d (l, f) again = ap₂ (λ (y : Bool) (i : ℕ). parts (stands at i p y) (x ∷ xs)) l f
 alike-step g h p q a b at x xs datum e d l again =
-    header-on g p q a at x xs dataBlock e refl d ∙ again g h a b tt ∙ sym (header-on h p q b at x xs dataBlock e refl d)
+    parts-block p q g a at x xs e d ∙ ap (λ (ps : List Part). Block (at + 3) (length (bytesIn x)) ∷ ps) (again g h a b tt) ∙ sym (parts-block p q h b at x xs e d)
 alike-step g h p q a b at x xs eof1 e d l again =
-    header-on g p q a at x xs (eof 1) e refl d ∙ again false false a b refl ∙ sym (header-on h p q b at x xs (eof 1) e refl d)
+    parts-on (stands at a p g) q x xs (eof 1) e refl refl d ∙ again false false a b refl ∙ sym (parts-on (stands at b p h) q x xs (eof 1) e refl refl d)
 alike-step g h p q a b at x xs eov1 e d l again =
-    header-on g p q a at x xs (eov 1) e refl d ∙ again true true a b refl ∙ sym (header-on h p q b at x xs (eov 1) e refl d)
+    parts-on (stands at a p g) q x xs (eov 1) e refl refl d ∙ again true true a b refl ∙ sym (parts-on (stands at b p h) q x xs (eov 1) e refl refl d)
 alike-step g h p q a b at x xs finish e d l again =
-    header-on g p q a at x xs endOfImage e refl d ∙ again g h a b l ∙ sym (header-on h p q b at x xs endOfImage e refl d)
+    parts-on (stands at a p g) q x xs endOfImage e refl refl d ∙ again g h a b l ∙ sym (parts-on (stands at b p h) q x xs endOfImage e refl refl d)
 
-header-alike : (s : List ℕ) (xs : List Item) (g h : Bool) (p : Phase) (a b at : ℕ) → Numbered p → InOrder s p at xs → Alike (stage p) g h a b
-    → headerFrom g p a at xs ≡ headerFrom h p b at xs
-unfolding headerFrom
-header-alike s [] g h p a b at num o l = refl
-header-alike s (x ∷ xs) g h p a b at num (q, c, d, o) l =
+parts-alike : (s : List ℕ) (xs : List Item) (g h : Bool) (p : Phase) (a b at : ℕ) → Numbered p → InOrder s p at xs → Alike (stage p) g h a b
+    → parts (stands at a p g) xs ≡ parts (stands at b p h) xs
+unfolding partsFrom
+parts-alike s [] g h p a b at num o l = refl
+parts-alike s (x ∷ xs) g h p a b at num (q, c, d, o) l =
     let go = due-goes p (kindIn p x) q num d in
-    alike-step g h p q a b at x xs (go .move) refl d l (λ g′ h′ a′ b′ l′. header-alike s xs g′ h′ q a′ b′ (placeBehind at x) (go .numbered) o l′)
+    alike-step g h p q a b at x xs (go .move) refl d l (λ g′ h′ a′ b′ l′. parts-alike s xs g′ h′ q a′ b′ (placeBehind at x) (go .numbered) o l′)
+
+-- among the data of a file its next block does not hang on what was read before
+pub data-from : (s : List ℕ) (g : Bool) (q : Phase) (hdr1 b : ℕ) (xs : List Item) → q ≡ Data → decode (drop b s) ≡ xs → InOrder s q b xs
+    → blockIn (parts (stands b hdr1 q g) xs) ≡ dataFrom Data b (decode (drop b s))
+unfolding dataFrom
+data-from s g q hdr1 b xs e r o =
+    ap (λ (p : Phase). blockIn (parts (stands b hdr1 p g) xs)) e
+    ∙ ap blockIn (parts-alike s xs g false Data hdr1 0 b tt (subst (λ (p : Phase). InOrder s p b xs) e o) tt)
+    ∙ ap (λ (ys : List Item). blockIn (parts (stands b 0 Data false) ys)) (sym r)
 
 -- ---- the file that follows
 
 -- from place b in the data of a file on, whatever was read before, file x is found
 pub record Follows (s : List ℕ) (x : NextFile) (b : ℕ) : Type 0 where
   pub ordered : InOrder s Data b (decode (drop b s))
-  pub same : (g : Bool) (first : ℕ) → headerFrom g Data first b (decode (drop b s)) ≡ x
+  pub same : (g : Bool) (hdr1 : ℕ) → fileIn s (parts (stands b hdr1 Data g) (decode (drop b s))) ≡ x
 
 -- what follows place a follows place b
 abbrev pub Leads : List ℕ → ℕ → ℕ → Type 0
 Leads s a b = (x : NextFile) → Follows s x a → Follows s x b
 
-pub follows-here : (s : List ℕ) (g : Bool) (q : Phase) (first b : ℕ) (xs : List Item) → q ≡ Data → decode (drop b s) ≡ xs → InOrder s q b xs
-    → Follows s (headerFrom g q first b xs) b
-follows-here s g q first b xs e r o =
-    subst (λ (p : Phase). Follows s (headerFrom g p first b xs) b) (sym e)
+pub follows-here : (s : List ℕ) (g : Bool) (q : Phase) (hdr1 b : ℕ) (xs : List Item) → q ≡ Data → decode (drop b s) ≡ xs → InOrder s q b xs
+    → Follows s (fileIn s (parts (stands b hdr1 q g) xs)) b
+follows-here s g q hdr1 b xs e r o =
+    subst (λ (p : Phase). Follows s (fileIn s (parts (stands b hdr1 p g) xs)) b) (sym e)
     (record {
       ordered = subst (InOrder s Data b) (sym r) there;
-      same = λ h m. ap (headerFrom h Data m b) r ∙ header-alike s xs h g Data m first b tt there tt;
+      same = λ h m. ap (λ (ys : List Item). fileIn s (parts (stands b m Data h) ys)) r ∙ ap (fileIn s) (parts-alike s xs h g Data m hdr1 b tt there tt);
     })
   where
     there : InOrder s Data b xs
     there = subst (λ (p : Phase). InOrder s p b xs) e o
 
--- an item of an open file that is not its EOF1 begins no other file
-pub open-step : (g : Bool) (p q : Phase) (first at : ℕ) (x : Item) (xs : List Item) {k : Kind} {m n : Stage} → Move k m n → kindIn p x ≡ k → dueAfter p k ≡ To q
-    → isOpen m g ≡ true → isKind k (eof 1) ≡ false
-    → (headerFrom g p first at (x ∷ xs) ≡ headerFrom (goesOnBehind g k) q (firstBehind first (at + 3) k) (placeBehind at x) xs) × (isOpen n (goesOnBehind g k) ≡ true)
-unfolding isKind ifB beginsFile goesOnBehind firstBehind
-open-step g p q first at x xs {k} (stays {a = a} c) e d o f =
-    (header-on g p q first at x xs k e (quiet-begins g k (c .second)) d, ap (isOpen a) (quiet-goes g k c) ∙ o)
-open-step g p q first at x xs {k} (nextReel c) e d o f = (header-on g p q first at x xs k e (quiet-begins g k (c .second)) d, quiet-goes g k c ∙ o)
-open-step g p q first at x xs header1 e d o f = (header-on g p q first at x xs (hdr 1) e refl d, o)
-open-step g p q first at x xs nextFile e d o f = (header-on g p q first at x xs (hdr 1) e refl d, o)
-open-step g p q first at x xs header2 e d o f = (header-on g p q first at x xs (hdr 2) e (ap not o) d, refl)
-open-step g p q first at x xs datum e d o f = (header-on g p q first at x xs dataBlock e refl d, refl)
-open-step g p q first at x xs eof1 e d o f = absurd (false≢true (sym f))
-open-step g p q first at x xs eov1 e d o f = (header-on g p q first at x xs (eov 1) e refl d, refl)
-open-step g p q first at x xs finish e d o f = (header-on g p q first at x xs endOfImage e refl d, o)
+-- the same next file, and the same next block
+pub record Passes (s : List ℕ) (ps qs : List Part) : Type 0 where
+  pub file : fileIn s ps ≡ fileIn s qs
+  pub datum : blockIn ps ≡ blockIn qs
+
+same-passes : (s : List ℕ) (ps qs : List Part) → ps ≡ qs → Passes s ps qs
+same-passes s ps qs e = record { file = ap (fileIn s) e; datum = ap blockIn e }
+
+section-passes : (s : List ℕ) (a b : ℕ) (ps qs : List Part) → ps ≡ Section a b ∷ qs → Passes s ps qs
+unfolding fileIn blockIn firstIn isWanted ifB
+section-passes s a b ps qs e = record { file = ap (fileIn s) e; datum = ap blockIn e }
+
+-- an item of an open file that is no data block and not its EOF1
+pub open-step : (s : List ℕ) (g : Bool) (p q : Phase) (hdr1 at : ℕ) (x : Item) (xs : List Item) {k : Kind} {m n : Stage} → Move k m n → kindIn p x ≡ k → dueAfter p k ≡ To q
+    → isOpen m g ≡ true → isKind k dataBlock ≡ false → isKind k (eof 1) ≡ false
+    → Passes s (parts (stands at hdr1 p g) (x ∷ xs)) (parts (stands (placeBehind at x) (firstBehind hdr1 (at + 3) k) q (goesOnBehind g k)) xs)
+    × (isOpen n (goesOnBehind g k) ≡ true)
+unfolding isKind ifB goesOnBehind firstBehind placeBehind
+open-step s g p q hdr1 at x xs {k} (stays {a = a} c) e d o f i =
+    (same-passes s _ _ (parts-on (stands at hdr1 p g) q x xs k e (c .datum) (c .second) d), ap (isOpen a) (quiet-goes g k c) ∙ o)
+open-step s g p q hdr1 at x xs {k} (nextReel c) e d o f i =
+    (same-passes s _ _ (parts-on (stands at hdr1 p g) q x xs k e (c .datum) (c .second) d), quiet-goes g k c ∙ o)
+open-step s g p q hdr1 at x xs header1 e d o f i = (same-passes s _ _ (parts-on (stands at hdr1 p g) q x xs (hdr 1) e refl refl d), o)
+open-step s g p q hdr1 at x xs nextFile e d o f i = (same-passes s _ _ (parts-on (stands at hdr1 p g) q x xs (hdr 1) e refl refl d), o)
+open-step s g p q hdr1 at x xs header2 e d o f i = (
+  section-passes s hdr1 (at + 3) _ _
+      (ap (λ (y : Bool). parts (stands at hdr1 p y) (x ∷ xs)) o ∙ parts-section p q hdr1 at x xs e d
+      ∙ ap (λ (y : Bool). Section hdr1 (at + 3) ∷ parts (stands (placeBehind at x) hdr1 q y) xs) (sym o)),
+  refl,
+)
+open-step s g p q hdr1 at x xs datum e d o f i = absurd (false≢true (sym f))
+open-step s g p q hdr1 at x xs eof1 e d o f i = absurd (false≢true (sym i))
+open-step s g p q hdr1 at x xs eov1 e d o f i = (same-passes s _ _ (parts-on (stands at hdr1 p g) q x xs (eov 1) e refl refl d), refl)
+open-step s g p q hdr1 at x xs finish e d o f i = (same-passes s _ _ (parts-on (stands at hdr1 p g) q x xs endOfImage e refl refl d), o)
+
+-- where no file is open, a file begins before any data
+shut-step : (g : Bool) (p q : Phase) (hdr1 at : ℕ) (x : Item) (xs : List Item) {k : Kind} {m n : Stage} → Move k m n → kindIn p x ≡ k → dueAfter p k ≡ To q
+    → isOpen m g ≡ false
+    → ((i : ℕ) → isOpen n (goesOnBehind g k) ≡ false → blockIn (parts (stands (placeBehind at x) i q (goesOnBehind g k)) xs) ≡ Nowhere)
+    → blockIn (parts (stands at hdr1 p g) (x ∷ xs)) ≡ Nowhere
+unfolding isKind ifB goesOnBehind firstBehind placeBehind blockIn asBlock firstIn isWanted
+shut-step g p q hdr1 at x xs {k} (stays {a = a} c) e d o again =
+    ap blockIn (parts-on (stands at hdr1 p g) q x xs k e (c .datum) (c .second) d) ∙ again (firstBehind hdr1 (at + 3) k) (ap (isOpen a) (quiet-goes g k c) ∙ o)
+shut-step g p q hdr1 at x xs {k} (nextReel c) e d o again =
+    ap blockIn (parts-on (stands at hdr1 p g) q x xs k e (c .datum) (c .second) d) ∙ again (firstBehind hdr1 (at + 3) k) (quiet-goes g k c ∙ o)
+shut-step g p q hdr1 at x xs header1 e d o again = ap blockIn (parts-on (stands at hdr1 p g) q x xs (hdr 1) e refl refl d) ∙ again (at + 3) o
+shut-step g p q hdr1 at x xs nextFile e d o again = ap blockIn (parts-on (stands at hdr1 p g) q x xs (hdr 1) e refl refl d) ∙ again (at + 3) o
+shut-step g p q hdr1 at x xs header2 e d o again =
+    ap blockIn (ap (λ (y : Bool). parts (stands at hdr1 p y) (x ∷ xs)) o ∙ parts-file p hdr1 at x xs e)
+shut-step g p q hdr1 at x xs datum e d o again = absurd (false≢true (sym o))
+shut-step g p q hdr1 at x xs eof1 e d o again = absurd (false≢true (sym o))
+shut-step g p q hdr1 at x xs eov1 e d o again = absurd (false≢true (sym o))
+shut-step g p q hdr1 at x xs finish e d o again = ap blockIn (parts-on (stands at hdr1 p g) q x xs endOfImage e refl refl d) ∙ again hdr1 o
+
+shut-none : (s : List ℕ) (xs : List Item) (g : Bool) (p : Phase) (hdr1 at : ℕ) → Numbered p → InOrder s p at xs → isOpen (stage p) g ≡ false
+    → blockIn (parts (stands at hdr1 p g) xs) ≡ Nowhere
+unfolding partsFrom blockIn asBlock firstIn
+shut-none s [] g p hdr1 at num i o = refl
+shut-none s (x ∷ xs) g p hdr1 at num (q, c, d, i) o =
+    let go = due-goes p (kindIn p x) q num d in
+    shut-step g p q hdr1 at x xs (go .move) refl d o (λ first off. shut-none s xs (goesOnBehind g (kindIn p x)) q first (placeBehind at x) (go .numbered) i off)
 
 -- behind a data block, and so behind the next one, the same file follows
-datum-follows : (s : List ℕ) (g : Bool) (p q : Phase) (first at start n : ℕ) (x : Item) (xs : List Item) → kindIn p x ≡ dataBlock → dueAfter p dataBlock ≡ To q
-    → ItemAt s at x xs → InOrder s q (placeBehind at x) xs → dataFrom p at (x ∷ xs) ≡ Block start n → Follows s (headerFrom g p first at (x ∷ xs)) (start + n)
-unfolding isKind ifB beginsFile goesOnBehind firstBehind placeBehind
-datum-follows s g p q first at start n x xs k d c i e =
-    let here : Block (at + 3) (length (bytesIn x)) ≡ Block start n = sym (data-block p at x xs k) ∙ e in
+datum-follows : (s : List ℕ) (g : Bool) (p q : Phase) (hdr1 at start n : ℕ) (x : Item) (xs : List Item) → kindIn p x ≡ dataBlock → dueAfter p dataBlock ≡ To q
+    → ItemAt s at x xs → InOrder s q (placeBehind at x) xs → blockIn (parts (stands at hdr1 p g) (x ∷ xs)) ≡ At start n
+    → Follows s (fileIn s (parts (stands at hdr1 p g) (x ∷ xs))) (start + n)
+unfolding blockIn asBlock fileIn firstIn isWanted ifB placeBehind
+datum-follows s g p q hdr1 at start n x xs k d c i e =
+    let all = parts-block p q g hdr1 at x xs k d in
+    let here : At (at + 3) (length (bytesIn x)) ≡ At start n = sym (ap blockIn all) ∙ e in
     let a : at + 3 ≡ start = cc in
     let b : length (bytesIn x) ≡ n = cc in
-    subst (Follows s (headerFrom g p first at (x ∷ xs))) (ap₂ _+_ a b)
-    (subst (λ (y : NextFile). Follows s y (placeBehind at x)) (sym (header-on g p q first at x xs dataBlock k refl d))
-    (follows-here s g q first (placeBehind at x) xs (block-data p q d) (c .rest) i))
+    subst (Follows s (fileIn s (parts (stands at hdr1 p g) (x ∷ xs)))) (ap₂ _+_ a b)
+    (subst (λ (y : NextFile). Follows s y (placeBehind at x)) (sym (ap (fileIn s) all))
+    (follows-here s g q hdr1 (placeBehind at x) xs (block-data p q d) (c .rest) i))
 
-block-follows : (s : List ℕ) (xs : List Item) (g : Bool) (p : Phase) (first at start n : ℕ) → Numbered p → isOpen (stage p) g ≡ true → InOrder s p at xs
-    → dataFrom p at xs ≡ Block start n → Follows s (headerFrom g p first at xs) (start + n)
-unfolding dataFrom
-block-follows s [] g p first at start n num o i e = let z : _≡_ {A = ℕ} 0 1 = cc in absurd (omega arith)
-block-follows s (x ∷ xs) g p first at start n num o (q, c, d, i) e =
+onward : {s : List ℕ} {ps qs : List Part} {start l : ℕ} {on : Bool} → Passes s ps qs × (on ≡ true)
+    → (on ≡ true → blockIn qs ≡ At start l → Follows s (fileIn s qs) (start + l)) → blockIn ps ≡ At start l → Follows s (fileIn s ps) (start + l)
+onward {s = s} {start = start} {l = l} (c, o) again h =
+    subst (λ (y : NextFile). Follows s y (start + l)) (sym (c .file)) (again o (sym (c .datum) ∙ h))
+
+block-step : (s : List ℕ) (g : Bool) (p q : Phase) (hdr1 at start l : ℕ) (x : Item) (xs : List Item) {k : Kind} {m n : Stage} → Move k m n → kindIn p x ≡ k → dueAfter p k ≡ To q
+    → isOpen m g ≡ true
+    → (isOpen n (goesOnBehind g k) ≡ false → blockIn (parts (stands (placeBehind at x) (firstBehind hdr1 (at + 3) k) q (goesOnBehind g k)) xs) ≡ Nowhere)
+    → (kindIn p x ≡ dataBlock → dueAfter p dataBlock ≡ To q → Follows s (fileIn s (parts (stands at hdr1 p g) (x ∷ xs))) (start + l))
+    → (isOpen n (goesOnBehind g k) ≡ true → blockIn (parts (stands (placeBehind at x) (firstBehind hdr1 (at + 3) k) q (goesOnBehind g k)) xs) ≡ At start l
+    → Follows s (fileIn s (parts (stands (placeBehind at x) (firstBehind hdr1 (at + 3) k) q (goesOnBehind g k)) xs)) (start + l))
+    → blockIn (parts (stands at hdr1 p g) (x ∷ xs)) ≡ At start l → Follows s (fileIn s (parts (stands at hdr1 p g) (x ∷ xs))) (start + l)
+unfolding isKind ifB goesOnBehind firstBehind placeBehind
+block-step s g p q hdr1 at start l x xs (stays {a = a} c) e d o none there again h =
+    onward (open-step s g p q hdr1 at x xs {m = a} (stays c) e d o (c .datum) (c .fileEnd)) again h
+block-step s g p q hdr1 at start l x xs (nextReel c) e d o none there again h =
+    onward (open-step s g p q hdr1 at x xs (nextReel c) e d o (c .datum) (c .fileEnd)) again h
+block-step s g p q hdr1 at start l x xs header1 e d o none there again h = onward (open-step s g p q hdr1 at x xs header1 e d o refl refl) again h
+block-step s g p q hdr1 at start l x xs nextFile e d o none there again h = onward (open-step s g p q hdr1 at x xs nextFile e d o refl refl) again h
+block-step s g p q hdr1 at start l x xs header2 e d o none there again h = onward (open-step s g p q hdr1 at x xs header2 e d o refl refl) again h
+block-step s g p q hdr1 at start l x xs datum e d o none there again h = there e d
+block-step s g p q hdr1 at start l x xs eof1 e d o none there again h =
+    let never : Nowhere ≡ At start l = sym (ap blockIn (parts-on (stands at hdr1 p g) q x xs (eof 1) e refl refl d) ∙ none refl) ∙ h in
+    let z : _≡_ {A = ℕ} 0 1 = cc in
+    absurd (omega arith)
+block-step s g p q hdr1 at start l x xs eov1 e d o none there again h = onward (open-step s g p q hdr1 at x xs eov1 e d o refl refl) again h
+block-step s g p q hdr1 at start l x xs finish e d o none there again h = onward (open-step s g p q hdr1 at x xs finish e d o refl refl) again h
+
+block-follows : (s : List ℕ) (xs : List Item) (g : Bool) (p : Phase) (hdr1 at start n : ℕ) → Numbered p → isOpen (stage p) g ≡ true → InOrder s p at xs
+    → blockIn (parts (stands at hdr1 p g) xs) ≡ At start n → Follows s (fileIn s (parts (stands at hdr1 p g) xs)) (start + n)
+unfolding partsFrom blockIn asBlock firstIn
+block-follows s [] g p hdr1 at start n num o i e = let z : _≡_ {A = ℕ} 0 1 = cc in absurd (omega arith)
+block-follows s (x ∷ xs) g p hdr1 at start n num o (q, c, d, i) e =
     let go = due-goes p (kindIn p x) q num d in
-    by-kind (isKind (kindIn p x) dataBlock) refl (isKind (kindIn p x) (eof 1)) refl (go .move)
-    (λ open' there.
-    block-follows s xs (goesOnBehind g (kindIn p x)) q (firstBehind first (at + 3) (kindIn p x)) (placeBehind at x) start n (go .numbered) open' i there)
-  where
-    by-kind : (a : Bool) → isKind (kindIn p x) dataBlock ≡ a → (b : Bool) → isKind (kindIn p x) (eof 1) ≡ b → Move (kindIn p x) (stage p) (stage q)
-        → (isOpen (stage q) (goesOnBehind g (kindIn p x)) ≡ true → dataFrom q (placeBehind at x) xs ≡ Block start n
-        → Follows s (headerFrom (goesOnBehind g (kindIn p x)) q (firstBehind first (at + 3) (kindIn p x)) (placeBehind at x) xs) (start + n))
-        → Follows s (headerFrom g p first at (x ∷ xs)) (start + n)
-    by-kind true a b f go again =
-        let k : kindIn p x ≡ dataBlock = kind-is (kindIn p x) dataBlock a in
-        datum-follows s g p q first at start n x xs k (ap (dueAfter p) (sym k) ∙ d) c i e
-    by-kind false a true f go again =
-        let none : Nowhere ≡ Block start n = sym (data-end p at x xs (kind-is (kindIn p x) (eof 1) f)) ∙ e in
-        let z : _≡_ {A = ℕ} 0 1 = cc in
-        absurd (omega arith)
-    by-kind false a false f go again =
-        let step = open-step g p q first at x xs go refl d o f in
-        subst (λ (y : NextFile). Follows s y (start + n)) (sym (step .0)) (again (step .1) (sym (data-on p q at x xs (kindIn p x) refl a f d) ∙ e))
+    let hdr1′ = firstBehind hdr1 (at + 3) (kindIn p x) in
+    let g′ = goesOnBehind g (kindIn p x) in
+    block-step s g p q hdr1 at start n x xs (go .move) refl d o (λ off. shut-none s xs g′ q hdr1′ (placeBehind at x) (go .numbered) i off)
+    (λ k f. datum-follows s g p q hdr1 at start n x xs k f c i e)
+    (λ open' there. block-follows s xs g′ q hdr1′ (placeBehind at x) start n (go .numbered) open' i there) e
 
-pub data-leads : (s : List ℕ) (at start n : ℕ) → dataFrom Data at (decode (drop at s)) ≡ Block start n → Leads s at (start + n)
+pub data-leads : (s : List ℕ) (at start n : ℕ) → dataFrom Data at (decode (drop at s)) ≡ At start n → Leads s at (start + n)
+unfolding dataFrom
 data-leads s at start n e x f =
     subst (λ (y : NextFile). Follows s y (start + n)) (f .same false 0)
     (block-follows s (decode (drop at s)) false Data 0 at start n tt refl (f .ordered) e)

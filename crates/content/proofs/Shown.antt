@@ -33,7 +33,7 @@ use Rattle.volume.proofs.Reels.{broken-undue}
 use Rattle.volume.specs.Accepted.{behind, All, MayEnd, Accepted}
 use Rattle.content.specs.Items.{torn, itemOf, kindAmong, restAt, itemBy, itemAt, Told, Met}
 use Rattle.content.specs.declared.items.ItemAt.{ItemAt}
-use Rattle.content.proofs.Sections.{by-place, start-fits, end-fits}
+use Rattle.content.proofs.Parts.{by-place, start-fits, end-fits}
 
 -- ---- the item at a place
 

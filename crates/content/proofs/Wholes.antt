@@ -30,7 +30,8 @@ use Rattle.content.specs.declared.Walk.{Walk}
 use Rattle.content.specs.declared.unit.Taken.{Taken}
 use Rattle.content.specs.declared.unit.Taken.the-variants.{One, Nothing}
 use Rattle.content.specs.declared.measuring.Measured.the-variants.{Whole}
-use Rattle.content.proofs.Sections.{start-fits, data-first}
+use Rattle.content.proofs.Parts.{start-fits}
+use Rattle.content.proofs.Sections.{data-first}
 use Rattle.content.proofs.Units.{inside-not, inside-left, inside-true, inside-is, no-format, unit-at}
 use Rattle.content.proofs.Measures.{is-whole}
 

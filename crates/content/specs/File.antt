@@ -1,28 +1,24 @@
 -- The files of a set, one after the other: each by the places of its first HDR1 and HDR2, and the walk at its first record, which stands at the data
 -- of the file's first section and has the format and lengths of that HDR2.
 -- Document 01, "Handing out records": a walk covers one file; beginning it gives the image's own number, then 13.
--- Read first: `headerFrom`, the next file from a place on; `firstFile` and `nextFile` are that search from the beginning and from a file on.
-use mathlib.Core.Bool.{Bool, true, false, not}
+-- Read first: `fileFrom`, the next file from a place on; `firstFile` and `nextFile` are that search from the beginning and from a file on.
+use mathlib.Core.Bool.{false}
 use mathlib.Core.List.{List, [], _∷_}
 use Prim.Native.Nat.{ℕ, zero, suc, _+_, _-_}
 use lib.Dec.{eqb}
 use lib.ListN.{length, drop}
 use Rattle.base.specs.If.{ifB}
+use Rattle.base.specs.Part.{part}
 use Rattle.base.specs.Answer.{verdict}
 use Rattle.image.specs.Item.{Item, block, mark, reelEnd, broken, decode}
-use Rattle.image.specs.Framing.{items}
-use Rattle.order.specs.Kind.{hdr, eov, eof, isKind}
-use Rattle.order.specs.Due.{dueAfter}
-use Rattle.order.specs.declared.Kind.{Kind}
-use Rattle.order.specs.declared.Phase.{Phase}
 use Rattle.order.specs.declared.Phase.the-variants.{Reel, Header, Data}
-use Rattle.order.specs.declared.Due.{Due}
-use Rattle.order.specs.declared.Due.the-variants.{To, Wrong}
 use Rattle.label.specs.Field.{formatOf, recordLengthOf, offsetOf}
 use Rattle.volume.specs.Fault.{valueOf}
-use Rattle.volume.specs.Step.{kindIn, bytesIn}
 use Rattle.volume.specs.Run.{imageVerdict}
-use Rattle.content.specs.Section.{placeBehind}
+use Rattle.content.specs.Part.{placeBehind, parts, firstIn}
+use Rattle.content.specs.declared.part.Position.{Position}
+use Rattle.content.specs.declared.part.Part.{Part}
+use Rattle.content.specs.declared.part.Part.the-variants.{File, Section, Block, None}
 use Rattle.content.specs.declared.Walk.{Walk}
 use Rattle.content.specs.declared.Begun.{Begun}
 use Rattle.content.specs.declared.Begun.the-variants.{At, Refused}
@@ -49,42 +45,37 @@ walkFrom second at =
       left = 0;
     }
 
--- an item of kind k begins a file: HDR2, but not of a file that goes on
-unfoldable pub beginsFile : Bool → Kind → Bool
-beginsFile goesOn k = ifB (isKind k (hdr 2)) (not goesOn) false
+-- a file by the places of its first HDR1 and HDR2
+abbrev pub fileAt : List ℕ → ℕ → ℕ → FileAt
+fileAt s hdr1 hdr2 =
+    record { first = hdr1; second = hdr2; walk = walkFrom (part hdr2 80 s) (markFrom (hdr2 + 80) (decode (drop (hdr2 + 80) s))) }
 
--- whether the next HDR1 goes on with a file
-unfoldable pub goesOnBehind : Bool → Kind → Bool
-goesOnBehind goesOn k = ifB (isKind k (eov 1)) true (ifB (isKind k (eof 1)) false goesOn)
+-- a part as a file
+unfoldable pub asFile : List ℕ → Part → NextFile
+asFile s (File hdr1 hdr2) = There (fileAt s hdr1 hdr2)
+asFile s (Section a b) = Nowhere
+asFile s (Block start n) = Nowhere
+asFile s None = Nowhere
 
--- the place of the last HDR1, behind an item whose bytes begin at `start`
-unfoldable pub firstBehind : ℕ → ℕ → Kind → ℕ
-firstBehind first start k = ifB (isKind k (hdr 1)) start first
+-- the first file of some parts
+unfoldable pub fileIn : List ℕ → List Part → NextFile
+fileIn s ps = asFile s (firstIn false false ps)
 
-unfoldable pub onward : Due → (Phase → NextFile) → NextFile
-onward (To q) rest = rest q
-onward Wrong rest = Nowhere
-
--- the next file to begin from a place on, with the last HDR1 at `first`; what is not due there ends the search
-unfoldable pub headerFrom : Bool → Phase → ℕ → ℕ → List Item → NextFile
-headerFrom goesOn p first at [] = Nowhere
-headerFrom goesOn p first at (x ∷ xs) =
-    ifB (beginsFile goesOn (kindIn p x))
-    (There (record { first = first; second = at + 3; walk = walkFrom (bytesIn x) (markFrom (placeBehind at x) xs) }))
-    (onward (dueAfter p (kindIn p x))
-    (λ q. headerFrom (goesOnBehind goesOn (kindIn p x)) q (firstBehind first (at + 3) (kindIn p x)) (placeBehind at x) xs))
+-- the next file to begin from a place on
+unfoldable pub fileFrom : List ℕ → Position → NextFile
+fileFrom s c = fileIn s (parts c (decode (drop (c .at) s)))
 
 -- the first file; no HDR1 yet is a place past the end
 unfoldable pub firstFile : List ℕ → NextFile
-firstFile s = headerFrom false Reel (length s) 5 (items s)
+firstFile s = fileFrom s (record { at = 5; hdr1 = length s; phase = Reel; continues = false })
 
 -- the file behind one, from behind that file's HDR2 on
 unfoldable pub nextFile : List ℕ → FileAt → NextFile
-nextFile s f = headerFrom false (Header 2) (f .first) (f .second + 80) (decode (drop (f .second + 80) s))
+nextFile s f = fileFrom s (record { at = f .second + 80; hdr1 = f .first; phase = Header 2; continues = false })
 
 -- the file behind one, from a place between two items of that file's data on
 unfoldable pub fileBehind : List ℕ → FileAt → ℕ → NextFile
-fileBehind s f at = headerFrom false Data (f .first) at (decode (drop at s))
+fileBehind s f at = fileFrom s (record { at = at; hdr1 = f .first; phase = Data; continues = false })
 
 -- ---- files by their numbers
 

@@ -1,3 +1,4 @@
+pub mod Part
 pub mod Section
 pub mod Walk
 pub mod Whole

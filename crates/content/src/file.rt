@@ -1,31 +1,23 @@
-// The files of a set, one after the other. It knows labels by their kinds, and of HDR2 the format and the lengths.
+// The files of a set, one after the other. It knows of HDR2 the format and the lengths.
 ghost use mathlib.Core.Path.{_≡_};
-ghost use mathlib.Core.Bool.{false};
 ghost use Prim.Native.Nat.{_+_, _≤_};
 ghost use lib.ListN.{length, drop};
-ghost use Rattle.base.specs.Part.{part};
 ghost use Rattle.image.specs.Item.{decode};
-ghost use Rattle.content.specs.File.{markFrom, walkFrom, beginsFile, goesOnBehind, firstBehind, headerFrom, firstFile, nextFile, fileBehind, filesOn, fileNumbered};
+ghost use Rattle.content.specs.File.{markFrom, walkFrom, fileAt, fileFrom, firstFile, nextFile, fileBehind, filesOn, fileNumbered};
 ghost use Rattle.content.specs.Numbers.{fileOf, Said};
 use crate::FileAt;
 use crate::NextFile;
 use crate::Walk;
-use crate::section::Seen;
-use crate::section::seen_at;
+use crate::part::Part;
+use crate::part::Position;
+use crate::part::search;
 use base::part_of;
 use image::Shape;
 use image::shape_at;
 use label::format_of;
 use label::offset_length;
 use label::record_length;
-use order::Due;
-use order::EOF;
-use order::EOV;
-use order::HDR;
-use order::Kind;
 use order::Phase;
-use order::due_after;
-use order::is;
 use volume::value_of;
 
 // The place behind the mark that ends a group of labels.
@@ -58,79 +50,31 @@ fn walk_from(second: &[u8], at: usize) -> Walk
     }
 }
 
-// The walk over the file whose HDR2, of n bytes, stands at a place.
-fn walk_at(image: &[u8], at: usize, n: usize) -> Walk
-    requires { ⌜ at + 3 + n ≤ length (now image) ⌝ }
-    ensures { λ r. ⌜ r ≡ walkFrom (part (at + 3) n (now (image .entry))) (markFrom (at + 3 + n) (decode (drop (at + 3 + n) (now (image .entry))))) ⌝ }
+// The file with its first HDR1 and HDR2 at these places.
+fn file_at(image: &[u8], hdr1: usize, hdr2: usize) -> FileAt
+    requires { ⌜ hdr2 + 80 ≤ length (now image) ⌝ }
+    ensures { λ r. ⌜ r ≡ fileAt (now (image .entry)) hdr1 hdr2 ⌝ }
 {
-    let start = at + 3;
-    walk_from(part_of(image, start, n), behind_mark(image, start + n))
+    let end = hdr2 + 80;
+    let walk = walk_from(part_of(image, hdr2, 80), behind_mark(image, end));
+    FileAt {
+        first: hdr1,
+        second: hdr2,
+        walk,
+    }
 }
 
-// Whether the next HDR1 goes on with a file.
-fn goes_on_behind(ongoing: bool, k: Kind) -> bool
-    ensures { λ r. ⌜ r ≡ goesOnBehind ongoing k ⌝ }
+// The next file to begin from a place on.
+fn file_from(image: &[u8], from: Position) -> NextFile
+    ensures { λ r. ⌜ r ≡ fileFrom (now (image .entry)) from ⌝ }
 {
-    if is(k, EOV, 1) {
-        return true;
-    }
-    if is(k, EOF, 1) {
-        return false;
-    }
-    ongoing
-}
-
-// Whether an item begins a file: HDR2, but not of a file that goes on.
-fn begins_file(ongoing: bool, k: Kind) -> bool
-    ensures { λ r. ⌜ r ≡ beginsFile ongoing k ⌝ }
-{
-    if is(k, HDR, 2) {
-        return !ongoing;
-    }
-    false
-}
-
-// The place of the last HDR1, behind an item whose bytes begin at `start`.
-fn first_behind(first: usize, start: usize, k: Kind) -> usize
-    ensures { λ r. ⌜ r ≡ firstBehind first start k ⌝ }
-{
-    if is(k, HDR, 1) {
-        return start;
-    }
-    first
-}
-
-// The next file to begin from a place between two items on, with the last HDR1 at `header`.
-fn header_from(image: &[u8], due: Phase, header: usize, from: usize) -> NextFile
-    ensures { λ r. ⌜ r ≡ headerFrom false due header from (decode (drop from (now (image .entry)))) ⌝ }
-{
-    let mut phase = due;
-    let mut first = header;
-    let mut at = from;
-    let mut ongoing = false;
-    loop {
-        match seen_at(image, phase, at) {
-            Seen::Nothing => return NextFile::Nowhere,
-            Seen::Item(k, len) => {
-                let start = at + 3;
-                if begins_file(ongoing, k) {
-                    return NextFile::At(FileAt {
-                        first,
-                        second: start,
-                        walk: walk_at(image, at, len),
-                    });
-                }
-                match due_after(phase, k) {
-                    Due::Wrong => return NextFile::Nowhere,
-                    Due::To(p) => {
-                        first = first_behind(first, start, k);
-                        ongoing = goes_on_behind(ongoing, k);
-                        phase = p;
-                        at = start + len;
-                    }
-                }
-            }
-        }
+    let found = search(image, from, false, false);
+    let part = found.part;
+    match part {
+        Part::File(hdr1, hdr2) => NextFile::At(file_at(image, hdr1, hdr2)),
+        Part::Section(_, _) => NextFile::Nowhere,
+        Part::Block(_, _) => NextFile::Nowhere,
+        Part::None => NextFile::Nowhere,
     }
 }
 
@@ -138,7 +82,13 @@ fn header_from(image: &[u8], due: Phase, header: usize, from: usize) -> NextFile
 pub fn first_file(image: &[u8]) -> NextFile
     ensures { λ r. ⌜ Said fileOf r (firstFile (now (image .entry))) ⌝ }
 {
-    header_from(image, Phase::Reel, image.len(), 5)
+    let from = Position {
+        at: 5,
+        hdr1: image.len(),
+        phase: Phase::Reel,
+        continues: false,
+    };
+    file_from(image, from)
 }
 
 // The file behind one, be its places right or forged. Nothing stands behind an HDR2 that runs past the image.
@@ -152,14 +102,27 @@ pub fn next_file(image: &[u8], f: FileAt) -> NextFile
     if image.len() - second < 80 {
         return NextFile::Nowhere;
     }
-    header_from(image, Phase::Header(2), f.first, second + 80)
+    let at = second + 80;
+    let from = Position {
+        at,
+        hdr1: f.first,
+        phase: Phase::Header(2),
+        continues: false,
+    };
+    file_from(image, from)
 }
 
 // The file behind one, from a place between two items of its data on, be that right or forged.
 pub fn file_behind(image: &[u8], f: FileAt, at: usize) -> NextFile
     ensures { λ r. ⌜ Said fileOf r (fileBehind (now (image .entry)) f at) ⌝ }
 {
-    header_from(image, Phase::Data, f.first, at)
+    let from = Position {
+        at,
+        hdr1: f.first,
+        phase: Phase::Data,
+        continues: false,
+    };
+    file_from(image, from)
 }
 
 // The file so many files behind one.

@@ -7,6 +7,7 @@ mod items; // items.rt: an image item by item
 mod join; // join.rt: segments joined in a buffer
 mod measuring; // measuring.rt: the record at a place, by its numbers
 mod numbers; // numbers.rt: an answer as document 01's number and values
+mod part; // part.rt: the parts of an image, one after the other
 mod row; // row.rt: the records that stand whole, as many as a pair of lists has room for
 mod section; // section.rt: the next data block of a file
 mod segment; // segment.rt: a record segment by segment
@@ -33,6 +34,10 @@ pub use numbers::beginning_of;
 pub use numbers::file_of;
 pub use numbers::record_of;
 pub use numbers::stepped_of;
+pub use part::Part;
+pub use part::PartAt;
+pub use part::Position;
+pub use part::next_part;
 pub use row::Row;
 pub use row::steps;
 pub use segment::first_segment;

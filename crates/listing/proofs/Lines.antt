@@ -8,31 +8,26 @@ use borrow.Author.Needs.{needs}
 use mir.Val.{Fits}
 use mir.Syntax.{w64}
 use lib.ListN.{length}
-use Rattle.base.specs.If.{if-case}
 use Rattle.base.specs.Part.{part}
 use Rattle.base.specs.Digits.{digits}
 use Rattle.base.proofs.Parts.{length-part, put-none}
 use Rattle.output.proofs.Writing.{wrote-wrote, wrote-same}
-use Rattle.image.specs.Item.{Item}
-use Rattle.image.specs.Framing.{items}
 use Rattle.order.specs.declared.Phase.{Phase}
 use Rattle.order.specs.declared.Phase.the-variants.{Reel, Header}
-use Rattle.order.specs.declared.Due.{Due}
-use Rattle.order.specs.declared.Due.the-variants.{To, Wrong}
-use Rattle.order.specs.Due.{dueAfter}
 use Rattle.block.specs.declared.Held.{Held}
-use Rattle.volume.specs.Step.{kindIn, bytesIn}
 use Rattle.volume.specs.Run.{imageVerdict}
 use Rattle.volume.specs.Meaning.{File, content}
 use Rattle.reading.proofs.Entries.{entry-name, entry-second}
-use Rattle.content.specs.Section.{placeBehind}
-use Rattle.content.specs.File.{headerFrom, beginsFile, goesOnBehind, firstBehind, onward, firstFile, nextFile, fileBehind}
+use Rattle.content.specs.File.{asFile, fileIn as firstFileIn, fileFrom, firstFile, nextFile, fileBehind}
 use Rattle.content.specs.Held.{fileHeld}
 use Rattle.content.specs.Walked.{FileIs, Filed}
 use Rattle.content.specs.declared.holding.FileHeld.{FileHeld}
 use Rattle.content.specs.declared.FileAt.{FileAt}
 use Rattle.content.specs.declared.NextFile.{NextFile}
 use Rattle.content.specs.declared.NextFile.the-variants.{At, Nowhere}
+use Rattle.content.specs.declared.part.Part.{Part}
+use Rattle.content.specs.declared.part.Part.the-variants.{File as NewFile, Section, Block, None}
+use Rattle.content.proofs.Parts.{stands, IsAhead, first-ahead}
 use Rattle.content.proofs.Walked.{files-all}
 use Rattle.listing.specs.Page.{Wrote, endless}
 use Rattle.listing.specs.Text.{heading, named, counted, described, line, lines, listingOf}
@@ -83,21 +78,17 @@ behind-less : (a b : ℕ) (x : NextFile) → a ≤ b → Behind b x → Behind a
 behind-less a b (At f) h c = omega arith
 behind-less a b Nowhere h c = omega arith
 
-onward-behind : (at : ℕ) (d : Due) (rest : Phase → NextFile) → ((q : Phase) → Behind at (rest q)) → Behind at (onward d rest)
-unfolding onward
-onward-behind at (To q) rest h = h q
-onward-behind at Wrong rest h = omega arith
+file-behind : (s : List ℕ) (at : ℕ) (p : Part) → IsAhead s at p → Behind at (asFile s p)
+unfolding asFile
+file-behind s at (NewFile a b) h = omega (arith, h .onward)
+file-behind s at (Section a b) h = omega arith
+file-behind s at (Block start n) h = omega arith
+file-behind s at None h = omega arith
 
 -- what is found from a place on stands behind it
-header-behind : (g : Bool) (p : Phase) (first at : ℕ) (xs : List Item) → Behind at (headerFrom g p first at xs)
-unfolding headerFrom placeBehind
-header-behind g p first at [] = omega arith
-header-behind g p first at (x ∷ xs) =
-    if-case (Behind at) (beginsFile g (kindIn p x)) _ _ (λ _. omega arith)
-    (λ _. onward-behind at (dueAfter p (kindIn p x)) _
-    (λ q.
-    behind-less at (at + 3 + length (bytesIn x)) (headerFrom (goesOnBehind g (kindIn p x)) q (firstBehind first (at + 3) (kindIn p x)) (at + 3 + length (bytesIn x)) xs)
-    (omega arith) (header-behind (goesOnBehind g (kindIn p x)) q (firstBehind first (at + 3) (kindIn p x)) (at + 3 + length (bytesIn x)) xs)))
+found-behind : (s : List ℕ) (at hdr1 : ℕ) (p : Phase) → Behind at (fileFrom s (stands at hdr1 p false))
+unfolding fileFrom firstFileIn
+found-behind s at hdr1 p = file-behind s at _ (first-ahead s false false at hdr1 p false)
 
 -- ---- the loop of `put_listing`: the lines written, then those of the files that are left
 
@@ -125,7 +116,7 @@ lining-none s o p r x l h e w =
       filed = subst (λ (y : NextFile). Filed s y (content s .files)) (sym e) (files-all s h);
       wrote = wrote-none p r (omega (arith, w .place));
       whole = refl;
-      number = subst (Behind 2) (sym e) (behind-less 2 5 (firstFile s) (omega arith) (header-behind false Reel (length s) 5 (items s)));
+      number = subst (Behind 2) (sym e) (behind-less 2 5 (firstFile s) (omega arith) (found-behind s 5 (length s) Reel));
     }
 
 -- what the search for the next file found
@@ -188,7 +179,7 @@ module _ (s o : List ℕ) (a : ℕ) (p : List ℕ) (r n : ℕ) (x : NextFile) (f
 
   behind : Behind (f .second + 80) (nextFile s f)
   unfolding nextFile
-  behind = header-behind false (Header 2) (f .first) (f .second + 80) _
+  behind = found-behind s (f .second + 80) (f .first) (Header 2)
 
   pub number-fits : Fits w64 (n + 1)
   number-fits = let inside : f .second + 80 ≤ length s = next .is .secondWithin in omega (arith, after, c .room)

@@ -2,11 +2,11 @@ use Rattle.content.proofs.Files.{follows}
 use Rattle.content.proofs.file.file_behind.Statement.{statement}
 use Rattle.content.proofs.file.file_behind.Tie as tie
 
-header-from-requires : tie.Need-header-from-requires
-header-from-requires c κs = search follows
+file-from-requires : tie.Need-file-from-requires
+file-from-requires c κs = search follows
 
 returns : tie.Need-returns
 returns c = search follows
 
 pub file-behind-spec : {M : Type 1} → statement M
-file-behind-spec = tie.close (tie.spec header-from-requires returns)
+file-behind-spec = tie.close (tie.spec file-from-requires returns)

@@ -1,7 +1,7 @@
-use Rattle.content.specs.File.{firstBehind}
+use Rattle.content.specs.Part.{firstBehind}
 use Rattle.base.proofs.Rules.{ifs}
-use Rattle.content.proofs.file.first_behind.Statement.{statement}
-use Rattle.content.proofs.file.first_behind.Tie as tie
+use Rattle.content.proofs.part.first_behind.Statement.{statement}
+use Rattle.content.proofs.part.first_behind.Tie as tie
 
 is-requires : tie.Need-is-requires
 is-requires c κs = search ifs

@@ -1,7 +1,7 @@
-use Rattle.content.specs.File.{beginsFile}
+use Rattle.content.specs.Part.{beginsFile}
 use Rattle.base.proofs.Rules.{ifs}
-use Rattle.content.proofs.file.begins_file.Statement.{statement}
-use Rattle.content.proofs.file.begins_file.Tie as tie
+use Rattle.content.proofs.part.begins_file.Statement.{statement}
+use Rattle.content.proofs.part.begins_file.Tie as tie
 
 is-requires : tie.Need-is-requires
 is-requires c κs = search ifs

@@ -1,6 +1,6 @@
-use Rattle.content.proofs.Sections.{seens}
-use Rattle.content.proofs.section.seen_at.Statement.{statement}
-use Rattle.content.proofs.section.seen_at.Tie as tie
+use Rattle.content.proofs.Parts.{seens}
+use Rattle.content.proofs.part.seen_at.Statement.{statement}
+use Rattle.content.proofs.part.seen_at.Tie as tie
 
 shape-at-requires : tie.Need-shape-at-requires
 shape-at-requires c κs = search seens

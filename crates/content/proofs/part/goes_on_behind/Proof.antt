@@ -1,7 +1,7 @@
-use Rattle.content.specs.File.{goesOnBehind}
+use Rattle.content.specs.Part.{goesOnBehind}
 use Rattle.base.proofs.Rules.{ifs}
-use Rattle.content.proofs.file.goes_on_behind.Statement.{statement}
-use Rattle.content.proofs.file.goes_on_behind.Tie as tie
+use Rattle.content.proofs.part.goes_on_behind.Statement.{statement}
+use Rattle.content.proofs.part.goes_on_behind.Tie as tie
 
 is-requires : tie.Need-is-requires
 is-requires c κs = search ifs
