@@ -28,10 +28,10 @@ use Rattle.block.specs.Cut.{Segment, units}
 use Rattle.volume.specs.State.{State, start}
 use Rattle.volume.specs.Fault.{valueOf, secondHeaderFault, outcomeIn, blockFault, contextFault, itemFault}
 use Rattle.volume.specs.Step.{Event, begins, continues, holds, kindIn, bytesIn, segmentsOf, segmentsIn, goesOnAfter, firstAfter, secondAfter, pendingAfter, stateAfter, eventsOf}
-use Rattle.volume.specs.Run.{Run, ended, stopped, further, next, runs, imageVerdict}
+use Rattle.volume.specs.Run.{runs, imageVerdict}
 use Rattle.volume.specs.Meaning.{handedOut}
-use Rattle.volume.specs.Accepted.{Faultless, All, MayEnd, behind}
-use Rattle.volume.proofs.Accepted.{Ends, faultless-runs, all-ends, accepted-iff}
+use Rattle.volume.specs.Accepted.{All, MayEnd, behind}
+use Rattle.volume.proofs.Accepted.{accepted-iff}
 use Rattle.order.proofs.Moves.{Stage, stage, before, within, fileOver, Numbered, Move, stays, nextReel, header1, nextFile as newFile, header2, datum, eof1, eov1, finish, due-goes}
 use Rattle.reading.proofs.Stages.{View, view, Holds, isOpen, second-same}
 use Rattle.reading.proofs.Steps.{view-quiet, label-none, context-none}
@@ -44,6 +44,7 @@ use Rattle.content.specs.declared.part.Part.{Part}
 use Rattle.content.specs.declared.part.Part.the-variants.{File, Section, Block}
 use Rattle.content.proofs.Parts.{stands}
 use Rattle.content.proofs.Searches.{ItemAt, item-at, InOrder, parts-on, parts-block, parts-section, parts-file, data-from, Follows, follows-here, Passes, open-step}
+use Rattle.volume.proofs.Events.{handed-more, handed-none}
 use Rattle.order.proofs.Groups.{labels, second-behind, block-data, mark-data, label-labels}
 use Rattle.content.proofs.Phases.{block-no-mark, record-some}
 
@@ -308,21 +309,6 @@ read-step s t r at hdr1 x xs es eov1 e d i o h z here f again = read-on s t r at
 read-step s t r at hdr1 x xs es finish e d i o h z here f again = read-on s t r at hdr1 x xs endOfImage es e d refl refl again
 
 -- ---- a whole reading
-
-handed-further : (es : List Event) (r : Run) → Ends r → handedOut (further es r) ≡ es ++ handedOut r
-unfolding Ends further handedOut
-handed-further es (ended fs) h = refl
-handed-further es (stopped k i b) h = absurd h
-
-handed-more : (t : State) (x : Item) (xs : List Item) (q : Phase) → Faultless t x q → All MayEnd (behind t x q) xs
-    → handedOut (runs t (x ∷ xs)) ≡ eventsOf t (kindIn (t .phase) x) (bytesIn x) ++ handedOut (runs (behind t x q) xs)
-handed-more t x xs q f all =
-    ap handedOut (faultless-runs t x xs q f)
-    ∙ handed-further (eventsOf t (kindIn (t .phase) x) (bytesIn x)) (runs (behind t x q) xs) (all-ends (behind t x q) xs all)
-
-handed-none : (t : State) → MayEnd t → handedOut (runs t []) ≡ []
-unfolding runs handedOut
-handed-none t h = ap handedOut (if-true _ _ _ h)
 
 -- where the image may end no record is open
 read-none : (s : List ℕ) (t : State) (at hdr1 : ℕ) → Kept t → MayEnd t → Read s (t .second) (t .pending) (parts (stands at hdr1 (t .phase) (t .goesOn)) []) []
