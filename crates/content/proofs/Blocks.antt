@@ -39,7 +39,7 @@ use Rattle.content.specs.declared.unit.Taken.{Taken}
 use Rattle.content.specs.declared.unit.Taken.the-variants.{One}
 use Rattle.content.proofs.Units.{unit-at, inside-true, inside-is}
 use Rattle.content.proofs.Rests.{rest-at}
-use Rattle.content.proofs.Measures.{Good, record-begun}
+use Rattle.content.proofs.Measures.{Readable, record-begun}
 
 -- ---- what is handed out from a unit on
 
@@ -49,14 +49,14 @@ Gives s x [] = x ≡ fails
 Gives s x (r ∷ rs) = (v : Walk) × (x ≡ ends r v) × Walks s v rs
 
 -- the rest of a record and those behind it
-abbrev pub GoesOn : List ℕ → Rest → List (List ℕ) → Type 0
-GoesOn s x [] = ⊥
-GoesOn s x (r ∷ rs) = (v : Walk) × (x ≡ ends r v) × Walks s v rs
+abbrev pub RestIs : List ℕ → Rest → List (List ℕ) → Type 0
+RestIs s x [] = ⊥
+RestIs s x (r ∷ rs) = (v : Walk) × (x ≡ ends r v) × Walks s v rs
 
 -- with the unit t next, in a file of record length r, and q open: 0, or one more than the bytes of the open record
 abbrev pub Hands : List ℕ → ℕ → ℕ → Taken → List (List ℕ) → Type 0
 Hands s r zero t rs = Gives s (handed s (begunBy s r t)) rs
-Hands s r (suc k) t rs = GoesOn s (restBy s (r - k) t (λ m v. restAt s m v)) rs
+Hands s r (suc k) t rs = RestIs s (restBy s (r - k) t (λ m v. restAt s m v)) rs
 
 pub walks-by : (s : List ℕ) (w : Walk) (rs : List (List ℕ)) → Gives s (handed s (recordAt s w)) rs → Walks s w rs
 walks-by s w [] h = h
@@ -71,10 +71,10 @@ gives-by s w (r ∷ rs) h = h
 abbrev behind : Walk → ℕ → ℕ → Walk
 behind v c n = moved v (v .at + c + n) (v .left - (c + n))
 
-good-in : (s : List ℕ) (w : Walk) → Good s w → Inside s w
+good-in : (s : List ℕ) (w : Walk) → Readable s w → Inside s w
 good-in s w g = inside-true s w true (sym (g .inside)) refl
 
-good-behind : (s : List ℕ) (v : Walk) (i c n : ℕ) → Good s v → unitOf (v .format) (v .size) (leftOf s v) ≡ Of i c n → Good s (behind v c n)
+good-behind : (s : List ℕ) (v : Walk) (i c n : ℕ) → Readable s v → unitOf (v .format) (v .size) (leftOf s v) ≡ Of i c n → Readable s (behind v c n)
 good-behind s v i c n g e =
     let k = unit-at s v i c n e in
     let a = k .left in
@@ -110,14 +110,14 @@ unfolding unitNext blockNext
 next-padding s v h = ap (unitIn s) (if-true _ _ _ h)
 
 -- the record at a place where a unit stands, and where none does
-record-one : (s : List ℕ) (v : Walk) (i c n : ℕ) → Good s v → unitOf (v .format) (v .size) (leftOf s v) ≡ Of i c n
+record-one : (s : List ℕ) (v : Walk) (i c n : ℕ) → Readable s v → unitOf (v .format) (v .size) (leftOf s v) ≡ Of i c n
     → recordAt s v ≡ begunBy s (v .size) (One i (v .at + c) n (behind v c n))
 unfolding unitFrom unitHere orNext taken
 record-one s v i c n g e =
     record-begun s v (unitFrom s v) g refl
     ∙ ap (λ (u : Unit). begunBy s (v .size) (orNext (taken v u) (unitNext s v))) e
 
-record-next : (s : List ℕ) (v : Walk) → Good s v → unitOf (v .format) (v .size) (leftOf s v) ≡ None → allAre pad (leftOf s v) ≡ true
+record-next : (s : List ℕ) (v : Walk) → Readable s v → unitOf (v .format) (v .size) (leftOf s v) ≡ None → allAre pad (leftOf s v) ≡ true
     → recordAt s v ≡ begunBy s (v .size) (nextOf s v)
 unfolding unitFrom unitHere orNext taken
 record-next s v g e h =
@@ -206,7 +206,7 @@ unit-long : (s : List ℕ) (v : Walk) (i c n : ℕ) → unitOf (v .format) (v .s
 unit-long s v i c n e = length-part c n (leftOf s v) (unit-stands (v .format) (v .size) (leftOf s v) i c n e .within)
 
 -- a whole record, and those behind it
-whole-walks : (s : List ℕ) (v : Walk) (i c n : ℕ) (rs : List (List ℕ)) → Good s v → unitOf (v .format) (v .size) (leftOf s v) ≡ Of i c n → i ≡ 0 → n ≤ v .size
+whole-walks : (s : List ℕ) (v : Walk) (i c n : ℕ) (rs : List (List ℕ)) → Readable s v → unitOf (v .format) (v .size) (leftOf s v) ≡ Of i c n → i ≡ 0 → n ≤ v .size
     → Walks s (behind v c n) rs → Walks s v (part c n (leftOf s v) ∷ rs)
 unfolding begunBy handed
 whole-walks s v i c n rs g e z m h = (
@@ -229,7 +229,7 @@ rest-next s v i c n room e k =
     (next-padding s (behind v c n) (ap (allAre pad) (left-behind s v c n) ∙ k .padding) ∙ next-behind s v c n (unit-at s v i c n e .left))
 
 -- a record that begins, and goes on in the next block
-split-walks : (s : List ℕ) (v : Walk) (i c n : ℕ) (rs : List (List ℕ)) → Good s v → unitOf (v .format) (v .size) (leftOf s v) ≡ Of i c n → i ≡ 1 → n ≤ v .size
+split-walks : (s : List ℕ) (v : Walk) (i c n : ℕ) (rs : List (List ℕ)) → Readable s v → unitOf (v .format) (v .size) (leftOf s v) ≡ Of i c n → i ≡ 1 → n ≤ v .size
     → CutEnd (v .format) (v .size) (drop (c + n) (leftOf s v)) → Hands s (v .size) (suc n) (nextOf s v) rs → Walks s v (onFirst (part c n (leftOf s v)) rs)
 unfolding begunBy onFirst
 split-walks s v i c n [] g e z m k h = absurd h
@@ -274,7 +274,7 @@ Handing s v o head xs t ys =
     → Walks s v (joined (xs ++ ys))
 
 -- behind a whole record
-after-whole : (s : List ℕ) (v : Walk) (i c n o : ℕ) (xs ys : List Segment) → Good s v → unitOf (v .format) (v .size) (leftOf s v) ≡ Of i c n → i ≡ 0 → n ≤ v .size
+after-whole : (s : List ℕ) (v : Walk) (i c n o : ℕ) (xs ys : List Segment) → Readable s v → unitOf (v .format) (v .size) (leftOf s v) ≡ Of i c n → i ≡ 0 → n ≤ v .size
     → Handing s (behind v c n) 0 false xs (nextOf s v) ys → o ≡ 0 → turnsFrom (v .size) o false xs .number ≡ 0
     → Hands s (v .size) (turnsFrom (v .size) o false xs .pending) (nextOf s v) (joined ys) → Walks s v (joined (segmentOf i (part c n (leftOf s v)) ∷ (xs ++ ys)))
 after-whole s v i c n o xs ys g e z m again w h k =
@@ -284,7 +284,7 @@ after-whole s v i c n o xs ys g e z m again w h k =
     (subst (λ (j : ℕ). Hands s (v .size) (turnsFrom (v .size) j false xs .pending) (nextOf s v) (joined ys)) w k)))
 
 -- behind a segment that begins a record
-after-one : (s : List ℕ) (v : Walk) (i c n o : ℕ) (xs ys : List Segment) → Good s v → unitOf (v .format) (v .size) (leftOf s v) ≡ Of i c n → i ≡ 1 → n ≤ v .size
+after-one : (s : List ℕ) (v : Walk) (i c n o : ℕ) (xs ys : List Segment) → Readable s v → unitOf (v .format) (v .size) (leftOf s v) ≡ Of i c n → i ≡ 1 → n ≤ v .size
     → cut (v .format) (v .size) (drop (c + n) (leftOf s v)) ≡ some xs → o ≡ suc n → turnsFrom (v .size) o false xs .number ≡ 0
     → Hands s (v .size) (turnsFrom (v .size) o false xs .pending) (nextOf s v) (joined ys) → Walks s v (joined (segmentOf i (part c n (leftOf s v)) ∷ (xs ++ ys)))
 after-one s v i c n o xs ys g e z m rest w h k =
@@ -296,7 +296,7 @@ after-one s v i c n o xs ys g e z m rest w h k =
     (subst (λ (j : ℕ). Hands s (v .size) j (nextOf s v) (joined ys)) (ap (λ (j : ℕ). turnsFrom (v .size) j false xs .pending) w ∙ shut .1) k))
 
 -- a segment before others, with none open
-segment-walks : (s : List ℕ) (v : Walk) (i c n : ℕ) (head : Bool) (xs ys : List Segment) → Good s v → unitOf (v .format) (v .size) (leftOf s v) ≡ Of i c n
+segment-walks : (s : List ℕ) (v : Walk) (i c n : ℕ) (head : Bool) (xs ys : List Segment) → Readable s v → unitOf (v .format) (v .size) (leftOf s v) ≡ Of i c n
     → cut (v .format) (v .size) (drop (c + n) (leftOf s v)) ≡ some xs → Handing s (behind v c n) 0 false xs (nextOf s v) ys
     → Handing s v 0 head (segmentOf i (part c n (leftOf s v)) ∷ xs) (nextOf s v) ys
 unfolding turnsFrom outcome
@@ -327,7 +327,7 @@ segment-walks s v i c n head xs ys g e rest again =
     by-turn (follows p q m) = absurd (omega arith)
 
 -- all that is left of a block
-rest-walks : (s : List ℕ) (xs : List Segment) (v : Walk) (head : Bool) (ys : List Segment) → Good s v → cut (v .format) (v .size) (leftOf s v) ≡ some xs
+rest-walks : (s : List ℕ) (xs : List Segment) (v : Walk) (head : Bool) (ys : List Segment) → Readable s v → cut (v .format) (v .size) (leftOf s v) ≡ some xs
     → Handing s v 0 head xs (nextOf s v) ys
 unfolding turnsFrom outcome
 rest-walks s [] v head ys g h = λ _ k.
@@ -346,13 +346,13 @@ rest-walks s (x ∷ xs) v head ys g h =
 -- ---- a whole block, with a record open or not
 
 -- the rest of a record ends with this segment
-ends-hands : (s : List ℕ) (v : Walk) (i c n j o : ℕ) (xs ys : List Segment) → Good s v → unitOf (v .format) (v .size) (leftOf s v) ≡ Of i c n → i ≡ 3
+ends-hands : (s : List ℕ) (v : Walk) (i c n j o : ℕ) (xs ys : List Segment) → Readable s v → unitOf (v .format) (v .size) (leftOf s v) ≡ Of i c n → i ≡ 3
     → j + n ≤ v .size → Handing s (behind v c n) 0 false xs (nextOf s v) ys → o ≡ 0 → turnsFrom (v .size) o false xs .number ≡ 0
     → Hands s (v .size) (turnsFrom (v .size) o false xs .pending) (nextOf s v) (joined ys)
     → Hands s (v .size) (suc j) (One i (v .at + c) n (behind v c n)) (joined (segmentOf i (part c n (leftOf s v)) ∷ (xs ++ ys)))
 unfolding restBy
 ends-hands s v i c n j o xs ys g e z m again w h k =
-    subst (GoesOn s (restBy s (v .size - j) (One i (v .at + c) n (behind v c n)) (λ a b. restAt s a b)))
+    subst (RestIs s (restBy s (v .size - j) (One i (v .at + c) n (behind v c n)) (λ a b. restAt s a b)))
     (sym (joined-whole (segmentOf i (part c n (leftOf s v))) (xs ++ ys) (λ y. omega arith) (λ y. omega arith))) (
       behind v c n,
       if-true _ _ _ (le-leb n (v .size - j) (omega arith)) ∙ if-true _ _ _ (eq-eqb i 3 z) ∙ ap (λ (bs : List ℕ). ends bs (behind v c n)) (unit-bytes s v i c n e),
@@ -365,7 +365,7 @@ unfolding before
 before-ends bs cs x u e = ap (before bs) e
 
 -- it goes on in the next block
-on-hands : (s : List ℕ) (v : Walk) (i c n j : ℕ) (rs : List (List ℕ)) → Good s v → unitOf (v .format) (v .size) (leftOf s v) ≡ Of i c n → i ≡ 2
+on-hands : (s : List ℕ) (v : Walk) (i c n j : ℕ) (rs : List (List ℕ)) → Readable s v → unitOf (v .format) (v .size) (leftOf s v) ≡ Of i c n → i ≡ 2
     → j + n ≤ v .size → CutEnd (v .format) (v .size) (drop (c + n) (leftOf s v)) → Hands s (v .size) (suc (j + n)) (nextOf s v) rs
     → Hands s (v .size) (suc j) (One i (v .at + c) n (behind v c n)) (onFirst (part c n (leftOf s v)) rs)
 unfolding restBy onFirst
@@ -379,7 +379,7 @@ on-hands s v i c n j (r ∷ rs) g e z m k (u, q, h) =
       h,
     )
 
-after-two : (s : List ℕ) (v : Walk) (i c n j o : ℕ) (xs ys : List Segment) → Good s v → unitOf (v .format) (v .size) (leftOf s v) ≡ Of i c n → i ≡ 2
+after-two : (s : List ℕ) (v : Walk) (i c n j o : ℕ) (xs ys : List Segment) → Readable s v → unitOf (v .format) (v .size) (leftOf s v) ≡ Of i c n → i ≡ 2
     → j + n ≤ v .size → cut (v .format) (v .size) (drop (c + n) (leftOf s v)) ≡ some xs → o ≡ suc (j + n) → turnsFrom (v .size) o false xs .number ≡ 0
     → Hands s (v .size) (turnsFrom (v .size) o false xs .pending) (nextOf s v) (joined ys)
     → Hands s (v .size) (suc j) (One i (v .at + c) n (behind v c n)) (joined (segmentOf i (part c n (leftOf s v)) ∷ (xs ++ ys)))
@@ -392,7 +392,7 @@ after-two s v i c n j o xs ys g e z m rest w h k =
     (subst (λ (a : ℕ). Hands s (v .size) a (nextOf s v) (joined ys)) (ap (λ (a : ℕ). turnsFrom (v .size) a false xs .pending) w ∙ shut .1) k))
 
 -- the first segment of a block, with a record open
-first-hands : (s : List ℕ) (v : Walk) (i c n j : ℕ) (xs ys : List Segment) → Good s v → unitOf (v .format) (v .size) (leftOf s v) ≡ Of i c n
+first-hands : (s : List ℕ) (v : Walk) (i c n j : ℕ) (xs ys : List Segment) → Readable s v → unitOf (v .format) (v .size) (leftOf s v) ≡ Of i c n
     → cut (v .format) (v .size) (drop (c + n) (leftOf s v)) ≡ some xs → Handing s (behind v c n) 0 false xs (nextOf s v) ys
     → turnsFrom (v .size) (suc j) true (segmentOf i (part c n (leftOf s v)) ∷ xs) .number ≡ 0
     → Hands s (v .size) (turnsFrom (v .size) (suc j) true (segmentOf i (part c n (leftOf s v)) ∷ xs) .pending) (nextOf s v) (joined ys)
@@ -431,7 +431,7 @@ first-hands s v i c n j xs ys g e rest again =
     by-turn (follows p q m) = by-two (eqb i 2) refl p m
 
 -- the units of a block from its first on, with q open
-units-hands : (s : List ℕ) (v : Walk) (q : ℕ) (x : Segment) (xs ys : List Segment) → Good s v → cut (v .format) (v .size) (leftOf s v) ≡ some (x ∷ xs)
+units-hands : (s : List ℕ) (v : Walk) (q : ℕ) (x : Segment) (xs ys : List Segment) → Readable s v → cut (v .format) (v .size) (leftOf s v) ≡ some (x ∷ xs)
     → turnsFrom (v .size) q true (x ∷ xs) .number ≡ 0 → Hands s (v .size) (turnsFrom (v .size) q true (x ∷ xs) .pending) (nextOf s v) (joined ys)
     → Hands s (v .size) q (unitHere s v) (joined ((x ∷ xs) ++ ys))
 unfolding unitHere taken
@@ -535,7 +535,7 @@ block-hands s w b start n q ys some' inside = by-units (units (w .format) b (w .
         let v : Walk = moved w (start + w .offset) (n - w .offset) in
         let place : start + w .offset + (n - w .offset) ≡ start + n = omega arith in
         let left : leftOf s v ≡ drop (w .offset) l = left-of fits in
-        let good : Good s v = record { some = some'; inside = inside-is s v (omega (arith, place)) } in
+        let good : Readable s v = record { some = some'; inside = inside-is s v (omega (arith, place)) } in
         let next : unitIn s (opened w (dataFrom Data (start + n) (decode (drop (start + n) s)))) ≡ nextOf s v
         = ap (λ (m : ℕ). unitIn s (opened w (dataFrom Data m (decode (drop m s))))) (sym place)
         ∙ ap (unitIn s) (opened-lengths w v (dataFrom Data (v .at + v .left) (decode (drop (v .at + v .left) s))) refl refl refl) in
@@ -563,7 +563,7 @@ pub next-walks : (s : List ℕ) (v : Walk) (rs : List (List ℕ)) → (v .size �
     → Hands s (v .size) 0 (unitIn s (opened v (dataFrom Data (v .at) (decode (drop (v .at) s))))) rs → Walks s v rs
 unfolding allAre
 next-walks s v rs some' z h k =
-    let g : Good s v = record { some = some'; inside = inside-is s v (omega arith) } in
+    let g : Readable s v = record { some = some'; inside = inside-is s v (omega arith) } in
     let none' : leftOf s v ≡ [] = nothing-left s v z in
     let place : v .at ≡ v .at + v .left = omega arith in
     walks-by s v rs

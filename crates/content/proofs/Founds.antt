@@ -49,10 +49,10 @@ pub ruleset begins = (begin-refused, begin-done, said, needs)
 
 -- ---- records passed
 
-pub record Passed (s : List ℕ) (from : Walk) (records left : ℕ) (w : Walk) : Type 0 where
+pub record RecordsBehind (s : List ℕ) (from : Walk) (records left : ℕ) (w : Walk) : Type 0 where
   pub same : passed s left w ≡ passed s records from
 
-pub passed-none : (s : List ℕ) (from : Walk) (records : ℕ) → Passed s from records records from
+pub passed-none : (s : List ℕ) (from : Walk) (records : ℕ) → RecordsBehind s from records records from
 passed-none s from records = record { same = refl }
 
 passed-one : (s : List ℕ) (left : ℕ) (w : Walk) → 0 < left → passed s left w ≡ passedBy (recordAt s w) (λ v. passed s (left - 1) v)
@@ -78,22 +78,22 @@ by-nothing (whole a m u) f e = let z : _≡_ {A = ℕ} 0 1 = cc in absurd (omega
 by-nothing (split bs u) f e = let z : _≡_ {A = ℕ} 0 1 = cc in absurd (omega arith)
 by-nothing nothing f e = refl
 
-pub passed-whole : (s : List ℕ) (from : Walk) (records left : ℕ) (w : Walk) (start n : ℕ) (v : Walk) (m : Measured) → Passed s from records left w → 0 < left
-    → m ≡ measuredBy (recordAt s w) → m ≡ Whole start n v → Passed s from records (left - 1) v
+pub passed-whole : (s : List ℕ) (from : Walk) (records left : ℕ) (w : Walk) (start n : ℕ) (v : Walk) (m : Measured) → RecordsBehind s from records left w → 0 < left
+    → m ≡ measuredBy (recordAt s w) → m ≡ Whole start n v → RecordsBehind s from records (left - 1) v
 passed-whole s from records left w start n v m c h e q =
     record { same = sym (passed-one s left w h ∙ by-whole start n v (recordAt s w) (λ u. passed s (left - 1) u) (sym e ∙ q)) ∙ c .same }
 
-pub passed-split : (s : List ℕ) (from : Walk) (records left : ℕ) (w : Walk) (n : ℕ) (v : Walk) (m : Measured) → Passed s from records left w → 0 < left
-    → m ≡ measuredBy (recordAt s w) → m ≡ Split n v → Passed s from records (left - 1) v
+pub passed-split : (s : List ℕ) (from : Walk) (records left : ℕ) (w : Walk) (n : ℕ) (v : Walk) (m : Measured) → RecordsBehind s from records left w → 0 < left
+    → m ≡ measuredBy (recordAt s w) → m ≡ Split n v → RecordsBehind s from records (left - 1) v
 passed-split s from records left w n v m c h e q =
     record { same = sym (passed-one s left w h ∙ by-split n v (recordAt s w) (λ u. passed s (left - 1) u) (sym e ∙ q)) ∙ c .same }
 
-pub passed-nothing : (s : List ℕ) (from : Walk) (records left : ℕ) (w : Walk) (m : Measured) → Passed s from records left w → 0 < left
+pub passed-nothing : (s : List ℕ) (from : Walk) (records left : ℕ) (w : Walk) (m : Measured) → RecordsBehind s from records left w → 0 < left
     → m ≡ measuredBy (recordAt s w) → m ≡ Nothing → Nowhere ≡ passed s records from
 passed-nothing s from records left w m c h e q =
     sym (passed-one s left w h ∙ by-nothing (recordAt s w) (λ u. passed s (left - 1) u) (sym e ∙ q)) ∙ c .same
 
-pub passed-all : (s : List ℕ) (from : Walk) (records left : ℕ) (w : Walk) → Passed s from records left w → left ≤ 0 → Behind w ≡ passed s records from
+pub passed-all : (s : List ℕ) (from : Walk) (records left : ℕ) (w : Walk) → RecordsBehind s from records left w → left ≤ 0 → Behind w ≡ passed s records from
 unfolding passed
 passed-all s from records zero w c h = c .same
 passed-all s from records (suc k) w c h = absurd (omega arith)

@@ -30,7 +30,7 @@ use Rattle.volume.specs.Meaning.{onFirst, joined}
 use Rattle.volume.specs.Step.{segmentsOf}
 use Rattle.reading.proofs.Assembled.{InTurn, starts, follows, in-turn}
 use Rattle.content.specs.Section.{dataFrom}
-use Rattle.content.specs.Held.{plus, Room, adding, heldBy, heldF, heldFrom, fileHeld}
+use Rattle.content.specs.Held.{plus, InRegister, adding, heldBy, heldF, heldFrom, fileHeld}
 use Rattle.content.specs.declared.Walk.{Walk}
 use Rattle.content.specs.declared.holding.FileHeld.{FileHeld}
 use Rattle.content.specs.declared.section.Extent.{Extent}
@@ -162,7 +162,7 @@ summing-over s w h at x c e q =
     adding-over h at ∙ ap (adding h) (sym (held-over s (w .format) (w .size) (w .offset) at (sym e ∙ q))) ∙ c .left
 
 pub sum-room : (s : List ℕ) (w : Walk) (h : Held) (at start n : ℕ) (x : Extent) (k : Held) → Summing s w h at → x ≡ dataFrom Data at (decode (drop at s))
-    → x ≡ Block start n → k ≡ heldIn (w .format) (w .size) (w .offset) (take (start + n - start) (drop start s)) → Room (plus h k)
+    → x ≡ Block start n → k ≡ heldIn (w .format) (w .size) (w .offset) (take (start + n - start) (drop start s)) → InRegister (plus h k)
 sum-room s w h at start n x k c e q p =
     let m = more-of s w h at start n x k e q p in
     record {

@@ -15,18 +15,18 @@ use Rattle.base.specs.Part.{part, putAt, putIn}
 use Rattle.base.proofs.Parts.{length-part, length-put, put-put}
 use Rattle.base.proofs.Copies.{put-in, length-put-in}
 use Rattle.content.specs.Walk.{Inside, isInside, unitNext, unitFrom, Rest, ends, fails, before, restBy, restAt, Record, whole, split, nothing, splitBy, begunBy, recordAt}
-use Rattle.content.specs.Measure.{isEnded, restBytes, bytesBehind, GoesOn, recordBytes, isSplit, SplitAt}
+use Rattle.content.specs.Measure.{isEnded, restBytes, bytesBehind, RestFits, recordBytes, isSplit, SplitAt}
 use Rattle.content.specs.declared.Walk.{Walk}
 use Rattle.content.specs.declared.unit.Taken.{Taken}
 use Rattle.content.specs.declared.unit.Taken.the-variants.{One, Nothing}
 use Rattle.content.proofs.Units.{inside-true}
-use Rattle.content.proofs.Rests.{Behind, next-behind, from-behind, rest-at, ended-before, rest-roomy}
+use Rattle.content.proofs.Rests.{UnitBehind, next-behind, from-behind, rest-at, ended-before, rest-roomy}
 use Rattle.content.proofs.Measures.{unit-falls}
 
 -- ---- segments one by one
 
 -- the next segment of a record that ends: it is the last, or the others follow it
-pub record Going (s : List ℕ) (w : Walk) (i start n : ℕ) (v : Walk) : Type 0 where
+pub record JoinGoing (s : List ℕ) (w : Walk) (i start n : ℕ) (v : Walk) : Type 0 where
   pub long : length (part start n s) ≡ n
   pub inside : Inside s v
   pub some : n ≤ length (bytesBehind s w)
@@ -72,7 +72,7 @@ goes-by s room i start n v small =
         let both = ended-roomy s (room - n) v (omega arith) q in
         (bytes-before (part start n s) (restAt s (room - n) v) q ∙ ap (λ (l : List ℕ). part start n s ++ l) (both .0), both .1)
 
-pub going : (s : List ℕ) (w : Walk) (at m i start n : ℕ) (v : Walk) (t : Taken) → GoesOn s w at m → t ≡ unitNext s w → t ≡ One i start n v → Going s w i start n v
+pub going : (s : List ℕ) (w : Walk) (at m i start n : ℕ) (v : Walk) (t : Taken) → RestFits s w at m → t ≡ unitNext s w → t ≡ One i start n v → JoinGoing s w i start n v
 unfolding bytesBehind
 going s w at m i start n v t c e q = record {
   long = long;
@@ -82,7 +82,7 @@ going s w at m i start n v t c e q = record {
   more = λ z. (ap restBytes k ∙ ways .1 z .0, ways .1 z .1);
 }
   where
-    b : Behind s w start n v
+    b : UnitBehind s w start n v
     b = next-behind s w i start n v (sym e ∙ q)
 
     long : length (part start n s) ≡ n
@@ -105,18 +105,18 @@ going s w at m i start n v t c e q = record {
     some : n ≤ length (restBytes (restAt s (w .size) w))
     some = by-flag (eqb i 3) refl
 
-pub not-nothing : (s : List ℕ) (w : Walk) (at m : ℕ) (t : Taken) → GoesOn s w at m → t ≡ unitNext s w → t ≡ Nothing → ⊥
+pub not-nothing : (s : List ℕ) (w : Walk) (at m : ℕ) (t : Taken) → RestFits s w at m → t ≡ unitNext s w → t ≡ Nothing → ⊥
 unfolding isEnded restBy
 not-nothing s w at m t c e q =
     false≢true (ap isEnded (sym (rest-at s (w .size) w ∙ ap (λ (x : Taken). restBy s (w .size) x (λ r u. restAt s r u)) (sym e ∙ q))) ∙ c .ended)
 
 -- with what is behind w put from `at` on, the buffer is as with what is behind the first walk put from its place on
 pub record Joining (s old : List ℕ) (place : ℕ) (from : Walk) (out : List ℕ) (at : ℕ) (w : Walk) : Type 0 where
-  pub goes : GoesOn s w at (length out)
+  pub goes : RestFits s w at (length out)
   pub long : length out ≡ length old
   pub same : putAt out at (bytesBehind s w) ≡ putAt old place (bytesBehind s from)
 
-pub joining-none : (s old : List ℕ) (place : ℕ) (from : Walk) → GoesOn s from place (length old) → Joining s old place from old place from
+pub joining-none : (s old : List ℕ) (place : ℕ) (from : Walk) → RestFits s from place (length old) → Joining s old place from old place from
 joining-none s old place from h = record { goes = h; long = refl; same = refl }
 
 pub joining-nothing : (s old : List ℕ) (place : ℕ) (from : Walk) (out : List ℕ) (at : ℕ) (w : Walk) (t : Taken) → Joining s old place from out at w → t ≡ unitNext s w
@@ -240,7 +240,7 @@ splitting s w m i start n v t c e q = record {
   bytes = ap recordBytes k ∙ ways .0;
 }
   where
-    b : Behind s w start n v
+    b : UnitBehind s w start n v
     b = from-behind s w i start n v (c .inside) (sym e ∙ q)
 
     k : recordAt s w ≡ begunBy s (w .size) (One i start n v)
@@ -270,7 +270,7 @@ pub first-within : (s : List ℕ) (w : Walk) (m i start n : ℕ) (v : Walk) (t :
 first-within s w m i start n v t c e q = from-behind s w i start n v (c .inside) (sym e ∙ q) .within
 
 pub rest-goes : (s old : List ℕ) (w : Walk) (i start n : ℕ) (v : Walk) (t : Taken) → SplitAt s w (length old) → t ≡ unitFrom s w → t ≡ One i start n v
-    → GoesOn s v n (length old)
+    → RestFits s v n (length old)
 rest-goes s old w i start n v t c e q =
     let g = splitting s w (length old) i start n v t c e q in
     record { inside = g .inside; ended = g .ended; fits = split-sum s w (length old) i start n v t c e q }
@@ -286,7 +286,7 @@ pub ruleset joins = (join-nothing, first-within, rest-goes, join-whole, split-he
 
 -- ---- from the first segment on
 
-pub first-room : (s old : List ℕ) (start n : ℕ) (v : Walk) (l : List ℕ) → start + n ≤ length s → GoesOn s v n (length old) → l ≡ part start n s
+pub first-room : (s old : List ℕ) (start n : ℕ) (v : Walk) (l : List ℕ) → start + n ≤ length s → RestFits s v n (length old) → l ≡ part start n s
     → 0 + length l ≤ length old
 first-room s old start n v l h c e =
     let a : length (part start n s) ≡ n = length-part start n s h in
@@ -294,10 +294,10 @@ first-room s old start n v l h c e =
     let f = c .fits in
     omega arith
 
-pub still-goes : (s old out : List ℕ) (n : ℕ) (v : Walk) → GoesOn s v n (length old) → length out ≡ length old → GoesOn s v n (length out)
+pub still-goes : (s old out : List ℕ) (n : ℕ) (v : Walk) → RestFits s v n (length old) → length out ≡ length old → RestFits s v n (length out)
 still-goes s old out n v c e = let f = c .fits in record { inside = c .inside; ended = c .ended; fits = omega arith }
 
-pub joined-behind : (s old : List ℕ) (start n : ℕ) (v : Walk) (l out new : List ℕ) → start + n ≤ length s → GoesOn s v n (length old) → l ≡ part start n s
+pub joined-behind : (s old : List ℕ) (start n : ℕ) (v : Walk) (l out new : List ℕ) → start + n ≤ length s → RestFits s v n (length old) → l ≡ part start n s
     → out ≡ putIn old 0 l → new ≡ putAt out n (bytesBehind s v) → new ≡ putAt old 0 (part start n s ++ bytesBehind s v)
 joined-behind s old start n v l out new h c e p q =
     let a : length (part start n s) ≡ n = length-part start n s h in

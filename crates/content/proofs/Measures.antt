@@ -58,7 +58,7 @@ rest-more s room w i start n v t e q h z y =
 
 -- ---- the loop over segments: with `total` bytes passed, the rest is as long as the whole
 
-pub record Resting (s : List ℕ) (most : ℕ) (from : Walk) (room total : ℕ) (w : Walk) : Type 0 where
+pub record RestMeasured (s : List ℕ) (most : ℕ) (from : Walk) (room total : ℕ) (w : Walk) : Type 0 where
   pub inside : Inside s w
   pub sum : total + room ≡ most
   pub same : longer total (tailBy (restAt s room w)) ≡ tailBy (restAt s most from)
@@ -68,23 +68,23 @@ unfolding longer
 longer-none (Ends n v) = let e : 0 + n ≡ n = omega arith in ap (λ (m : ℕ). Ends m v) e
 longer-none Fails = refl
 
-pub resting-none : (s : List ℕ) (most : ℕ) (from : Walk) → Inside s from → Resting s most from most 0 from
+pub resting-none : (s : List ℕ) (most : ℕ) (from : Walk) → Inside s from → RestMeasured s most from most 0 from
 resting-none s most from h = record { inside = h; sum = omega arith; same = longer-none _ }
 
-rest-fails : (s : List ℕ) (most : ℕ) (from : Walk) (room total : ℕ) (w : Walk) → Resting s most from room total w → restAt s room w ≡ fails
+rest-fails : (s : List ℕ) (most : ℕ) (from : Walk) (room total : ℕ) (w : Walk) → RestMeasured s most from room total w → restAt s room w ≡ fails
     → Fails ≡ tailBy (restAt s most from)
 unfolding longer tailBy
 rest-fails s most from room total w c e = ap (λ (x : Rest). longer total (tailBy x)) (sym e) ∙ c .same
 
-pub resting-nothing : (s : List ℕ) (most : ℕ) (from : Walk) (room total : ℕ) (w : Walk) (t : Taken) → Resting s most from room total w → t ≡ unitNext s w
+pub resting-nothing : (s : List ℕ) (most : ℕ) (from : Walk) (room total : ℕ) (w : Walk) (t : Taken) → RestMeasured s most from room total w → t ≡ unitNext s w
     → t ≡ Nothing → Fails ≡ tailBy (restAt s most from)
 resting-nothing s most from room total w t c e q = rest-fails s most from room total w c (rest-nothing s room w t e q)
 
-pub resting-over : (s : List ℕ) (most : ℕ) (from : Walk) (room total : ℕ) (w : Walk) (i start n : ℕ) (v : Walk) (t : Taken) → Resting s most from room total w
+pub resting-over : (s : List ℕ) (most : ℕ) (from : Walk) (room total : ℕ) (w : Walk) (i start n : ℕ) (v : Walk) (t : Taken) → RestMeasured s most from room total w
     → t ≡ unitNext s w → t ≡ One i start n v → room < n → Fails ≡ tailBy (restAt s most from)
 resting-over s most from room total w i start n v t c e q h = rest-fails s most from room total w c (rest-over s room w i start n v t e q h)
 
-pub resting-other : (s : List ℕ) (most : ℕ) (from : Walk) (room total : ℕ) (w : Walk) (i start n : ℕ) (v : Walk) (t : Taken) → Resting s most from room total w
+pub resting-other : (s : List ℕ) (most : ℕ) (from : Walk) (room total : ℕ) (w : Walk) (i start n : ℕ) (v : Walk) (t : Taken) → RestMeasured s most from room total w
     → t ≡ unitNext s w → t ≡ One i start n v → n ≤ room → (i ≡ 3 → ⊥) → (i ≡ 2 → ⊥) → Fails ≡ tailBy (restAt s most from)
 resting-other s most from room total w i start n v t c e q h z y = rest-fails s most from room total w c (rest-other s room w i start n v t e q h z y)
 
@@ -92,7 +92,7 @@ resting-other s most from room total w i start n v t c e q h z y = rest-fails s 
 pub segment-long : (s : List ℕ) (w : Walk) (i start n : ℕ) (v : Walk) (t : Taken) → t ≡ unitNext s w → t ≡ One i start n v → length (part start n s) ≡ n
 segment-long s w i start n v t e q = length-part start n s (next-behind s w i start n v (sym e ∙ q) .within)
 
-pub resting-ends : (s : List ℕ) (most : ℕ) (from : Walk) (room total : ℕ) (w : Walk) (i start n : ℕ) (v : Walk) (t : Taken) → Resting s most from room total w
+pub resting-ends : (s : List ℕ) (most : ℕ) (from : Walk) (room total : ℕ) (w : Walk) (i start n : ℕ) (v : Walk) (t : Taken) → RestMeasured s most from room total w
     → t ≡ unitNext s w → t ≡ One i start n v → n ≤ room → i ≡ 3 → Ends (total + n) v ≡ tailBy (restAt s most from)
 unfolding longer tailBy
 resting-ends s most from room total w i start n v t c e q h z =
@@ -104,8 +104,8 @@ unfolding longer tailBy before
 longer-before k n bs (ends cs v) h = let e : k + length (bs ++ cs) ≡ k + n + length cs = omega (arith, length-append bs cs) in ap (λ (m : ℕ). Ends m v) e
 longer-before k n bs fails h = refl
 
-pub resting-more : (s : List ℕ) (most : ℕ) (from : Walk) (room total : ℕ) (w : Walk) (i start n : ℕ) (v : Walk) (t : Taken) → Resting s most from room total w
-    → t ≡ unitNext s w → t ≡ One i start n v → n ≤ room → (i ≡ 3 → ⊥) → i ≡ 2 → Resting s most from (room - n) (total + n) v
+pub resting-more : (s : List ℕ) (most : ℕ) (from : Walk) (room total : ℕ) (w : Walk) (i start n : ℕ) (v : Walk) (t : Taken) → RestMeasured s most from room total w
+    → t ≡ unitNext s w → t ≡ One i start n v → n ≤ room → (i ≡ 3 → ⊥) → i ≡ 2 → RestMeasured s most from (room - n) (total + n) v
 resting-more s most from room total w i start n v t c e q h z y =
     let u = c .sum in
     record {
@@ -115,7 +115,7 @@ resting-more s most from room total w i start n v t c e q h z y =
           ∙ ap (λ (x : Rest). longer total (tailBy x)) (sym (rest-more s room w i start n v t e q h z y)) ∙ c .same;
     }
 
-pub total-fits : (s : List ℕ) (most : ℕ) (from : Walk) (room total n : ℕ) (w : Walk) → Resting s most from room total w → n ≤ room → most < 18446744073709551616
+pub total-fits : (s : List ℕ) (most : ℕ) (from : Walk) (room total n : ℕ) (w : Walk) → RestMeasured s most from room total w → n ≤ room → most < 18446744073709551616
     → Fits w64 (total + n)
 total-fits s most from room total n w c h k = let u = c .sum in omega arith
 
@@ -139,51 +139,51 @@ unfolding recordAt measuredBy
 record-outside s w b h e t = sym (ap measuredBy (if-false _ _ _ (ne-eqb (w .size) 0 h) ∙ if-false _ _ _ (sym e ∙ not-true b t)))
 
 -- a walk by which a record can be read
-pub record Good (s : List ℕ) (w : Walk) : Type 0 where
+pub record Readable (s : List ℕ) (w : Walk) : Type 0 where
   pub some : w .size ≡ 0 → ⊥
   pub inside : isInside s w ≡ true
 
-pub good : (s : List ℕ) (w : Walk) (b : Bool) → (w .size ≡ 0 → ⊥) → b ≡ isInside s w → not b ≡ false → Good s w
+pub good : (s : List ℕ) (w : Walk) (b : Bool) → (w .size ≡ 0 → ⊥) → b ≡ isInside s w → not b ≡ false → Readable s w
 good s w b h e t = record { some = h; inside = sym e ∙ not-false b t }
 
 pub good-inside : (s : List ℕ) (w : Walk) (b : Bool) → b ≡ isInside s w → not b ≡ false → Inside s w
 good-inside s w b e t = inside-true s w b e (not-false b t)
 
-pub record-begun : (s : List ℕ) (w : Walk) (t : Taken) → Good s w → t ≡ unitFrom s w → recordAt s w ≡ begunBy s (w .size) t
+pub record-begun : (s : List ℕ) (w : Walk) (t : Taken) → Readable s w → t ≡ unitFrom s w → recordAt s w ≡ begunBy s (w .size) t
 unfolding recordAt
 record-begun s w t g e =
     if-false _ _ _ (ne-eqb (w .size) 0 (g .some)) ∙ if-true _ _ _ (g .inside) ∙ ap (begunBy s (w .size)) (sym e)
 
-pub begun-nothing : (s : List ℕ) (w : Walk) (t : Taken) → Good s w → t ≡ unitFrom s w → t ≡ Nothing → None ≡ measuredBy (recordAt s w)
+pub begun-nothing : (s : List ℕ) (w : Walk) (t : Taken) → Readable s w → t ≡ unitFrom s w → t ≡ Nothing → None ≡ measuredBy (recordAt s w)
 unfolding begunBy measuredBy
 begun-nothing s w t g e q = sym (ap measuredBy (record-begun s w t g e ∙ ap (begunBy s (w .size)) q))
 
-begun-one : (s : List ℕ) (w : Walk) (i start n : ℕ) (v : Walk) (t : Taken) → Good s w → t ≡ unitFrom s w → t ≡ One i start n v
+begun-one : (s : List ℕ) (w : Walk) (i start n : ℕ) (v : Walk) (t : Taken) → Readable s w → t ≡ unitFrom s w → t ≡ One i start n v
     → recordAt s w ≡ begunBy s (w .size) (One i start n v)
 begun-one s w i start n v t g e q = record-begun s w t g e ∙ ap (begunBy s (w .size)) q
 
-pub begun-over : (s : List ℕ) (w : Walk) (i start n : ℕ) (v : Walk) (t : Taken) → Good s w → t ≡ unitFrom s w → t ≡ One i start n v → w .size < n
+pub begun-over : (s : List ℕ) (w : Walk) (i start n : ℕ) (v : Walk) (t : Taken) → Readable s w → t ≡ unitFrom s w → t ≡ One i start n v → w .size < n
     → None ≡ measuredBy (recordAt s w)
 unfolding begunBy measuredBy
 begun-over s w i start n v t g e q h = sym (ap measuredBy (begun-one s w i start n v t g e q ∙ if-false _ _ _ (lt-leb n (w .size) h)))
 
-pub is-whole : (s : List ℕ) (w : Walk) (i start n : ℕ) (v : Walk) (t : Taken) → Good s w → t ≡ unitFrom s w → t ≡ One i start n v → n ≤ w .size → i ≡ 0
+pub is-whole : (s : List ℕ) (w : Walk) (i start n : ℕ) (v : Walk) (t : Taken) → Readable s w → t ≡ unitFrom s w → t ≡ One i start n v → n ≤ w .size → i ≡ 0
     → recordAt s w ≡ whole start n v
 unfolding begunBy
 is-whole s w i start n v t g e q h z = begun-one s w i start n v t g e q ∙ if-true _ _ _ (le-leb n (w .size) h) ∙ if-true _ _ _ (eq-eqb i 0 z)
 
-pub begun-whole : (s : List ℕ) (w : Walk) (i start n : ℕ) (v : Walk) (t : Taken) → Good s w → t ≡ unitFrom s w → t ≡ One i start n v → n ≤ w .size → i ≡ 0
+pub begun-whole : (s : List ℕ) (w : Walk) (i start n : ℕ) (v : Walk) (t : Taken) → Readable s w → t ≡ unitFrom s w → t ≡ One i start n v → n ≤ w .size → i ≡ 0
     → Whole start n v ≡ measuredBy (recordAt s w)
 unfolding measuredBy
 begun-whole s w i start n v t g e q h z = sym (ap measuredBy (is-whole s w i start n v t g e q h z))
 
-pub begun-other : (s : List ℕ) (w : Walk) (i start n : ℕ) (v : Walk) (t : Taken) → Good s w → t ≡ unitFrom s w → t ≡ One i start n v → n ≤ w .size → (i ≡ 0 → ⊥)
+pub begun-other : (s : List ℕ) (w : Walk) (i start n : ℕ) (v : Walk) (t : Taken) → Readable s w → t ≡ unitFrom s w → t ≡ One i start n v → n ≤ w .size → (i ≡ 0 → ⊥)
     → (i ≡ 1 → ⊥) → None ≡ measuredBy (recordAt s w)
 unfolding begunBy measuredBy
 begun-other s w i start n v t g e q h z y =
     sym (ap measuredBy (begun-one s w i start n v t g e q ∙ if-true _ _ _ (le-leb n (w .size) h) ∙ if-false _ _ _ (ne-eqb i 0 z) ∙ if-false _ _ _ (ne-eqb i 1 y)))
 
-pub begun-split : (s : List ℕ) (w : Walk) (i start n : ℕ) (v : Walk) (t : Taken) → Good s w → t ≡ unitFrom s w → t ≡ One i start n v → n ≤ w .size → (i ≡ 0 → ⊥)
+pub begun-split : (s : List ℕ) (w : Walk) (i start n : ℕ) (v : Walk) (t : Taken) → Readable s w → t ≡ unitFrom s w → t ≡ One i start n v → n ≤ w .size → (i ≡ 0 → ⊥)
     → i ≡ 1 → recordAt s w ≡ splitBy (part start n s) (restAt s (w .size - n) v)
 unfolding begunBy
 begun-split s w i start n v t g e q h z y =
@@ -203,7 +203,7 @@ tail-ends bs (ends cs v) n m u h e =
     ap₂ Split k b
 tail-ends bs fails n m u h e = let z : _≡_ {A = ℕ} 0 1 = cc in absurd (omega arith)
 
-pub split-fails : (s : List ℕ) (w : Walk) (i start n : ℕ) (v : Walk) (t : Taken) (x : Tail) → Good s w → t ≡ unitFrom s w → t ≡ One i start n v → n ≤ w .size
+pub split-fails : (s : List ℕ) (w : Walk) (i start n : ℕ) (v : Walk) (t : Taken) (x : Tail) → Readable s w → t ≡ unitFrom s w → t ≡ One i start n v → n ≤ w .size
     → (i ≡ 0 → ⊥) → i ≡ 1 → x ≡ tailBy (restAt s (w .size - n) v) → x ≡ Fails → None ≡ measuredBy (recordAt s w)
 split-fails s w i start n v t x g e q h z y k f =
     sym (ap measuredBy (begun-split s w i start n v t g e q h z y) ∙ tail-fails (part start n s) (restAt s (w .size - n) v) (sym k ∙ f))
@@ -211,7 +211,7 @@ split-fails s w i start n v t x g e q h z y k f =
 pub from-long : (s : List ℕ) (w : Walk) (i start n : ℕ) (v : Walk) (t : Taken) → Inside s w → t ≡ unitFrom s w → t ≡ One i start n v → length (part start n s) ≡ n
 from-long s w i start n v t h e q = length-part start n s (from-behind s w i start n v h (sym e ∙ q) .within)
 
-pub split-ends : (s : List ℕ) (w : Walk) (i start n : ℕ) (v : Walk) (t : Taken) (x : Tail) (m : ℕ) (u : Walk) → Good s w → t ≡ unitFrom s w → t ≡ One i start n v
+pub split-ends : (s : List ℕ) (w : Walk) (i start n : ℕ) (v : Walk) (t : Taken) (x : Tail) (m : ℕ) (u : Walk) → Readable s w → t ≡ unitFrom s w → t ≡ One i start n v
     → n ≤ w .size → (i ≡ 0 → ⊥) → i ≡ 1 → x ≡ tailBy (restAt s (w .size - n) v) → x ≡ Ends m u → Split (n + m) u ≡ measuredBy (recordAt s w)
 split-ends s w i start n v t x m u g e q h z y k f =
     sym (ap measuredBy (begun-split s w i start n v t g e q h z y)

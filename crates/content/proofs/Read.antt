@@ -30,7 +30,7 @@ use Rattle.volume.specs.Fault.{valueOf, secondHeaderFault, outcomeIn, blockFaul
 use Rattle.volume.specs.Step.{Event, begins, continues, holds, kindIn, bytesIn, segmentsOf, segmentsIn, goesOnAfter, firstAfter, secondAfter, pendingAfter, stateAfter, eventsOf}
 use Rattle.volume.specs.Run.{runs, imageVerdict}
 use Rattle.volume.specs.Meaning.{handedOut}
-use Rattle.volume.specs.Accepted.{All, MayEnd, behind}
+use Rattle.volume.specs.Accepted.{All, MayEnd, stateBehind}
 use Rattle.volume.proofs.Accepted.{accepted-iff}
 use Rattle.order.proofs.Moves.{Stage, stage, before, within, fileOver, Numbered, Move, stays, nextReel, header1, nextFile as newFile, header2, datum, eof1, eov1, finish, due-goes}
 use Rattle.reading.proofs.Stages.{View, view, Holds, isOpen, second-same}
@@ -43,7 +43,7 @@ use Rattle.content.specs.declared.NextFile.{NextFile}
 use Rattle.content.specs.declared.part.Part.{Part}
 use Rattle.content.specs.declared.part.Part.the-variants.{File, Section, Block}
 use Rattle.content.proofs.Parts.{stands}
-use Rattle.content.proofs.Searches.{ItemAt, item-at, InOrder, parts-on, parts-block, parts-section, parts-file, data-from, Follows, follows-here, Passes, open-step}
+use Rattle.content.proofs.Searches.{ItemStands, item-at, InOrder, parts-on, parts-block, parts-section, parts-file, data-from, Follows, follows-here, Passes, open-step}
 use Rattle.volume.proofs.Events.{handed-more, handed-none}
 use Rattle.order.proofs.Groups.{labels, second-behind, block-data, mark-data, label-labels}
 use Rattle.content.proofs.Phases.{block-no-mark, record-some}
@@ -56,7 +56,7 @@ pub record Marked (s : List ℕ) (ps : List Part) (m : ℕ) : Type 0 where
   pub fits : m ≤ length s
   pub follows : Follows s (fileIn s ps) m
 
--- a file with its first HDR1 and HDR2 at places a and b, and the parts behind it
+-- a file with its first HDR1 and HDR2 at places a and b, and the parts stateBehind it
 pub record FileRead (s : List ℕ) (a b : ℕ) (first second : List ℕ) (ps : List Part) : Type 0 where
   pub hdr1 : part a 80 s ≡ first
   pub hdr2 : part b 80 s ≡ second
@@ -66,7 +66,7 @@ pub record FileRead (s : List ℕ) (a b : ℕ) (first second : List ℕ) (ps : L
   pub body : Marked s ps (markFrom (b + 80) (decode (drop (b + 80) s)))
   pub next : fileIn s ps ≡ nextFile s (fileAt s a b)
 
--- a data block without fault in a section with this HDR2, with q open, and the parts behind it
+-- a data block without fault in a section with this HDR2, with q open, and the parts stateBehind it
 pub record BlockRead (s second : List ℕ) (q start n : ℕ) (ps : List Part) : Type 0 where
   pub some : valueOf (recordLengthOf second) ≡ 0 → ⊥
   pub within : start + n ≤ length s
@@ -96,7 +96,7 @@ unfolding stateAfter
 in-order s [] t at all e good = tt
 in-order s (x ∷ xs) t at (q, f, all) e good =
     let c = item-at s at x xs e (all-first x xs good) in
-    (q, c, f .due, in-order s xs (behind t x q) (placeBehind at x) all (c .rest) (all-rest x xs good))
+    (q, c, f .due, in-order s xs (stateBehind t x q) (placeBehind at x) all (c .rest) (all-rest x xs good))
 
 -- ---- the labels of a file by their places
 
@@ -105,11 +105,11 @@ unfolding isKind
 kind-family k h = eqb-true (k .family) 3 (and-first (eqb (k .family) 3) (eqb (k .number) 1) h)
 
 -- an item of 80 bytes is the label at its place
-label-here : (s : List ℕ) (at : ℕ) (x : Item) (xs : List Item) → ItemAt s at x xs → length (bytesIn x) ≡ 80 → part (at + 3) 80 s ≡ bytesIn x
+label-here : (s : List ℕ) (at : ℕ) (x : Item) (xs : List Item) → ItemStands s at x xs → length (bytesIn x) ≡ 80 → part (at + 3) 80 s ≡ bytesIn x
 label-here s at x xs c h = ap (λ (n : ℕ). part (at + 3) n s) (sym h) ∙ sym (c .bytes)
 
--- behind an item, the last HDR1 is again at the place that is kept
-first-step : (s : List ℕ) (t : State) (p : Phase) (first at : ℕ) (x : Item) (xs : List Item) → ItemAt s at x xs → part first 80 s ≡ t .first
+-- stateBehind an item, the last HDR1 is again at the place that is kept
+first-step : (s : List ℕ) (t : State) (p : Phase) (first at : ℕ) (x : Item) (xs : List Item) → ItemStands s at x xs → part first 80 s ≡ t .first
     → part (firstBehind first (at + 3) (kindIn p x)) 80 s ≡ firstAfter t (kindIn p x) (bytesIn x)
 unfolding firstBehind firstAfter ifB
 first-step s t p first at x xs c here = by-kind (isKind (kindIn p x) (hdr 1)) refl
@@ -135,7 +135,7 @@ nothing-left s g p hdr1 at e fits =
     }
 
 mark-body : (s : List ℕ) (g : Bool) (p q : Phase) (hdr1 at : ℕ) (xs : List Item) → Numbered p → labels p ≡ true → isOpen (stage p) g ≡ true
-    → dueAfter p (kindIn p mark) ≡ To q → ItemAt s at mark xs → InOrder s q (placeBehind at mark) xs → Marked s (parts (stands at hdr1 p g) (mark ∷ xs)) (at + 3)
+    → dueAfter p (kindIn p mark) ≡ To q → ItemStands s at mark xs → InOrder s q (placeBehind at mark) xs → Marked s (parts (stands at hdr1 p g) (mark ∷ xs)) (at + 3)
 unfolding kindIn bytesIn placeBehind isKind
 mark-body s g p q hdr1 at xs num h open' d c o =
     let z : at + 3 + 0 ≡ at + 3 = omega arith in
@@ -215,7 +215,7 @@ read-on s t r at hdr1 x xs k es e d a b h =
     (if-false (isKind k dataBlock) (outcomeIn (t .second) (t .pending) (bytesIn x) .pending) (t .pending) a) h)))
 
 -- a data block
-read-block : (s : List ℕ) (g : Bool) (p r : Phase) (at hdr1 : ℕ) (second : List ℕ) (q : ℕ) (x : Item) (xs : List Item) (es : List Event) → ItemAt s at x xs
+read-block : (s : List ℕ) (g : Bool) (p r : Phase) (at hdr1 : ℕ) (second : List ℕ) (q : ℕ) (x : Item) (xs : List Item) (es : List Event) → ItemStands s at x xs
     → InOrder s r (placeBehind at x) xs → kindIn p x ≡ dataBlock → dueAfter p dataBlock ≡ To r → (valueOf (recordLengthOf second) ≡ 0 → ⊥)
     → outcomeIn second q (bytesIn x) .number ≡ 0 → Read s second (outcomeIn second q (bytesIn x) .pending) (parts (stands (placeBehind at x) hdr1 r g) xs) es
     → Read s second q (parts (stands at hdr1 p g) (x ∷ xs)) (holds (bytesIn x) (segmentsBy second (bytesIn x)) ∷ es)
@@ -235,7 +235,7 @@ read-block s g p r at hdr1 second q x xs es c o e d some' f h =
     (subst (λ (l : List ℕ). Read s second (outcomeIn second q l .pending) ps es) (c .bytes) h)))
 
 -- HDR2: of a file that goes on, or of a new one with its HDR1 at `hdr1`
-read-second : (s : List ℕ) (g : Bool) (p r : Phase) (at hdr1 : ℕ) (first second : List ℕ) (q : ℕ) (x : Item) (xs : List Item) (es : List Event) → ItemAt s at x xs
+read-second : (s : List ℕ) (g : Bool) (p r : Phase) (at hdr1 : ℕ) (first second : List ℕ) (q : ℕ) (x : Item) (xs : List Item) (es : List Event) → ItemStands s at x xs
     → InOrder s r (placeBehind at x) xs → kindIn p x ≡ hdr 2 → dueAfter p (hdr 2) ≡ To r → (g ≡ false → q ≡ 0) → labelFault (hdr 2) (bytesIn x) .number ≡ 0
     → secondHeaderFault g second (bytesIn x) .number ≡ 0 → part hdr1 80 s ≡ first → length first ≡ 80
     → Read s (bytesIn x) q (parts (stands (placeBehind at x) hdr1 r g) xs) es
@@ -262,7 +262,7 @@ read-second s false p r at hdr1 first second q x xs es c o e d idle f m here lon
         subst (λ (y : Phase). Read s (bytesIn x) 0 (parts (stands (placeBehind at x) hdr1 y false) xs) es) r2
         (subst (λ (j : ℕ). Read s (bytesIn x) j (parts (stands (placeBehind at x) hdr1 r false) xs) es) (idle refl) h)
 
-    -- the place behind it
+    -- the place stateBehind it
     behind-at : placeBehind at x ≡ at + 3 + 80
     behind-at = unfold placeBehind in ap (λ (n : ℕ). at + 3 + n) eighty
 
@@ -289,7 +289,7 @@ read-second s false p r at hdr1 first second q x xs es c o e d idle f m here lon
     }
 
 read-step : (s : List ℕ) (t : State) (r : Phase) (at hdr1 : ℕ) (x : Item) (xs : List Item) (es : List Event) {k : Kind} {a b : Stage} → Move k a b
-    → kindIn (t .phase) x ≡ k → dueAfter (t .phase) k ≡ To r → ItemAt s at x xs → InOrder s r (placeBehind at x) xs → Holds a (view t) → Sized a (t .goesOn) (t .second)
+    → kindIn (t .phase) x ≡ k → dueAfter (t .phase) k ≡ To r → ItemStands s at x xs → InOrder s r (placeBehind at x) xs → Holds a (view t) → Sized a (t .goesOn) (t .second)
     → part hdr1 80 s ≡ t .first → itemFault t k (bytesIn x) .number ≡ 0
     → Read s (stateAfter t r k (bytesIn x) .second) (stateAfter t r k (bytesIn x) .pending)
     (parts (after (stands at hdr1 (t .phase) (t .goesOn)) k (length (bytesIn x)) r) xs) es
@@ -328,9 +328,9 @@ read s (x ∷ xs) t at hdr1 (q, f, all) e good kept sized here =
     let c = item-at s at x xs e (all-first x xs good) in
     let go = due-goes (t .phase) (kindIn (t .phase) x) q (kept .numbered) (f .due) in
     subst (Read s (t .second) (t .pending) (parts (stands at hdr1 (t .phase) (t .goesOn)) (x ∷ xs))) (sym (handed-more t x xs q f all))
-    (read-step s t q at hdr1 x xs (handedOut (runs (behind t x q) xs)) (go .move) refl (f .due) c
-    (in-order s xs (behind t x q) (placeBehind at x) all (c .rest) (all-rest x xs good)) (kept .holds) sized here (f .sound)
-    (read s xs (behind t x q) (placeBehind at x) (firstBehind hdr1 (at + 3) (kindIn (t .phase) x)) all (c .rest) (all-rest x xs good) (kept-step t x q kept f)
+    (read-step s t q at hdr1 x xs (handedOut (runs (stateBehind t x q) xs)) (go .move) refl (f .due) c
+    (in-order s xs (stateBehind t x q) (placeBehind at x) all (c .rest) (all-rest x xs good)) (kept .holds) sized here (f .sound)
+    (read s xs (stateBehind t x q) (placeBehind at x) (firstBehind hdr1 (at + 3) (kindIn (t .phase) x)) all (c .rest) (all-rest x xs good) (kept-step t x q kept f)
     (sized-step t q (bytesIn x) (go .move) sized (f .sound)) (first-step s t (t .phase) hdr1 at x xs c here)))
 
 no-label : (s : List ℕ) → part (length s) 80 s ≡ []

@@ -25,8 +25,8 @@ use Rattle.content.specs.declared.unit.Taken.{Taken}
 use Rattle.content.specs.declared.unit.Taken.the-variants.{One, Nothing}
 use Rattle.content.proofs.Units.{inside-true, inside-is}
 use Rattle.content.proofs.Searches.{Follows, Leads}
-use Rattle.content.proofs.Rests.{Behind, next-behind, from-behind}
-use Rattle.content.proofs.Joins.{Going, going, not-nothing, Splitting, splitting, split-not-nothing}
+use Rattle.content.proofs.Rests.{UnitBehind, next-behind, from-behind}
+use Rattle.content.proofs.Joins.{JoinGoing, going, not-nothing, Splitting, splitting, split-not-nothing}
 use Rattle.content.proofs.Stepping.{split-stands}
 
 -- ---- a record handed out is passed: the walk behind it is further on by at least its bytes, inside the image and over the same file, and
@@ -46,7 +46,7 @@ If-ends P (ends r v) = P r v
 If-ends P fails = fails ≡ fails
 
 -- one unit, and one before others
-passes-unit : (s : List ℕ) (w : Walk) (start n : ℕ) (v : Walk) → Behind s w start n v → Passes s w (part start n s) v
+passes-unit : (s : List ℕ) (w : Walk) (start n : ℕ) (v : Walk) → UnitBehind s w start n v → Passes s w (part start n s) v
 passes-unit s w start n v b =
     let long = length-part start n s (b .within) in
     record {
@@ -59,7 +59,7 @@ passes-unit s w start n v b =
       leads = b .leads;
     }
 
-passes-more : (s : List ℕ) (w : Walk) (start n : ℕ) (v : Walk) (r : List ℕ) (u : Walk) → Behind s w start n v → Passes s v r u → Passes s w (part start n s ++ r) u
+passes-more : (s : List ℕ) (w : Walk) (start n : ℕ) (v : Walk) (r : List ℕ) (u : Walk) → UnitBehind s w start n v → Passes s v r u → Passes s w (part start n s ++ r) u
 passes-more s w start n v r u b p =
     let long = length-part start n s (b .within) in
     record {
@@ -72,7 +72,7 @@ passes-more s w start n v r u b p =
       leads = λ x f. p .leads x (b .leads x f);
     }
 
-passes-before : (s : List ℕ) (w : Walk) (start n : ℕ) (v : Walk) (x : Rest) → Behind s w start n v → If-ends (Passes s v) x
+passes-before : (s : List ℕ) (w : Walk) (start n : ℕ) (v : Walk) (x : Rest) → UnitBehind s w start n v → If-ends (Passes s v) x
     → If-ends (Passes s w) (before (part start n s) x)
 unfolding before
 passes-before s w start n v (ends r u) b p = passes-more s w start n v r u b p
@@ -95,7 +95,7 @@ unfolding restF
 rest-fuel zero s room w = refl
 rest-fuel (suc f) s room w = rest-by s room w (unitNext s w) (λ r v. restF f s r v) refl (λ r v. rest-fuel f s r v)
 
-split-passes : (s : List ℕ) (w : Walk) (start n : ℕ) (v : Walk) (x : Rest) → Behind s w start n v → If-ends (Passes s v) x
+split-passes : (s : List ℕ) (w : Walk) (start n : ℕ) (v : Walk) (x : Rest) → UnitBehind s w start n v → If-ends (Passes s v) x
     → If-ends (Passes s w) (handed s (splitBy (part start n s) x))
 unfolding handed splitBy
 split-passes s w start n v (ends r u) b p = passes-more s w start n v r u b p
@@ -314,7 +314,7 @@ first-split s w k u m i start n v t e q f h =
 
 -- a further segment, where a record goes on behind w and ends
 pub next-going : (s : List ℕ) (w : Walk) (i start n : ℕ) (v : Walk) (t : Taken) → Inside s w → isEnded (restAt s (w .size) w) ≡ true → t ≡ nextSegment s w
-    → t ≡ One i start n v → Going s w i start n v
+    → t ≡ One i start n v → JoinGoing s w i start n v
 next-going s w i start n v t h e f q =
     going s w 0 (length (bytesBehind s w)) i start n v (unitNext s w) (record { inside = h; ended = e; fits = omega arith }) refl
     (next-is s w i start n v (sym f ∙ q))

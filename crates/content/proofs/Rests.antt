@@ -30,7 +30,7 @@ use Rattle.content.proofs.Units.{unit-at}
 
 -- ---- a unit is further on and inside the image, the walk behind it is over the same file, and from its block on the same file follows
 
-pub record Behind (s : List ℕ) (w : Walk) (start n : ℕ) (v : Walk) : Type 0 where
+pub record UnitBehind (s : List ℕ) (w : Walk) (start n : ℕ) (v : Walk) : Type 0 where
   pub onward : w .at < v .at
   pub bytes : w .at + n ≤ v .at
   pub inside : Inside s v
@@ -44,7 +44,7 @@ abbrev If-one : (ℕ → ℕ → Walk → Type 0) → Taken → Type 0
 If-one P (One i start n v) = P start n v
 If-one P Nothing = Nothing ≡ Nothing
 
-here-behind : (s : List ℕ) (w : Walk) (u : Unit) → Inside s w → unitOf (w .format) (w .size) (leftOf s w) ≡ u → If-one (Behind s w) (taken w u)
+here-behind : (s : List ℕ) (w : Walk) (u : Unit) → Inside s w → unitOf (w .format) (w .size) (leftOf s w) ≡ u → If-one (UnitBehind s w) (taken w u)
 unfolding taken
 here-behind s w (Of i c n) h e =
     let k = unit-at s w i c n e in
@@ -65,7 +65,7 @@ here-behind s w (Of i c n) h e =
 here-behind s w None h e = refl
 
 -- the next block, behind its offset
-pub record Opened (s : List ℕ) (w v : Walk) : Type 0 where
+pub record BlockOpened (s : List ℕ) (w v : Walk) : Type 0 where
   pub onward : w .at < v .at
   pub inside : Inside s v
   pub format : v .format ≡ w .format
@@ -77,13 +77,13 @@ abbrev If-place : (Walk → Type 0) → Place → Type 0
 If-place P (At v) = P v
 If-place P Off = Off ≡ Off
 
-open-by : (s : List ℕ) (w : Walk) (x : Extent) → dataFrom Data (w .at + w .left) (decode (drop (w .at + w .left) s)) ≡ x → If-place (Opened s w) (opened w x)
+open-by : (s : List ℕ) (w : Walk) (x : Extent) → dataFrom Data (w .at + w .left) (decode (drop (w .at + w .left) s)) ≡ x → If-place (BlockOpened s w) (opened w x)
 unfolding opened
 open-by s w (Block start n) e =
     let c = data-within s Data (w .at + w .left) start n e in
     let a = c .onward in
     let b = c .within in
-    if-case (If-place (Opened s w)) (leb (w .offset) n) (At (moved w (start + w .offset) (n - w .offset))) Off
+    if-case (If-place (BlockOpened s w)) (leb (w .offset) n) (At (moved w (start + w .offset) (n - w .offset))) Off
     (λ t.
     let k = leb-true (w .offset) n t in
     let same : start + n ≡ start + w .offset + (n - w .offset) = omega arith in
@@ -97,11 +97,11 @@ open-by s w (Block start n) e =
     }) (λ _. refl)
 open-by s w Nowhere e = refl
 
-block-behind : (s : List ℕ) (w : Walk) → If-place (Opened s w) (blockNext s w)
+block-behind : (s : List ℕ) (w : Walk) → If-place (BlockOpened s w) (blockNext s w)
 unfolding blockNext
-block-behind s w = if-case (If-place (Opened s w)) (allAre pad (leftOf s w)) _ Off (λ _. open-by s w _ refl) (λ _. refl)
+block-behind s w = if-case (If-place (BlockOpened s w)) (allAre pad (leftOf s w)) _ Off (λ _. open-by s w _ refl) (λ _. refl)
 
-behind-opened : (s : List ℕ) (w v : Walk) (t : Taken) → Opened s w v → If-one (Behind s v) t → If-one (Behind s w) t
+behind-opened : (s : List ℕ) (w v : Walk) (t : Taken) → BlockOpened s w v → If-one (UnitBehind s v) t → If-one (UnitBehind s w) t
 behind-opened s w v (One i start n u) o b =
     record {
       onward = omega (arith, o .onward, b .onward);
@@ -115,26 +115,26 @@ behind-opened s w v (One i start n u) o b =
     }
 behind-opened s w v Nothing o b = refl
 
-in-behind : (s : List ℕ) (w : Walk) (p : Place) → If-place (Opened s w) p → If-one (Behind s w) (unitIn s p)
+in-behind : (s : List ℕ) (w : Walk) (p : Place) → If-place (BlockOpened s w) p → If-one (UnitBehind s w) (unitIn s p)
 unfolding unitIn unitHere
 in-behind s w (At v) o = behind-opened s w v (taken v (unitOf (v .format) (v .size) (leftOf s v))) o (here-behind s v (unitOf (v .format) (v .size) (leftOf s v)) (o .inside) refl)
 in-behind s w Off o = refl
 
-next-any : (s : List ℕ) (w : Walk) → If-one (Behind s w) (unitNext s w)
+next-any : (s : List ℕ) (w : Walk) → If-one (UnitBehind s w) (unitNext s w)
 unfolding unitNext
 next-any s w = in-behind s w (blockNext s w) (block-behind s w)
 
-or-any : (s : List ℕ) (w : Walk) (t u : Taken) → If-one (Behind s w) t → If-one (Behind s w) u → If-one (Behind s w) (orNext t u)
+or-any : (s : List ℕ) (w : Walk) (t u : Taken) → If-one (UnitBehind s w) t → If-one (UnitBehind s w) u → If-one (UnitBehind s w) (orNext t u)
 unfolding orNext
 or-any s w (One i start n v) u a b = a
 or-any s w Nothing u a b = b
 
-pub next-behind : (s : List ℕ) (w : Walk) (i start n : ℕ) (v : Walk) → unitNext s w ≡ One i start n v → Behind s w start n v
-next-behind s w i start n v e = subst (If-one (Behind s w)) e (next-any s w)
+pub next-behind : (s : List ℕ) (w : Walk) (i start n : ℕ) (v : Walk) → unitNext s w ≡ One i start n v → UnitBehind s w start n v
+next-behind s w i start n v e = subst (If-one (UnitBehind s w)) e (next-any s w)
 
-pub from-behind : (s : List ℕ) (w : Walk) (i start n : ℕ) (v : Walk) → Inside s w → unitFrom s w ≡ One i start n v → Behind s w start n v
+pub from-behind : (s : List ℕ) (w : Walk) (i start n : ℕ) (v : Walk) → Inside s w → unitFrom s w ≡ One i start n v → UnitBehind s w start n v
 unfolding unitFrom unitHere
-from-behind s w i start n v h e = subst (If-one (Behind s w)) e (or-any s w _ _ (here-behind s w _ h refl) (next-any s w))
+from-behind s w i start n v h e = subst (If-one (UnitBehind s w)) e (or-any s w _ _ (here-behind s w _ h refl) (next-any s w))
 
 -- ---- the equation
 

@@ -18,7 +18,7 @@ use Rattle.block.specs.Unit.{wordOf}
 use Rattle.content.specs.Walk.{moved, Inside, isInside, unitFrom, Rest, ends, fails, Record, whole, split, nothing, splitBy, begunBy, recordAt, stepBy, stepAt}
 use Rattle.content.specs.Whole.{atBlock, standsAt, wholeAt, begunIn}
 use Rattle.content.specs.Measure.{measuredBy}
-use Rattle.content.specs.Row.{Steps, stays, ahead, stepsBy, stepsAt, rowOf, wholeBy}
+use Rattle.content.specs.Row.{StepRow, stays, ahead, stepsBy, stepsAt, rowOf, wholeBy}
 use Rattle.content.specs.declared.Walk.{Walk}
 use Rattle.content.specs.declared.Step.{Step}
 use Rattle.content.specs.declared.Step.the-variants.{Joined, Refused}
@@ -180,7 +180,7 @@ rowing-more s old olds from places lengths w i start n u c h k e =
     let b = c .longLengths in
     let less : i < room = omega arith in
     let more : stepsAt s (room - i) w ≡ ahead start n (stepsAt s (room - (i + 1)) u) = one-more s room i w start n u e less in
-    let x : Steps = stepsAt s (room - (i + 1)) u in
+    let x : StepRow = stepsAt s (room - (i + 1)) u in
     let one = single s w start n u e in
     let sum : i + 1 + length (x .places) ≡ i + length (start ∷ x .places) = omega arith in
     record {
@@ -188,10 +188,10 @@ rowing-more s old olds from places lengths w i start n u c h k e =
       file = from-behind s w 0 start n u (one .inside) (one .unit) .format ∙ c .file;
       longPlaces = length-set places i start ∙ a;
       longLengths = length-set lengths i n ∙ b;
-      samePlaces = sym (put-first places i start (x .places) h) ∙ ap (λ (y : Steps). putAt places i (y .places)) (sym more) ∙ c .samePlaces;
-      sameLengths = sym (put-first lengths i n (x .lengths) k) ∙ ap (λ (y : Steps). putAt lengths i (y .lengths)) (sym more) ∙ c .sameLengths;
-      sameCount = sum ∙ ap (λ (y : Steps). i + length (y .places)) (sym more) ∙ c .sameCount;
-      sameWalk = ap (λ (y : Steps). y .walk) (sym more) ∙ c .sameWalk;
+      samePlaces = sym (put-first places i start (x .places) h) ∙ ap (λ (y : StepRow). putAt places i (y .places)) (sym more) ∙ c .samePlaces;
+      sameLengths = sym (put-first lengths i n (x .lengths) k) ∙ ap (λ (y : StepRow). putAt lengths i (y .lengths)) (sym more) ∙ c .sameLengths;
+      sameCount = sum ∙ ap (λ (y : StepRow). i + length (y .places)) (sym more) ∙ c .sameCount;
+      sameWalk = ap (λ (y : StepRow). y .walk) (sym more) ∙ c .sameWalk;
     }
 
 -- the control word is that of the file's format
@@ -247,17 +247,17 @@ pub row-done : (s old olds : List ℕ) (from : Walk) (places lengths : List ℕ)
 unfolding rowOf
 row-done s old olds from places lengths w i r c e q =
     let z : i ≡ i + 0 = omega arith in
-    let count : i ≡ length (stepsAt s (min (length old) (length olds)) from .places) = z ∙ ap (λ (y : Steps). i + length (y .places)) (sym e) ∙ c .sameCount in
-    let walk : w ≡ stepsAt s (min (length old) (length olds)) from .walk = ap (λ (y : Steps). y .walk) (sym e) ∙ c .sameWalk in
+    let count : i ≡ length (stepsAt s (min (length old) (length olds)) from .places) = z ∙ ap (λ (y : StepRow). i + length (y .places)) (sym e) ∙ c .sameCount in
+    let walk : w ≡ stepsAt s (min (length old) (length olds)) from .walk = ap (λ (y : StepRow). y .walk) (sym e) ∙ c .sameWalk in
     q ∙ (λ j. record { count = count j; walk = walk j })
 
 pub places-done : (s old olds : List ℕ) (from : Walk) (places lengths : List ℕ) (w : Walk) (i : ℕ) → Rowing s old olds from places lengths w i
     → stepsAt s (min (length old) (length olds) - i) w ≡ stays w → places ≡ putAt old 0 (stepsAt s (min (length old) (length olds)) from .places)
-places-done s old olds from places lengths w i c e = sym (put-none places i) ∙ ap (λ (y : Steps). putAt places i (y .places)) (sym e) ∙ c .samePlaces
+places-done s old olds from places lengths w i c e = sym (put-none places i) ∙ ap (λ (y : StepRow). putAt places i (y .places)) (sym e) ∙ c .samePlaces
 
 pub lengths-done : (s old olds : List ℕ) (from : Walk) (places lengths : List ℕ) (w : Walk) (i : ℕ) → Rowing s old olds from places lengths w i
     → stepsAt s (min (length old) (length olds) - i) w ≡ stays w → lengths ≡ putAt olds 0 (stepsAt s (min (length old) (length olds)) from .lengths)
-lengths-done s old olds from places lengths w i c e = sym (put-none lengths i) ∙ ap (λ (y : Steps). putAt lengths i (y .lengths)) (sym e) ∙ c .sameLengths
+lengths-done s old olds from places lengths w i c e = sym (put-none lengths i) ∙ ap (λ (y : StepRow). putAt lengths i (y .lengths)) (sym e) ∙ c .sameLengths
 
 -- ---- what the code computes has its place
 

@@ -34,19 +34,19 @@ use Rattle.order.proofs.Groups.{block-data}
 
 -- ---- the items of an image by their places
 
-pub record ItemAt (s : List ℕ) (at : ℕ) (x : Item) (xs : List Item) : Type 0 where
+pub record ItemStands (s : List ℕ) (at : ℕ) (x : Item) (xs : List Item) : Type 0 where
   pub rest : decode (drop (placeBehind at x) s) ≡ xs
   pub within : placeBehind at x ≤ length s
   pub good : isItem x ≡ true
   pub bytes : bytesIn x ≡ part (at + 3) (length (bytesIn x)) s
 
-pub item-at : (s : List ℕ) (at : ℕ) (x : Item) (xs : List Item) → decode (drop at s) ≡ x ∷ xs → isItem x ≡ true → ItemAt s at x xs
+pub item-at : (s : List ℕ) (at : ℕ) (x : Item) (xs : List Item) → decode (drop at s) ≡ x ∷ xs → isItem x ≡ true → ItemStands s at x xs
 unfolding placeBehind isItem
 item-at s at x xs h good = by-seen (seenAt s Data at) refl
   where
-    by-seen : (y : Seen) → y ≡ seenAt s Data at → ItemAt s at x xs
+    by-seen : (y : Seen) → y ≡ seenAt s Data at → ItemStands s at x xs
     by-seen Nothing e =
-        unseen s Data at Nothing e refl (λ (ys : List Item). ys ≡ x ∷ xs → ItemAt s at x xs)
+        unseen s Data at Nothing e refl (λ (ys : List Item). ys ≡ x ∷ xs → ItemStands s at x xs)
         (λ q. let z : _≡_ {A = ℕ} 0 1 = cc in absurd (omega arith))
         (λ q. let b : x ≡ broken = cc in absurd (false≢true (subst (λ (y : Item). isItem y ≡ true) b good))) h
     by-seen (Of k n) e =
@@ -65,7 +65,7 @@ item-at s at x xs h good = by-seen (seenAt s Data at) refl
 -- each item from a place on is due where it stands
 abbrev pub InOrder : List ℕ → Phase → ℕ → List Item → Type 0
 InOrder s p at [] = Unit {0}
-InOrder s p at (x ∷ xs) = (q : Phase) × ItemAt s at x xs × (dueAfter p (kindIn p x) ≡ To q) × InOrder s q (placeBehind at x) xs
+InOrder s p at (x ∷ xs) = (q : Phase) × ItemStands s at x xs × (dueAfter p (kindIn p x) ≡ To q) × InOrder s q (placeBehind at x) xs
 
 -- ---- the parts from one item on
 
@@ -258,7 +258,7 @@ shut-none s (x ∷ xs) g p hdr1 at num (q, c, d, i) o =
 
 -- behind a data block, and so behind the next one, the same file follows
 datum-follows : (s : List ℕ) (g : Bool) (p q : Phase) (hdr1 at start n : ℕ) (x : Item) (xs : List Item) → kindIn p x ≡ dataBlock → dueAfter p dataBlock ≡ To q
-    → ItemAt s at x xs → InOrder s q (placeBehind at x) xs → blockIn (parts (stands at hdr1 p g) (x ∷ xs)) ≡ At start n
+    → ItemStands s at x xs → InOrder s q (placeBehind at x) xs → blockIn (parts (stands at hdr1 p g) (x ∷ xs)) ≡ At start n
     → Follows s (fileIn s (parts (stands at hdr1 p g) (x ∷ xs))) (start + n)
 unfolding blockIn asBlock fileIn firstIn isWanted ifB placeBehind
 datum-follows s g p q hdr1 at start n x xs k d c i e =

@@ -22,7 +22,7 @@ use Rattle.content.specs.declared.part.PartAt.{PartAt}
 use Rattle.content.specs.declared.part.Seen.the-variants.{Item as Of}
 use Rattle.content.specs.declared.section.Extent.{Extent}
 use Rattle.content.specs.declared.section.Extent.the-variants.{At, Nowhere}
-use Rattle.content.proofs.Parts.{seen-block, start-fits, parts-seen, found-part, Ahead, IsAhead, first-ahead}
+use Rattle.content.proofs.Parts.{seen-block, start-fits, parts-seen, found-part, BlockAhead, IsAhead, first-ahead}
 
 -- what the search finds
 pub data-found : (s : List ℕ) (at : ℕ) (r : PartAt) (p : Part) (x : Extent) → r ≡ firstFrom (inFile Data at) false true (partsAt s (inFile Data at)) → p ≡ r .part
@@ -68,13 +68,13 @@ abbrev If-at : (ℕ → ℕ → Type 0) → Extent → Type 0
 If-at P (At start n) = P start n
 If-at P Nowhere = Nowhere ≡ Nowhere
 
-block-ahead : (s : List ℕ) (at : ℕ) (p : Part) → IsAhead s at p → If-at (Ahead s at) (asBlock p)
+block-ahead : (s : List ℕ) (at : ℕ) (p : Part) → IsAhead s at p → If-at (BlockAhead s at) (asBlock p)
 unfolding asBlock
 block-ahead s at (File a b) h = refl
 block-ahead s at (Section a b) h = refl
 block-ahead s at (Block start n) h = h
 block-ahead s at None h = refl
 
-pub data-within : (s : List ℕ) (p : Phase) (at start n : ℕ) → dataFrom p at (decode (drop at s)) ≡ At start n → Ahead s at start n
+pub data-within : (s : List ℕ) (p : Phase) (at start n : ℕ) → dataFrom p at (decode (drop at s)) ≡ At start n → BlockAhead s at start n
 unfolding dataFrom blockIn
-data-within s p at start n e = subst (If-at (Ahead s at)) e (block-ahead s at _ (first-ahead s false true at 0 p false))
+data-within s p at start n e = subst (If-at (BlockAhead s at)) e (block-ahead s at _ (first-ahead s false true at 0 p false))

@@ -65,7 +65,7 @@ pub ruleset segment-numbers = (segment-before, segment-format, segment-past, seg
 -- ---- from the number to the unit
 
 -- a segment of k bytes, with its control word, stands at the head of what is left, and nothing is left of the block before
-pub record Segment (s : List ℕ) (b : ℕ) (v : Walk) (k : ℕ) : Type 0 where
+pub record SegmentAt (s : List ℕ) (b : ℕ) (v : Walk) (k : ℕ) : Type 0 where
   pub none : b ≡ 0
   pub inside : Inside s v
   pub is : unitOf (v .format) (v .size) (leftOf s v) ≡ Of (getD s (v .at) 0 - 48) 5 (k - 5)
@@ -75,7 +75,7 @@ pub record Segment (s : List ℕ) (b : ℕ) (v : Walk) (k : ℕ) : Type 0 where
   pub digit : 48 ≤ getD s (v .at) 0
   pub narrow : Fits w32 (getD s (v .at) 0 - 48)
 
-segment-by : (s : List ℕ) (b : ℕ) (v : Walk) (k : ℕ) → b ≡ 0 → v .format ≡ 83 → Inside s v → k ≡ lengthOf (segment (leftOf s v)) → (k ≡ 0 → ⊥) → Segment s b v k
+segment-by : (s : List ℕ) (b : ℕ) (v : Walk) (k : ℕ) → b ≡ 0 → v .format ≡ 83 → Inside s v → k ≡ lengthOf (segment (leftOf s v)) → (k ≡ 0 → ⊥) → SegmentAt s b v k
 unfolding unitHere taken leftOf part
 segment-by s b v k none f inside e z =
     let l : List ℕ = take (v .left) (drop (v .at) s) in
@@ -105,7 +105,7 @@ no-size : (s : List ℕ) (b : ℕ) (v : Walk) (r : ℕ) → segmentIn s b (stand
 unfolding segmentIn isInside leftOf
 no-size s b v r = refl
 
-standing-segment : (s : List ℕ) (b : ℕ) (v : Walk) (k : ℕ) → k ≡ segmentIn s b v → (k ≡ 0 → ⊥) → Segment s b v k
+standing-segment : (s : List ℕ) (b : ℕ) (v : Walk) (k : ℕ) → k ≡ segmentIn s b v → (k ≡ 0 → ⊥) → SegmentAt s b v k
 unfolding segmentIn
 standing-segment s b v k e z =
     if-case P (eqb b 0) _ 0
@@ -116,9 +116,9 @@ standing-segment s b v k e z =
     (λ _ q. absurd (z q)) e
   where
     P : ℕ → Type 0
-    P x = k ≡ x → Segment s b v k
+    P x = k ≡ x → SegmentAt s b v k
 
-pub segment-stands : (s : List ℕ) (b : ℕ) (v : Walk) (k : ℕ) → k ≡ segmentIn s b (standsAt (v .format) 0 (v .at) (v .left)) → (k ≡ 0 → ⊥) → Segment s b v k
+pub segment-stands : (s : List ℕ) (b : ℕ) (v : Walk) (k : ℕ) → k ≡ segmentIn s b (standsAt (v .format) 0 (v .at) (v .left)) → (k ≡ 0 → ⊥) → SegmentAt s b v k
 segment-stands s b v k e z = standing-segment s b v k (e ∙ no-size s b v 0) z
 
 -- ---- as the code finds it
@@ -132,7 +132,7 @@ next-segment s w v u k e m z q =
     ∙ ap (λ (t : Taken). orNext t (unitNext s w)) (none-left s w (c .none))
 
 -- over the walk's numbers
-stands-at : (s : List ℕ) (b f at left k : ℕ) → k ≡ segmentIn s b (standsAt f 0 at left) → (k ≡ 0 → ⊥) → Segment s b (standsAt f 0 at left) k
+stands-at : (s : List ℕ) (b f at left k : ℕ) → k ≡ segmentIn s b (standsAt f 0 at left) → (k ≡ 0 → ⊥) → SegmentAt s b (standsAt f 0 at left) k
 stands-at s b f at left k m z = standing-segment s b (standsAt f 0 at left) k m z
 
 pub segment-there : (s : List ℕ) (b f at left k : ℕ) → k ≡ segmentIn s b (standsAt f 0 at left) → (k ≡ 0 → ⊥) → at < length s
@@ -201,12 +201,12 @@ turn-is s b d m f at left k e z h l =
 pub ruleset turn-numbers = (turn-none, turn-another, turn-long, turn-is, segment-there, segment-word, needs)
 
 -- what stands at the head of what is left where that number is one
-pub record Turn (s : List ℕ) (b d m : ℕ) (v : Walk) (k : ℕ) : Type 0 where
+pub record TurnAt (s : List ℕ) (b d m : ℕ) (v : Walk) (k : ℕ) : Type 0 where
   pub is : k ≡ segmentIn s b v
   pub digit : getD s (v .at) 0 ≡ d
   pub short : k - 5 ≤ m
 
-pub turns : (s : List ℕ) (b d m : ℕ) (v : Walk) (k : ℕ) → k ≡ turnIn s b d m v → (k ≡ 0 → ⊥) → Turn s b d m v k
+pub turns : (s : List ℕ) (b d m : ℕ) (v : Walk) (k : ℕ) → k ≡ turnIn s b d m v → (k ≡ 0 → ⊥) → TurnAt s b d m v k
 unfolding turnIn
 turns s b d m v k e z =
     if-case P (eqb (segmentIn s b v) 0) 0 _ (λ _ q. absurd (z q))
@@ -217,7 +217,7 @@ turns s b d m v k e z =
     (λ _ q. absurd (z q))) e
   where
     P : ℕ → Type 0
-    P x = k ≡ x → Turn s b d m v k
+    P x = k ≡ x → TurnAt s b d m v k
 
 -- ---- a segment that begins a record
 
@@ -232,13 +232,13 @@ begun-is s f r at left k o e = e ∙ sym (if-false _ _ _ (ne-eqb r 0 o))
 pub ruleset begun-numbers = (begun-nowhere, begun-is, needs)
 
 -- what stands at the head of what is left where that number is one
-pub record Begins (s : List ℕ) (v : Walk) (k : ℕ) : Type 0 where
-  pub segment : Segment s 0 v k
+pub record SegmentBegins (s : List ℕ) (v : Walk) (k : ℕ) : Type 0 where
+  pub segment : SegmentAt s 0 v k
   pub some : v .size ≡ 0 → ⊥
   pub digit : getD s (v .at) 0 ≡ 49
   pub short : k - 5 ≤ v .size
 
-pub begins : (s : List ℕ) (v : Walk) (k : ℕ) → BegunAt s v k → Begins s v k
+pub begins : (s : List ℕ) (v : Walk) (k : ℕ) → BegunAt s v k → SegmentBegins s v k
 unfolding begunIn
 begins s v k b =
     let z = b .some in
@@ -247,7 +247,7 @@ begins s v k b =
     record { segment = standing-segment s 0 v k (t .is) z; some = eqb-false (v .size) 0 o; digit = t .digit; short = t .short }) (b .is)
   where
     P : ℕ → Type 0
-    P x = k ≡ x → Begins s v k
+    P x = k ≡ x → SegmentBegins s v k
 
 pub begun-no-offset : (s : List ℕ) (v : Walk) → begunIn s (standsAt (v .format) (v .size) (v .at) (v .left)) ≡ begunIn s v
 unfolding begunIn turnIn segmentIn isInside leftOf

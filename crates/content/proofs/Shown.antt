@@ -30,7 +30,7 @@ use Rattle.label.specs.Name.{kindOf}
 use Rattle.volume.specs.State.{State, start}
 use Rattle.volume.specs.Step.{isDue, kindIn, bytesIn, stateAfter}
 use Rattle.volume.proofs.Reels.{broken-undue}
-use Rattle.volume.specs.Accepted.{behind, All, MayEnd, Accepted}
+use Rattle.volume.specs.Accepted.{stateBehind, All, MayEnd, Accepted}
 use Rattle.content.specs.Items.{torn, itemOf, kindAmong, restAt, itemBy, itemAt, Told, Met}
 use Rattle.content.specs.declared.items.ItemAt.{ItemAt}
 use Rattle.content.proofs.Parts.{by-place, start-fits, end-fits}
@@ -38,9 +38,9 @@ use Rattle.content.proofs.Parts.{by-place, start-fits, end-fits}
 -- ---- the item at a place
 
 pub item-made : (g h start n : ℕ) (k : Kind) → h ≡ groupAfter g k
-    → _≡_ {A = ItemAt} (record { family = k .family; number = k .number; group = h; start = start; len = n; behind = start + n }) (itemOf g k start n)
+    → _≡_ {A = ItemAt} (record { family = k .family; number = k .number; group = h; start = start; len = n; stateBehind = start + n }) (itemOf g k start n)
 unfolding itemOf
-item-made g h start n k e = λ i. record { family = k .family; number = k .number; group = e i; start = start; len = n; behind = start + n }
+item-made g h start n k e = λ i. record { family = k .family; number = k .number; group = e i; start = start; len = n; stateBehind = start + n }
 
 pub rest-end : (s : List ℕ) (g at : ℕ) (r : ItemAt) → r ≡ itemOf g endOfImage at 0 → length s ≤ at → r ≡ restAt s g at
 unfolding restAt
@@ -68,7 +68,7 @@ pub at-rest : (s : List ℕ) (at g : ℕ) (q : Shape) (r : ItemAt) → q ≡ sha
 unfolding itemAt itemBy
 at-rest s at g q r e b f = f ∙ ap (itemBy s g at) (sym b ∙ e)
 
--- places behind an item are inside the image
+-- places stateBehind an item are inside the image
 pub mark-fits : (s : List ℕ) (at : ℕ) (q : Shape) → q ≡ shape (drop at s) → q ≡ Mark → length s < 18446744073709551616 → Fits w64 (at + 3)
 mark-fits s at q e b h = record { fits = omega (arith, mark-within s at q e b) }
 
@@ -94,7 +94,7 @@ kind-told p l = ap (λ (b : Bool). ifB b dataBlock (kindOf l)) (sym (ap isDue (d
 -- an item of kind k at a place, as the answer has it, is the first of those that are left
 told : (s : List ℕ) (at g n : ℕ) (st : State) (x : Item) (xs : List Item) (k : Kind) → g ≡ groupOf (st .phase) → k ≡ kindIn (st .phase) x
     → part (at + 3) n s ≡ bytesIn x
-    → ((p : Phase) → groupAfter g k ≡ groupOf p → All MayEnd (behind st x p) xs → Met (itemAt s) s (at + 3 + n) (groupAfter g k) (behind st x p) xs)
+    → ((p : Phase) → groupAfter g k ≡ groupOf p → All MayEnd (stateBehind st x p) xs → Met (itemAt s) s (at + 3 + n) (groupAfter g k) (stateBehind st x p) xs)
     → itemAt s at g ≡ itemOf g k (at + 3) n → All MayEnd st (x ∷ xs) → Met (itemAt s) s at g st (x ∷ xs)
 unfolding itemOf
 told s at g n st x xs k e h b again i (p, f, rest) =
@@ -131,7 +131,7 @@ met s = by-place s (λ (at : ℕ). (g : ℕ) (st : State) → g ≡ groupOf (st 
             bare x k c b w d i =
                 let z : at + 3 ≡ at + 3 + 0 = omega arith in
                 subst Goal (sym (d ∙ ap (λ (m : ℕ). x ∷ decode (drop m s)) z))
-                (told s at g 0 st x (decode (drop (at + 3 + 0) s)) k e c b (λ p. again (at + 3 + 0) (omega arith) (omega arith) (groupAfter g k) (behind st x p)) i)
+                (told s at g 0 st x (decode (drop (at + 3 + 0) s)) k e c b (λ p. again (at + 3 + 0) (omega arith) (omega arith) (groupAfter g k) (stateBehind st x p)) i)
 
             by-shape : (q : Shape) → shape (drop at s) ≡ q → Goal (decode (drop at s))
             by-shape (Block n) h =
@@ -139,7 +139,7 @@ met s = by-place s (λ (at : ℕ). (g : ℕ) (st : State) → g ≡ groupOf (st 
                 let b : List ℕ = part (at + 3) n s in
                 subst Goal (sym (decode-block s at n (Block n) l (sym h) refl))
                 (told s at g n st (block b) (decode (drop (at + 3 + n) s)) (kindAmong g b) e (ap (λ (j : ℕ). kindAmong j b) e ∙ kind-told (st .phase) b) refl
-                (λ p. again (at + 3 + n) (omega arith) l3 (groupAfter g (kindAmong g b)) (behind st (block b) p)) (ap (itemBy s g at) h))
+                (λ p. again (at + 3 + n) (omega arith) l3 (groupAfter g (kindAmong g b)) (stateBehind st (block b) p)) (ap (itemBy s g at) h))
             by-shape Mark h = bare mark tapeMark refl refl (mark-within s at Mark (sym h) refl) (decode-mark s at Mark l (sym h) refl) (ap (itemBy s g at) h)
             by-shape ReelEnd h = bare reelEnd endOfReel refl refl (reel-end-within s at ReelEnd (sym h) refl) (decode-reel-end s at ReelEnd l (sym h) refl) (ap (itemBy s g at) h)
             by-shape Broken h = subst Goal (sym (decode-broken s at Broken l (sym h) refl)) (λ (p, f, _). absurd (broken-undue (st .phase) p (f .due)))

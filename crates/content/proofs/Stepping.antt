@@ -15,7 +15,7 @@ use Rattle.base.specs.Part.{part, putAt}
 use Rattle.block.specs.Unit.{wordOf}
 use Rattle.content.specs.Walk.{moved, Inside, unitHere, unitNext, orNext, unitFrom, restAt, Record, whole, split, nothing, begunBy, recordAt, stepBy, joinBy, stepAt, joinAt}
 use Rattle.content.specs.Whole.{atBlock, standsAt, wholeAt, turnIn, begunIn, BegunAt, TwoAt}
-use Rattle.content.specs.Measure.{tailBy, restBytes, measuredBy, bytesBehind, GoesOn, recordBytes, isSplit, SplitAt}
+use Rattle.content.specs.Measure.{tailBy, restBytes, measuredBy, bytesBehind, RestFits, recordBytes, isSplit, SplitAt}
 use Rattle.content.specs.declared.Walk.{Walk}
 use Rattle.content.specs.declared.Step.{Step}
 use Rattle.content.specs.declared.Step.the-variants.{InImage, Joined, Refused}
@@ -26,9 +26,9 @@ use Rattle.content.specs.declared.measuring.Tail.the-variants.{Ends, Fai
 use Rattle.content.specs.declared.measuring.Measured.{Measured}
 use Rattle.content.specs.declared.measuring.Measured.the-variants.{Whole, Split, Nothing}
 use Rattle.content.proofs.Units.{inside-is}
-use Rattle.content.proofs.Measures.{Good, rest-ends, segment-long, record-begun, split-fails, split-ends, sum-fits}
-use Rattle.content.proofs.Wholes.{Leads, leads, record-whole, measured-whole, word-least, whole-left, whole-start, whole-end}
-use Rattle.content.proofs.Segments.{Segment, segment-stands, next-segment, Turn, turns, begins, begun-no-offset}
+use Rattle.content.proofs.Measures.{Readable, rest-ends, segment-long, record-begun, split-fails, split-ends, sum-fits}
+use Rattle.content.proofs.Wholes.{WholeLeads, leads, record-whole, measured-whole, word-least, whole-left, whole-start, whole-end}
+use Rattle.content.proofs.Segments.{SegmentAt, segment-stands, next-segment, TurnAt, turns, begins, begun-no-offset}
 use Rattle.content.proofs.Joins.{split-inside, rest-goes, join-whole}
 use Rattle.content.proofs.Cases.{said}
 
@@ -127,7 +127,7 @@ pub ruleset steps = (step-quick, kept-quick, word-least, whole-left, whole-start
 
 -- the first segment, of k bytes with its control word, and the walk u behind it
 record Opens (s : List ℕ) (v u : Walk) (k : ℕ) : Type 0 where
-  good : Good s v
+  good : Readable s v
   unit : unitFrom s v ≡ One 1 (v .at + 5) (k - 5) u
   short : k - 5 ≤ v .size
 
@@ -195,7 +195,7 @@ begun-within s v k b =
     omega arith
 
 pub begun-goes : (s old : List ℕ) (v u : Walk) (k : ℕ) (x : Tail) (m : ℕ) (y : Walk) → BegunAt s v k
-    → u ≡ moved v (v .at + k) (v .left - k) → x ≡ tailBy (restAt s (v .size - (k - 5)) u) → x ≡ Ends m y → k - 5 + m ≤ length old → GoesOn s u (k - 5) (length old)
+    → u ≡ moved v (v .at + k) (v .left - k) → x ≡ tailBy (restAt s (v .size - (k - 5)) u) → x ≡ Ends m y → k - 5 + m ≤ length old → RestFits s u (k - 5) (length old)
 begun-goes s old v u k x m y b q e f h =
     let o = opens s v u k b q in
     rest-goes s old v 1 (v .at + 5) (k - 5) u (unitFrom s v) (begun-stands s old v u k x m y o e f h) refl (o .unit)
@@ -266,7 +266,7 @@ pub ruleset steps-begun = (
 
 -- the second segment is the rest of the record
 record Closes (s : List ℕ) (v u h y : Walk) (k j : ℕ) : Type 0 where
-  turn : Turn s (v .left - k) 51 (v .size - (k - 5)) (standsAt (h .format) 0 (h .at) (h .left)) j
+  turn : TurnAt s (v .left - k) 51 (v .size - (k - 5)) (standsAt (h .format) 0 (h .at) (h .left)) j
   tail : Ends (j - 5) y ≡ tailBy (restAt s (v .size - (k - 5)) u)
   bytes : bytesBehind s u ≡ part (h .at + 5) (j - 5) s
 
@@ -316,7 +316,7 @@ two-put s old v h k j new c l p =
 pub two-first : (s : List ℕ) (v h : Walk) (k j : ℕ) → TwoAt s v k h j → 5 ≤ k
 two-first s v h k j c = begun-word s v k (c .begun)
 
-second : (s : List ℕ) (v h : Walk) (k j : ℕ) → TwoAt s v k h j → Segment s (v .left - k) h j
+second : (s : List ℕ) (v h : Walk) (k j : ℕ) → TwoAt s v k h j → SegmentAt s (v .left - k) h j
 second s v h k j c = segment-stands s (v .left - k) h j (closes s v h (moved h (h .at + j) (h .left - j)) k j c refl .turn .is) (c .some)
 
 pub two-second : (s : List ℕ) (v h : Walk) (k j : ℕ) → TwoAt s v k h j → 5 ≤ j
@@ -398,7 +398,7 @@ head-record s w v k e b =
     b-digit : BegunAt s v k → getD s (v .at) 0 - 48 ≡ 1
     b-digit b = omega (arith, begins s v k b .digit)
 
-    from-head : Leads s w v → unitHere s v ≡ One (getD s (v .at) 0 - 48) (v .at + 5) (k - 5) (moved v (v .at + k) (v .left - k)) → getD s (v .at) 0 - 48 ≡ 1
+    from-head : WholeLeads s w v → unitHere s v ≡ One (getD s (v .at) 0 - 48) (v .at + 5) (k - 5) (moved v (v .at + k) (v .left - k)) → getD s (v .at) 0 - 48 ≡ 1
         → unitFrom s w ≡ One 1 (v .at + 5) (k - 5) (moved v (v .at + k) (v .left - k))
     from-head l h d = l .unit _ _ _ _ h ∙ ap (λ (i : ℕ). One i (v .at + 5) (k - 5) (moved v (v .at + k) (v .left - k))) d
 

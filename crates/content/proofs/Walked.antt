@@ -59,16 +59,16 @@ pub record Comes (s : List ℕ) (x : NextFile) (ds : List File) (set : List ℕ)
   pub named : SetIs s x set
 
 -- what a file of record length and format of w, whose next data block is at x, still hands out with q open, and what its blocks from there on hold
-pub record Owes (s : List ℕ) (w : Walk) (q : ℕ) (x : Extent) (rs : List (List ℕ)) : Type 0 where
+pub record HandsOut (s : List ℕ) (w : Walk) (q : ℕ) (x : Extent) (rs : List (List ℕ)) : Type 0 where
   pub hands : Hands s (w .size) q (unitIn s (opened w x)) rs
   pub sums : Sums (nextHeld s w x) rs
 
 -- what a file with the lengths of w still hands out, with q open, and the files to come
-pub record Told (s : List ℕ) (w : Walk) (q : ℕ) (ps : List Part) (es : List Event) : Type 0 where
-  pub owed : Owes s w q (blockIn ps) (joined (collect es .segments))
+pub record FilesTold (s : List ℕ) (w : Walk) (q : ℕ) (ps : List Part) (es : List Event) : Type 0 where
+  pub owed : HandsOut s w q (blockIn ps) (joined (collect es .segments))
   pub comes : Comes s (fileIn s ps) (collect es .files) (setFrom es)
 
-nothing-owed : (s : List ℕ) (w : Walk) → Owes s w 0 Nowhere (joined [])
+nothing-owed : (s : List ℕ) (w : Walk) → HandsOut s w 0 Nowhere (joined [])
 unfolding opened unitIn joined begunBy handed heldBy sum
 nothing-owed s w = record { hands = refl; sums = record { number = refl; bytes = refl } }
 
@@ -78,7 +78,7 @@ unfolding part
 label-within s a l e h = let n : length (take 80 (drop a s)) ≡ 80 = ap length e ∙ h in omega (arith, n, length-take 80 (drop a s), length-drop a s)
 
 -- a file that begins
-module _ (s : List ℕ) (a b : ℕ) (first second : List ℕ) (ps : List Part) (es : List Event) (c : FileRead s a b first second ps) (h : Told s (walkFrom second 0) 0 ps es) where
+module _ (s : List ℕ) (a b : ℕ) (first second : List ℕ) (ps : List Part) (es : List Event) (c : FileRead s a b first second ps) (h : FilesTold s (walkFrom second 0) 0 ps es) where
   abbrev m : ℕ
   m = markFrom (b + 80) (decode (drop (b + 80) s))
 
@@ -97,8 +97,8 @@ module _ (s : List ℕ) (a b : ℕ) (first second : List ℕ) (ps : List Part) (
   next-is : fileIn s ps ≡ nextFile s this
   next-is = c .next ∙ ap (nextFile s) (sym this-is)
 
-  owes : Owes s (walkFrom second 0) 0 (dataFrom Data m (decode (drop m s))) records
-  owes = subst (λ (y : Extent). Owes s (walkFrom second 0) 0 y records) (c .body .datum) (h .owed)
+  owes : HandsOut s (walkFrom second 0) 0 (dataFrom Data m (decode (drop m s))) records
+  owes = subst (λ (y : Extent). HandsOut s (walkFrom second 0) 0 y records) (c .body .datum) (h .owed)
 
   hands : Hands s (valueOf (recordLengthOf second)) 0 (unitIn s (opened w (dataFrom Data m (decode (drop m s))))) records
   hands =
@@ -146,7 +146,7 @@ module _ (s : List ℕ) (a b : ℕ) (first second : List ℕ) (ps : List Part) (
     amounts = amounts;
   }
 
-  told-file : (v : Walk) → Told s v 0 (NewFile a b ∷ ps) (begins first second ∷ es)
+  told-file : (v : Walk) → FilesTold s v 0 (NewFile a b ∷ ps) (begins first second ∷ es)
   told-file v = unfold collect setFrom blockIn asBlock fileIn asFile firstIn isWanted ifB in
       record {
         owed = nothing-owed s v;
@@ -159,13 +159,13 @@ module _ (s : List ℕ) (a b : ℕ) (first second : List ℕ) (ps : List Part) (
 
 -- a data block
 told-block : (s second : List ℕ) (q start n : ℕ) (ps : List Part) (es : List Event) → BlockRead s second q start n ps
-    → Told s (walkFrom second 0) (outcomeIn second q (part start n s) .pending) ps es
-    → Told s (walkFrom second 0) q (DataBlock start n ∷ ps) (holds (part start n s) (segmentsBy second (part start n s)) ∷ es)
+    → FilesTold s (walkFrom second 0) (outcomeIn second q (part start n s) .pending) ps es
+    → FilesTold s (walkFrom second 0) q (DataBlock start n ∷ ps) (holds (part start n s) (segmentsBy second (part start n s)) ∷ es)
 unfolding collect setFrom outcomeIn blockIn asBlock fileIn firstIn isWanted ifB
 told-block s second q start n ps es c h =
     let w = walkFrom second 0 in
     let b = valueOf (blockLengthOf second) in
-    let owed = subst (λ (y : Extent). Owes s w (outcomeIn second q (part start n s) .pending) y (joined (collect es .segments))) (c .next) (h .owed) in
+    let owed = subst (λ (y : Extent). HandsOut s w (outcomeIn second q (part start n s) .pending) y (joined (collect es .segments))) (c .next) (h .owed) in
     record {
       owed =
           record {
@@ -178,20 +178,20 @@ told-block s second q start n ps es c h =
     }
 
 -- a later section
-told-section : (s : List ℕ) (w : Walk) (q a b : ℕ) (l m : List ℕ) (ps : List Part) (es : List Event) → Told s w q ps es
-    → Told s w q (Section a b ∷ ps) (continues l m ∷ es)
+told-section : (s : List ℕ) (w : Walk) (q a b : ℕ) (l m : List ℕ) (ps : List Part) (es : List Event) → FilesTold s w q ps es
+    → FilesTold s w q (Section a b ∷ ps) (continues l m ∷ es)
 unfolding collect setFrom blockIn fileIn firstIn isWanted ifB
 told-section s w q a b l m ps es h = record { owed = h .owed; comes = h .comes }
 
-told-over : (s : List ℕ) (w : Walk) → Told s w 0 [] []
+told-over : (s : List ℕ) (w : Walk) → FilesTold s w 0 [] []
 unfolding collect setFrom blockIn asBlock fileIn asFile firstIn
 told-over s w = record { owed = nothing-owed s w; comes = record { filed = refl; named = tt } }
 
-told : {s second : List ℕ} {q : ℕ} {ps : List Part} {es : List Event} → Read s second q ps es → Told s (walkFrom second 0) q ps es
+told : {s second : List ℕ} {q : ℕ} {ps : List Part} {es : List Event} → Read s second q ps es → FilesTold s (walkFrom second 0) q ps es
 told {s = s} {second = second} readOver = told-over s (walkFrom second 0)
 told {s = s} {second = second} (readFile {a = a} {b = b} l m {ps = ps} {es = es} c h) = told-file s a b l m ps es c (told h) (walkFrom second 0)
 told {s = s} {q = q} (readSection {a = a} {b = b} l m {ps = ps} {es = es} _ _ e h) =
-    subst (λ (w : Walk). Told s w q (Section a b ∷ ps) (continues l m ∷ es)) e (told-section s (walkFrom m 0) q a b l m ps es (told h))
+    subst (λ (w : Walk). FilesTold s w q (Section a b ∷ ps) (continues l m ∷ es)) e (told-section s (walkFrom m 0) q a b l m ps es (told h))
 told {s = s} {second = second} {q = q} (readBlock {start = start} {n = n} {ps = ps} {es = es} c h) = told-block s second q start n ps es c (told h)
 
 -- ---- the files of an accepted image

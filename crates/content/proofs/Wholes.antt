@@ -157,14 +157,14 @@ standing s v k e z =
     (e ∙ no-offset s v)
 
 -- a unit at the head of what is left for v is the unit at w's place, over the same file
-pub record Leads (s : List ℕ) (w v : Walk) : Type 0 where
+pub record WholeLeads (s : List ℕ) (w v : Walk) : Type 0 where
   pub format : v .format ≡ w .format
   pub size : v .size ≡ w .size
   pub offset : v .offset ≡ w .offset
   pub inside : Inside s v → Inside s w
   pub unit : (i start n : ℕ) (u : Walk) → unitHere s v ≡ One i start n u → unitFrom s w ≡ One i start n u
 
-leads-self : (s : List ℕ) (w : Walk) → Leads s w w
+leads-self : (s : List ℕ) (w : Walk) → WholeLeads s w w
 unfolding unitFrom orNext
 leads-self s w =
     record { format = refl; size = refl; offset = refl; inside = λ h. h; unit = λ i start n u e. ap (λ (t : Taken). orNext t (unitNext s w)) e }
@@ -182,7 +182,7 @@ none-left s w h = by-unit (unitOf (w .format) (w .size) (leftOf s w)) refl
     by-unit None e = refl
 
 leads-block : (s : List ℕ) (w : Walk) (n : ℕ) → w .left ≡ 0 → shape (drop (w .at) s) ≡ Block n → w .offset ≤ n
-    → Leads s w (moved w (w .at + 3 + w .offset) (n - w .offset))
+    → WholeLeads s w (moved w (w .at + 3 + w .offset) (n - w .offset))
 unfolding unitFrom orNext unitNext unitIn blockNext leftOf part allAre opened
 leads-block s w n h e k =
     let within = block-within s (w .at) n (Block n) (sym e) refl in
@@ -202,19 +202,19 @@ leads-block s w n h e k =
           ∙ q;
     }
 
-leads-by : (s : List ℕ) (w : Walk) (p : Shape) → w .left ≡ 0 → shape (drop (w .at) s) ≡ p → Leads s w (headBy w p)
+leads-by : (s : List ℕ) (w : Walk) (p : Shape) → w .left ≡ 0 → shape (drop (w .at) s) ≡ p → WholeLeads s w (headBy w p)
 unfolding headBy
 leads-by s w (Block n) h e =
-    if-case (Leads s w) (leb (w .offset) n) _ w (λ a. leads-block s w n h e (leb-true (w .offset) n a)) (λ _. leads-self s w)
+    if-case (WholeLeads s w) (leb (w .offset) n) _ w (λ a. leads-block s w n h e (leb-true (w .offset) n a)) (λ _. leads-self s w)
 leads-by s w Mark h e = leads-self s w
 leads-by s w ReelEnd h e = leads-self s w
 leads-by s w Broken h e = leads-self s w
 
-pub leads : (s : List ℕ) (w v : Walk) → v ≡ atBlock s w → Leads s w v
+pub leads : (s : List ℕ) (w v : Walk) → v ≡ atBlock s w → WholeLeads s w v
 unfolding atBlock
 leads s w v e =
-    subst (Leads s w) (sym e)
-    (if-case (Leads s w) (eqb (w .left) 0) _ w (λ a. leads-by s w (shape (drop (w .at) s)) (eqb-true (w .left) 0 a) refl) (λ _. leads-self s w))
+    subst (WholeLeads s w) (sym e)
+    (if-case (WholeLeads s w) (eqb (w .left) 0) _ w (λ a. leads-by s w (shape (drop (w .at) s)) (eqb-true (w .left) 0 a) refl) (λ _. leads-self s w))
 
 pub record-whole : (s : List ℕ) (w v : Walk) (k : ℕ) → v ≡ atBlock s w → k ≡ wholeAt s v → (k ≡ 0 → ⊥)
     → recordAt s w ≡ whole (v .at + wordOf (v .format)) (k - wordOf (v .format)) (moved v (v .at + k) (v .left - k))

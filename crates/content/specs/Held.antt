@@ -27,7 +27,7 @@ plus a b =
     }
 
 -- the numbers fit a register
-pub record Room (h : Held) : Type 0 where
+pub record InRegister (h : Held) : Type 0 where
   pub records : h .records < 18446744073709551616
   pub bytes : total h < 18446744073709551616
 

@@ -35,7 +35,7 @@ unfoldable pub bytesBehind : List ℕ → Walk → List ℕ
 bytesBehind s w = restBytes (restAt s (w .size) w)
 
 -- a record goes on behind w, and its bytes go into a buffer of m bytes from place `at` on
-pub record GoesOn (s : List ℕ) (w : Walk) (at m : ℕ) : Type 0 where
+pub record RestFits (s : List ℕ) (w : Walk) (at m : ℕ) : Type 0 where
   pub inside : Inside s w
   pub ended : isEnded (restAt s (w .size) w) ≡ true
   pub fits : at + length (bytesBehind s w) ≤ m

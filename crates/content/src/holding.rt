@@ -1,6 +1,6 @@
 // What a file holds, block by block: records, and bytes by their kind. It takes no step for a record.
 ghost use mathlib.Core.Path.{_≡_};
-ghost use Rattle.content.specs.Held.{plus, Room, fileHeld};
+ghost use Rattle.content.specs.Held.{plus, InRegister, fileHeld};
 use crate::Walk;
 use crate::section::Extent;
 use crate::section::next_data;
@@ -16,7 +16,7 @@ pub struct FileHeld {
 
 // Two parts of a file together.
 fn plus(a: Held, b: Held) -> Held
-    requires { ⌜ Room (plus a b) ⌝ }
+    requires { ⌜ InRegister (plus a b) ⌝ }
     ensures { λ r. ⌜ r ≡ plus a b ⌝ }
 {
     Held {

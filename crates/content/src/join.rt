@@ -5,7 +5,7 @@ ghost use Prim.Native.Nat.{_+_, _≤_};
 ghost use lib.ListN.{length};
 ghost use Rattle.base.specs.Part.{part, putAt};
 ghost use Rattle.content.specs.Walk.{recordAt};
-ghost use Rattle.content.specs.Measure.{GoesOn, bytesBehind, SplitAt, recordBytes};
+ghost use Rattle.content.specs.Measure.{RestFits, bytesBehind, SplitAt, recordBytes};
 use crate::Walk;
 use crate::unit::Taken;
 use crate::unit::unit_from;
@@ -15,7 +15,7 @@ use base::put_in;
 
 // The segments behind the first, copied from a place on.
 fn copy_rest(image: &[u8], from: Walk, join: &mut [u8], place: usize)
-    requires { ⌜ GoesOn (now image) from place (length (now join)) ⌝ }
+    requires { ⌜ RestFits (now image) from place (length (now join)) ⌝ }
     ensures { λ r. ⌜ now (join .exit) ≡ putAt (now (join .entry)) place (bytesBehind (now (image .entry)) from) ⌝ }
 {
     let mut w = from;
@@ -38,7 +38,7 @@ fn copy_rest(image: &[u8], from: Walk, join: &mut [u8], place: usize)
 // A record whose first segment, of n bytes, is known by its place, and the walk behind it.
 pub(crate) fn join_from(image: &[u8], start: usize, n: usize, behind: Walk, join: &mut [u8])
     requires { ⌜ start + n ≤ length (now image) ⌝ }
-    requires { ⌜ GoesOn (now image) behind n (length (now join)) ⌝ }
+    requires { ⌜ RestFits (now image) behind n (length (now join)) ⌝ }
     ensures { λ r. ⌜ now (join .exit) ≡ putAt (now (join .entry)) 0 (part start n (now (image .entry)) ++ bytesBehind (now (image .entry)) behind) ⌝ }
 {
     put_in(join, 0, part_of(image, start, n));

@@ -32,7 +32,7 @@ use Rattle.content.specs.declared.Step.the-variants.{Refused as NoStep}
 use Rattle.listing.specs.Text.{listingOf, refusalLine}
 use Rattle.writing.specs.Rewrite.{sheetFrom}
 use Rattle.demands.specs.Operations.{listing, Operations}
-use Rattle.demands.specs.Terms.{Answered, noneGiven, OutOf, noRecord, rowBy, FileGiven, ByReader, Fits, Outcome}
+use Rattle.demands.specs.Terms.{Answered, noneGiven, OutOf, noRecord, rowBy, FileGiven, ByReader, Fits, WriteOutcome}
 
 -- "1. Any bytes, any numbers: every operation ends and answers by itself, without asking the caller to have checked anything."
 -- An operation is a function of lists and numbers, and no public function has a `requires`.
@@ -103,11 +103,11 @@ pub record Demand2 (p : Operations) : Type 0 where
   -- "The reel writer turns any order sheet that it doesn't refuse into the image fixed there, which reads back as an accepted set with that sheet's meaning." It does not refuse a legal one
   -- whose image has room. Ruled out: an idle writer (`idle`), one that refuses all (`refuses-sheets`), a made-up trailer count (`made-up-count`), 10 for every refusal (`ten-for-all`).
   pub written : (x : Flat) (out : List ℕ) → sheetNumber x ≡ 0 → Fits (sheetOf x) (length out) → p .write x out .number ≡ 0
-  pub outcome : (x : Flat) (out : List ℕ) → Outcome (sheetNumber x) (sheetOf x) out (p .write x out)
+  pub outcome : (x : Flat) (out : List ℕ) → WriteOutcome (sheetNumber x) (sheetOf x) out (p .write x out)
   pub reads-back : (x : Flat) (out : List ℕ) → p .write x out .number ≡ 0 → Means (take (p .write x out .len) (p .write x out .out)) (sheetOf x .meaning)
   -- "Document 01 defines meaning and rewriting": the writer on the sheet with the set's meaning. Ruled out: a rewriter that fills the buffer behind its image (`fills-behind`).
   pub rewritten : (s : List ℕ) (quota : ℕ) (names out : List ℕ) → Accepted s
-      → (w : Written) × Outcome (reelsNumber quota names) (sheetFrom s quota names) out w × (p .rewrite s quota names out ≡ placed w)
+      → (w : Written) × WriteOutcome (reelsNumber quota names) (sheetFrom s quota names) out w × (p .rewrite s quota names out ≡ placed w)
   -- Document 02, P1: conversion is the definition; Requests.antt has what follows from it.
   pub converted : (tape lengths s out list : List ℕ) → (p .import tape lengths out ≡ fromSimh tape lengths out) × (p .export s out list ≡ toSimh s out list)
 

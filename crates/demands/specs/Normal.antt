@@ -24,7 +24,7 @@ use Rattle.writing.specs.Write.{stored, storedLaid, writeSheet, write}
 use Rattle.writing.specs.Rewrite.{sheetFrom, rewrite}
 use Rattle.writing.proofs.RoundTrip.{image-means}
 use Rattle.writing.proofs.Rewriting.{image-legal}
-use Rattle.demands.specs.Terms.{Fits, image, Outcome, fits, illegal, fewReels, tooLong, noRoom}
+use Rattle.demands.specs.Terms.{Fits, image, WriteOutcome, fits, illegal, fewReels, tooLong, noRoom}
 
 -- ---- writing
 
@@ -43,25 +43,25 @@ unfolding write
 write-done x out z f = ap (λ (w : Written). w .number) (if-true _ _ _ (eq-eqb (sheetNumber x) 0 z) ∙ sheet-written (sheetOf x) out f)
 
 -- whatever the sheet, it is written where it fits, and else refused with the first number that applies
-laid-outcome : (n : ℕ) → n ≡ 0 → (x : Sheet) (out : List ℕ) (l : Laid) → lay x ≡ l → Outcome n x out (storedLaid l out)
+laid-outcome : (n : ℕ) → n ≡ 0 → (x : Sheet) (out : List ℕ) (l : Laid) → lay x ≡ l → WriteOutcome n x out (storedLaid l out)
 unfolding storedLaid stored
 laid-outcome n z x out (laid xs) e =
-    if-case (Outcome n x out) (leb (length (head ++ encode xs)) mostImage) _ _
-    (λ a. if-case (Outcome n x out) (leb (length (head ++ encode xs)) (length out)) _ _
+    if-case (WriteOutcome n x out) (leb (length (head ++ encode xs)) mostImage) _ _
+    (λ a. if-case (WriteOutcome n x out) (leb (length (head ++ encode xs)) (length out)) _ _
     (λ b. fits z (record { items = xs; laying = e; limit = leb-true _ _ a; enough = leb-true _ _ b })) (λ b. noRoom z xs e (leb-true _ _ a) (leb-false _ _ b)))
     (λ a. tooLong z xs e (leb-false _ _ a))
 laid-outcome n z x out short e = fewReels z e
 
-pub write-outcome : (x : Flat) (out : List ℕ) → Outcome (sheetNumber x) (sheetOf x) out (write x out)
+pub write-outcome : (x : Flat) (out : List ℕ) → WriteOutcome (sheetNumber x) (sheetOf x) out (write x out)
 unfolding write writeSheet
 write-outcome x out =
-    if-case (Outcome (sheetNumber x) (sheetOf x) out) (eqb (sheetNumber x) 0) _ _
+    if-case (WriteOutcome (sheetNumber x) (sheetOf x) out) (eqb (sheetNumber x) 0) _ _
     (λ e. laid-outcome (sheetNumber x) (eqb-true _ 0 e) (sheetOf x) out (lay (sheetOf x)) refl) (λ e. illegal (eqb-false _ 0 e))
 
 -- ---- rewriting an accepted set
 
 pub rewrite-outcome : (s : List ℕ) (quota : ℕ) (names out : List ℕ) → Accepted s
-    → (w : Written) × Outcome (reelsNumber quota names) (sheetFrom s quota names) out w × (rewrite s quota names out ≡ placed w)
+    → (w : Written) × WriteOutcome (reelsNumber quota names) (sheetFrom s quota names) out w × (rewrite s quota names out ≡ placed w)
 unfolding rewrite writeSheet refusedWith placed refused
 rewrite-outcome s quota names out a = by-legal (eqb (reelsNumber quota names) 0) refl (if-true _ _ _ (eq-eqb (imageVerdict s .number) 0 (accepted-iff s .1 a)))
   where
@@ -70,7 +70,7 @@ rewrite-outcome s quota names out a = by-legal (eqb (reelsNumber quota names) 0)
 
     by-legal : (t : Bool) → eqb (reelsNumber quota names) 0 ≡ t
         → rewrite s quota names out ≡ ifB (eqb (reelsNumber quota names) 0) (placed wrote) (placed (refused (reelsNumber quota names) out))
-        → (w : Written) × Outcome (reelsNumber quota names) (sheetFrom s quota names) out w × (rewrite s quota names out ≡ placed w)
+        → (w : Written) × WriteOutcome (reelsNumber quota names) (sheetFrom s quota names) out w × (rewrite s quota names out ≡ placed w)
     by-legal true e q = (wrote, laid-outcome _ (eqb-true _ 0 e) _ out _ refl, q ∙ if-true _ _ _ e)
     by-legal false e q = (refused (reelsNumber quota names) out, illegal (eqb-false _ 0 e), q ∙ if-false _ _ _ e)
 

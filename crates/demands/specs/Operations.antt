@@ -11,7 +11,7 @@ use Rattle.volume.specs.Run.{imageVerdict}
 use Rattle.sheet.specs.Flat.{Flat}
 use Rattle.base.specs.Part.{putAt}
 use Rattle.content.specs.Walk.{stepAt, joinAt}
-use Rattle.content.specs.Row.{Steps, stepsIn, rowOf}
+use Rattle.content.specs.Row.{StepRow, stepsIn, rowOf}
 use Rattle.label.specs.Judged.{fieldWith}
 use Rattle.content.specs.File.{begunAt, firstFile, nextFile}
 use Rattle.content.specs.Items.{itemAt}
@@ -98,7 +98,7 @@ readingOf x =
     }
 
 -- steps, put at the front of the two lists
-abbrev pub listing : List ℕ → List ℕ → Steps → Listing
+abbrev pub listing : List ℕ → List ℕ → StepRow → Listing
 listing places lengths x = record { answer = rowOf x; places = putAt places 0 (x .places); lengths = putAt lengths 0 (x .lengths) }
 
 abbrev pub ours : Operations

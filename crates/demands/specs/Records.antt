@@ -19,7 +19,7 @@ use Rattle.volume.specs.Accepted.{Accepted}
 use Rattle.volume.specs.Meaning.{File, fieldsFrom, content}
 use Rattle.volume.proofs.Accepted.{accepted-iff}
 use Rattle.content.specs.Walk.{ends, fails, Record, whole, split, nothing as noRecordHere, recordAt, stepBy, joinBy, stepAt, joinAt}
-use Rattle.content.specs.Row.{Steps as Row, stepsBy, stepsAt}
+use Rattle.content.specs.Row.{StepRow as Row, stepsBy, stepsAt}
 use Rattle.content.specs.File.{firstFile, nextFile, fileNumbered, begunBy, begunAt}
 use Rattle.content.specs.Found.{passedBy, passed, foundBy, foundIn, leftIn, foundFrom, leftFrom, foundAt, leftAt}
 use Rattle.content.specs.Measure.{measuredBy}

@@ -15,7 +15,7 @@ use Rattle.output.specs.Output.{Written, refused}
 use Rattle.volume.specs.Meaning.{File, fieldsFrom}
 use Rattle.reading.specs.Legal.{Sheet}
 use Rattle.content.specs.Walk.{Record, whole, split, recordAt}
-use Rattle.content.specs.Row.{Steps as Row, stays, ahead}
+use Rattle.content.specs.Row.{StepRow as Row, stays, ahead}
 use Rattle.content.specs.Found.{passed}
 use Rattle.content.specs.Records.{factsOf}
 use Rattle.content.specs.Numbers.{recordOf, steppedOf}
@@ -124,9 +124,9 @@ image f = head ++ encode (f .items)
 
 -- What writing sheet x gives, where n is the number of its legality, 0, 9 or 11: the image fixed in document 01 at the front of the buffer, whose other bytes stay, exactly where it fits;
 -- else the first of 9 or 11, 12, 14 and 10 that applies.
-pub data Outcome (n : ℕ) (x : Sheet) (out : List ℕ) : Written → Type 0 where
-  fits : n ≡ 0 → (f : Fits x (length out)) → Outcome n x out (record { number = 0; len = length (image f); out = image f ++ drop (length (image f)) out })
-  illegal : (n ≡ 0 → ⊥) → Outcome n x out (refused n out)
-  fewReels : n ≡ 0 → lay x ≡ short → Outcome n x out (refused 12 out)
-  tooLong : n ≡ 0 → (xs : List Item) → lay x ≡ laid xs → mostImage < length (head ++ encode xs) → Outcome n x out (refused 14 out)
-  noRoom : n ≡ 0 → (xs : List Item) → lay x ≡ laid xs → length (head ++ encode xs) ≤ mostImage → length out < length (head ++ encode xs) → Outcome n x out (refused 10 out)
+pub data WriteOutcome (n : ℕ) (x : Sheet) (out : List ℕ) : Written → Type 0 where
+  fits : n ≡ 0 → (f : Fits x (length out)) → WriteOutcome n x out (record { number = 0; len = length (image f); out = image f ++ drop (length (image f)) out })
+  illegal : (n ≡ 0 → ⊥) → WriteOutcome n x out (refused n out)
+  fewReels : n ≡ 0 → lay x ≡ short → WriteOutcome n x out (refused 12 out)
+  tooLong : n ≡ 0 → (xs : List Item) → lay x ≡ laid xs → mostImage < length (head ++ encode xs) → WriteOutcome n x out (refused 14 out)
+  noRoom : n ≡ 0 → (xs : List Item) → lay x ≡ laid xs → length (head ++ encode xs) ≤ mostImage → length out < length (head ++ encode xs) → WriteOutcome n x out (refused 10 out)

@@ -24,7 +24,7 @@ use Rattle.reading.proofs.Dates.{later-dates}
 use Rattle.reading.specs.Legal.{Sheet}
 use Rattle.sheet.specs.Flat.{Flat, sheetNumber}
 use Rattle.content.specs.Walk.{recordAt, stepBy, stepAt}
-use Rattle.content.specs.Row.{Steps, stays, stepsBy, stepsAt, stepsIn, rowOf}
+use Rattle.content.specs.Row.{StepRow, stays, stepsBy, stepsAt, stepsIn, rowOf}
 use Rattle.content.specs.Found.{passed, leftAt}
 use Rattle.content.specs.File.{fileNumbered, begunBy}
 use Rattle.content.specs.Numbers.{noWalk, recordOf, beginningOf, steppedOf}
@@ -41,7 +41,7 @@ use Rattle.writing.specs.Write.{write}
 use Rattle.writing.specs.Lay.{laid, lay}
 use Rattle.writing.specs.Rewrite.{sheetFrom, rewrite}
 use Rattle.demands.specs.Operations.{Handing, Moving, Listing, listing, Operations, ours}
-use Rattle.demands.specs.Terms.{OutOf, noRecord, Handed, one, several, locatedIn, handing, rowOn, rowBy, Fits, image, Outcome, fits, illegal, fewReels, tooLong, noRoom}
+use Rattle.demands.specs.Terms.{OutOf, noRecord, Handed, one, several, locatedIn, handing, rowOn, rowBy, Fits, image, WriteOutcome, fits, illegal, fewReels, tooLong, noRoom}
 use Rattle.demands.specs.Normal.{written, write-outcome, rewritten, sheet-same}
 use Rattle.demands.specs.NewYear.{first, reel, ledger, newYear, oldYear, imageOf, new-year}
 use Rattle.demands.specs.Demands.{Demand1, Demand2, Demand3}
@@ -193,7 +193,7 @@ takes-none d =
     let (v, handed, moved, last) = d .files set [] ledgerFile [] set-accepted set-files .walked in
     let (number, joined) = taken handed in
     let one = if-true (eqb (x .number) 0) _ _ (eq-eqb (x .number) 0 number) ∙ if-true (eqb (x .joined) 0) _ _ (eq-eqb (x .joined) 0 joined) in
-    let z : _≡_ {A = ℕ} 0 1 = ap (λ (l : Listing). l .answer .count) (d .steps set w (0 ∷ []) (0 ∷ [])) ∙ ap (λ (y : Steps). length (y .places)) one in
+    let z : _≡_ {A = ℕ} 0 1 = ap (λ (l : Listing). l .answer .count) (d .steps set w (0 ∷ []) (0 ∷ [])) ∙ ap (λ (y : StepRow). length (y .places)) one in
     omega arith
   where
     w : Walk
@@ -272,7 +272,7 @@ unfolding refused
 refuses-sheets d = let z : _≡_ {A = ℕ} 12 0 = d .written document01 (replicate 448 0) sheet-legal (sheet-fits 448 (omega arith)) in omega arith
 
 -- a writer that says 10 for every refusal
-outcome-number : (n : ℕ) (x : Sheet) (out : List ℕ) (w : Written) → Outcome n x out w → (n ≡ 0 → ⊥) → w .number ≡ n
+outcome-number : (n : ℕ) (x : Sheet) (out : List ℕ) (w : Written) → WriteOutcome n x out w → (n ≡ 0 → ⊥) → w .number ≡ n
 unfolding refused
 outcome-number n x out w (fits z f) other = absurd (other z)
 outcome-number n x out w (illegal z) other = refl
@@ -292,7 +292,7 @@ ten-for-all d =
     omega arith
 
 -- a rewriter that fills the buffer behind its image
-rest-stays : (n : ℕ) (x : Sheet) (out : List ℕ) (w : Written) → Outcome n x out w → w .number ≡ 0 → drop (w .len) (w .out) ≡ drop (w .len) out
+rest-stays : (n : ℕ) (x : Sheet) (out : List ℕ) (w : Written) → WriteOutcome n x out w → w .number ≡ 0 → drop (w .len) (w .out) ≡ drop (w .len) out
 unfolding refused
 rest-stays n x out w (fits z f) e = drop-append-seam (image f) (drop (length (image f)) out)
 rest-stays n x out w (illegal z) e = absurd (z e)

@@ -50,16 +50,16 @@ framed-reel-end n r closed xs h = if-false _ _ _ (ne-eqb r mostReels h)
 
 -- ---- the loop: at a place, with n items and r reels before it, from which the framing is that of the whole
 
-pub record Walked (s : List ℕ) (whole : Verdict) (at n r : ℕ) (closed : Bool) : Type 0 where
+pub record FramedUpTo (s : List ℕ) (whole : Verdict) (at n r : ℕ) (closed : Bool) : Type 0 where
   pub counted : n ≤ mostImage + at
   pub reels : r ≤ mostReels
   pub left : framedFrom n r closed (decode (drop at s)) ≡ whole
 
-pub walked-none : (s : List ℕ) (at n r : ℕ) (closed : Bool) → n ≤ mostImage → r ≤ mostReels → Walked s (framedFrom n r closed (decode (drop at s))) at n r closed
+pub walked-none : (s : List ℕ) (at n r : ℕ) (closed : Bool) → n ≤ mostImage → r ≤ mostReels → FramedUpTo s (framedFrom n r closed (decode (drop at s))) at n r closed
 walked-none s at n r closed c e = record { counted = omega arith; reels = e; left = refl }
 
-pub walked-block : (s : List ℕ) (whole : Verdict) (at n r m : ℕ) (closed : Bool) (p : Shape) → Walked s whole at n r closed → at < length s → (r ≡ mostReels → ⊥)
-    → p ≡ shape (drop at s) → p ≡ Block m → Walked s whole (at + 3 + m) (n + 1) r false
+pub walked-block : (s : List ℕ) (whole : Verdict) (at n r m : ℕ) (closed : Bool) (p : Shape) → FramedUpTo s whole at n r closed → at < length s → (r ≡ mostReels → ⊥)
+    → p ≡ shape (drop at s) → p ≡ Block m → FramedUpTo s whole (at + 3 + m) (n + 1) r false
 walked-block s whole at n r m closed p w h f e q =
     record {
       counted = omega arith;
@@ -67,8 +67,8 @@ walked-block s whole at n r m closed p w h f e q =
       left = sym (ap (framedFrom n r closed) (decode-block s at m p h e q) ∙ framed-block n r closed _ _ f) ∙ w .left;
     }
 
-pub walked-mark : (s : List ℕ) (whole : Verdict) (at n r : ℕ) (closed : Bool) (p : Shape) → Walked s whole at n r closed → at < length s → (r ≡ mostReels → ⊥)
-    → p ≡ shape (drop at s) → p ≡ Mark → Walked s whole (at + 3) (n + 1) r false
+pub walked-mark : (s : List ℕ) (whole : Verdict) (at n r : ℕ) (closed : Bool) (p : Shape) → FramedUpTo s whole at n r closed → at < length s → (r ≡ mostReels → ⊥)
+    → p ≡ shape (drop at s) → p ≡ Mark → FramedUpTo s whole (at + 3) (n + 1) r false
 walked-mark s whole at n r closed p w h f e q =
     record {
       counted = omega arith;
@@ -76,8 +76,8 @@ walked-mark s whole at n r closed p w h f e q =
       left = sym (ap (framedFrom n r closed) (decode-mark s at p h e q) ∙ framed-mark n r closed _ f) ∙ w .left;
     }
 
-pub walked-reel-end : (s : List ℕ) (whole : Verdict) (at n r : ℕ) (closed : Bool) (p : Shape) → Walked s whole at n r closed → at < length s → (r ≡ mostReels → ⊥)
-    → p ≡ shape (drop at s) → p ≡ ReelEnd → Walked s whole (at + 3) (n + 1) (r + 1) true
+pub walked-reel-end : (s : List ℕ) (whole : Verdict) (at n r : ℕ) (closed : Bool) (p : Shape) → FramedUpTo s whole at n r closed → at < length s → (r ≡ mostReels → ⊥)
+    → p ≡ shape (drop at s) → p ≡ ReelEnd → FramedUpTo s whole (at + 3) (n + 1) (r + 1) true
 walked-reel-end s whole at n r closed p w h f e q =
     record {
       counted = omega arith;
@@ -85,20 +85,20 @@ walked-reel-end s whole at n r closed p w h f e q =
       left = sym (ap (framedFrom n r closed) (decode-reel-end s at p h e q) ∙ framed-reel-end n r closed _ f) ∙ w .left;
     }
 
-pub walked-full : (s : List ℕ) (whole : Verdict) (at n r : ℕ) (closed : Bool) (v : Verdict) → v ≡ verdict 2 n 0 → Walked s whole at n r closed → at < length s → r ≡ mostReels → v ≡ whole
+pub walked-full : (s : List ℕ) (whole : Verdict) (at n r : ℕ) (closed : Bool) (v : Verdict) → v ≡ verdict 2 n 0 → FramedUpTo s whole at n r closed → at < length s → r ≡ mostReels → v ≡ whole
 walked-full s whole at n r closed v a w h e = a ∙ sym (ap (framedFrom n r closed) (decode-at s at h) ∙ framed-full n r closed _ _ e) ∙ w .left
 
-pub walked-broken : (s : List ℕ) (whole : Verdict) (at n r : ℕ) (closed : Bool) (p : Shape) (v : Verdict) → v ≡ verdict 2 n 0 → Walked s whole at n r closed → at < length s
+pub walked-broken : (s : List ℕ) (whole : Verdict) (at n r : ℕ) (closed : Bool) (p : Shape) (v : Verdict) → v ≡ verdict 2 n 0 → FramedUpTo s whole at n r closed → at < length s
     → p ≡ shape (drop at s) → p ≡ Broken → v ≡ whole
 unfolding framedFrom
 walked-broken s whole at n r closed p v a w h e q = a ∙ sym (ap (framedFrom n r closed) (decode-broken s at p h e q)) ∙ w .left
 
 -- behind the last item: right only behind the end of a reel
-pub walked-closed : (s : List ℕ) (whole : Verdict) (at n r : ℕ) (closed : Bool) (v : Verdict) → v ≡ verdict 0 0 0 → Walked s whole at n r closed → length s ≤ at → closed ≡ true → v ≡ whole
+pub walked-closed : (s : List ℕ) (whole : Verdict) (at n r : ℕ) (closed : Bool) (v : Verdict) → v ≡ verdict 0 0 0 → FramedUpTo s whole at n r closed → length s ≤ at → closed ≡ true → v ≡ whole
 unfolding framedFrom
 walked-closed s whole at n r closed v a w h e = a ∙ sym (ap (framedFrom n r closed) (decode-past s at h) ∙ if-true _ _ _ e) ∙ w .left
 
-pub walked-open : (s : List ℕ) (whole : Verdict) (at n r : ℕ) (closed : Bool) (v : Verdict) → v ≡ verdict 2 n 0 → Walked s whole at n r closed → length s ≤ at → closed ≡ false → v ≡ whole
+pub walked-open : (s : List ℕ) (whole : Verdict) (at n r : ℕ) (closed : Bool) (v : Verdict) → v ≡ verdict 2 n 0 → FramedUpTo s whole at n r closed → length s ≤ at → closed ≡ false → v ≡ whole
 unfolding framedFrom
 walked-open s whole at n r closed v a w h e = a ∙ sym (ap (framedFrom n r closed) (decode-past s at h) ∙ if-false _ _ _ e) ∙ w .left
 
@@ -107,14 +107,14 @@ pub ruleset walks = (walked-none, walked-block, walked-mark, walked-reel-end, wa
 -- ---- what number 0 says: no item is broken
 
 -- an item as `decode` makes it: a block has a legal length
-unfoldable pub Sound : Item → Type 0
-Sound (block bs) = isItem (block bs) ≡ true
-Sound mark = Unit {0}
-Sound reelEnd = Unit {0}
-Sound broken = Unit {0}
+unfoldable pub SoundItem : Item → Type 0
+SoundItem (block bs) = isItem (block bs) ≡ true
+SoundItem mark = Unit {0}
+SoundItem reelEnd = Unit {0}
+SoundItem broken = Unit {0}
 
-sound-item : (p : Shape) (s : List ℕ) → shape s ≡ p → Sound (itemOf p s)
-unfolding Sound itemOf isItem
+sound-item : (p : Shape) (s : List ℕ) → shape s ≡ p → SoundItem (itemOf p s)
+unfolding SoundItem itemOf isItem
 sound-item (Block n) s e =
     let a : BlockAt s n = block-at s n e in
     let long : length (part 3 n s) ≡ n = length-part 3 n s (a .whole) in
@@ -134,8 +134,8 @@ right-next x xs n r m k closed good again =
     if-case (λ (v : Verdict). v .number ≡ 0 → allItems (x ∷ xs) ≡ true) (eqb r mostReels) _ _ (λ _ q. absurd (omega arith))
     (λ _ q. if-true _ _ _ good ∙ again m k closed q)
 
-right-more : (x : Item) (xs : List Item) → Sound x → Right xs → Right (x ∷ xs)
-unfolding Sound isItem framedFrom verdict
+right-more : (x : Item) (xs : List Item) → SoundItem x → Right xs → Right (x ∷ xs)
+unfolding SoundItem isItem framedFrom verdict
 right-more (block bs) xs good again n r closed = right-next (block bs) xs n r (n + 1) r false good again
 right-more mark xs good again n r closed = right-next mark xs n r (n + 1) r false refl again
 right-more reelEnd xs good again n r closed = right-next reelEnd xs n r (n + 1) (r + 1) true refl again
@@ -173,14 +173,14 @@ framing-from s at n r closed short counted reels =
 
 -- ---- an image that opens as one
 
-pub record Opened (s : List ℕ) : Type 0 where
+pub record OpensAs (s : List ℕ) : Type 0 where
   pub small : length s ≤ mostImage
   pub headed : take 5 s ≡ head
 
-pub opens-right : (s : List ℕ) → opens s ≡ true → Opened s
+pub opens-right : (s : List ℕ) → opens s ≡ true → OpensAs s
 unfolding opens
 opens-right s =
-    if-case (λ (b : Bool). b ≡ true → Opened s) (ltb mostImage (length s)) false (same (take 5 s) head) (λ _ q. absurd (false≢true q))
+    if-case (λ (b : Bool). b ≡ true → OpensAs s) (ltb mostImage (length s)) false (same (take 5 s) head) (λ _ q. absurd (false≢true q))
     (λ l q. record { small = ltb-false mostImage (length s) l; headed = same-true (take 5 s) head q })
 
 pub opens-small : (s : List ℕ) (b : Bool) → b ≡ opens s → b ≡ true → length s ≤ mostImage

@@ -67,21 +67,21 @@ pub ruleset setting = (setting-none, setting-more, setting-all, needs)
 
 -- ---- a number, from its last digit on
 
-pub record Counting (old : List ℕ) (at w n : ℕ) (made : List ℕ) (left i : ℕ) : Type 0 where
+pub record DigitsSet (old : List ℕ) (at w n : ℕ) (made : List ℕ) (left i : ℕ) : Type 0 where
   pub fits : at + w ≤ 80
   pub size : length made ≡ 80
   pub within : i ≤ w
   pub same : putAt made at (digits i left) ≡ putAt old at (digits w n)
 
-pub counting-none : (old : List ℕ) (at w n : ℕ) → at + w ≤ 80 → length old ≡ 80 → Counting old at w n old n w
+pub counting-none : (old : List ℕ) (at w n : ℕ) → at + w ≤ 80 → length old ≡ 80 → DigitsSet old at w n old n w
 counting-none old at w n h l = record { fits = h; size = l; within = omega arith; same = refl }
 
 last-digit : (j n : ℕ) → digits (suc j) n ≡ digits j (n / 10) ++ ((48 + n % 10) ∷ [])
 unfolding digits
 last-digit j n = refl
 
-pub counting-more : (old : List ℕ) (at w n : ℕ) (made : List ℕ) (left i : ℕ) → Counting old at w n made left i → 0 < i
-    → Counting old at w n (set made (at + (i - 1)) (48 + left % 10)) (left / 10) (i - 1)
+pub counting-more : (old : List ℕ) (at w n : ℕ) (made : List ℕ) (left i : ℕ) → DigitsSet old at w n made left i → 0 < i
+    → DigitsSet old at w n (set made (at + (i - 1)) (48 + left % 10)) (left / 10) (i - 1)
 counting-more old at w n made left i c h =
     let one : i ≡ suc (i - 1) = omega arith in
     let long : length (digits (i - 1) (left / 10)) ≡ i - 1 = length-digits (i - 1) (left / 10) in
@@ -98,7 +98,7 @@ counting-more old at w n made left i c h =
           ∙ c .same;
     }
 
-pub counting-all : (old : List ℕ) (at w n : ℕ) (made : List ℕ) (left i : ℕ) → Counting old at w n made left i → i ≤ 0
+pub counting-all : (old : List ℕ) (at w n : ℕ) (made : List ℕ) (left i : ℕ) → DigitsSet old at w n made left i → i ≤ 0
     → made ≡ putAt old at (fitted w (digits w n))
 unfolding digits
 counting-all old at w n made left i c h =

@@ -58,17 +58,17 @@ bad-end ok table at i h = bad-short ok at (drop i table) (simp length-drop (omeg
 
 -- ---- the loop: what is left from here has the first bad field of the whole
 
-pub record Walked (ok : ℕ → ℕ → ℕ → ℕ → Bool) (table : List ℕ) (at i : ℕ) : Type 0 where
+pub record RowsPassed (ok : ℕ → ℕ → ℕ → ℕ → Bool) (table : List ℕ) (at i : ℕ) : Type 0 where
   pub few : length table ≤ 64
   pub within : i ≤ length table
   pub small : at ≤ 255 * i
   pub left : firstBad ok at (drop i table) ≡ firstBad ok 0 table
 
-pub walked-none : (ok : ℕ → ℕ → ℕ → ℕ → Bool) (table : List ℕ) → length table ≤ 64 → Walked ok table 0 0
+pub walked-none : (ok : ℕ → ℕ → ℕ → ℕ → Bool) (table : List ℕ) → length table ≤ 64 → RowsPassed ok table 0 0
 walked-none ok table h = record { few = h; within = omega arith; small = omega arith; left = refl }
 
-pub walked-more : (ok : ℕ → ℕ → ℕ → ℕ → Bool) (table : List ℕ) (at i w : ℕ) (p : Bool) → Walked ok table at i → i + 2 < length table
-    → w ≡ getD table i 0 → w < 256 → p ≡ ok (getD table (i + 1) 0) (getD table (i + 2) 0) at w → p ≡ true → Walked ok table (at + w) (i + 3)
+pub walked-more : (ok : ℕ → ℕ → ℕ → ℕ → Bool) (table : List ℕ) (at i w : ℕ) (p : Bool) → RowsPassed ok table at i → i + 2 < length table
+    → w ≡ getD table i 0 → w < 256 → p ≡ ok (getD table (i + 1) 0) (getD table (i + 2) 0) at w → p ≡ true → RowsPassed ok table (at + w) (i + 3)
 walked-more ok table at i w p c h e s q t =
     let here : rowAt ok table at i ≡ true = ap (ok (getD table (i + 1) 0) (getD table (i + 2) 0) at) (sym e) ∙ sym q ∙ t in
     record {
@@ -78,16 +78,16 @@ walked-more ok table at i w p c h e s q t =
       left = ap (λ (k : ℕ). firstBad ok (at + k) (drop (i + 3) table)) e ∙ sym (bad-more ok table at i h here) ∙ c .left;
     }
 
-pub walked-bad : (ok : ℕ → ℕ → ℕ → ℕ → Bool) (table : List ℕ) (at i w : ℕ) (p : Bool) → Walked ok table at i → i + 2 < length table
+pub walked-bad : (ok : ℕ → ℕ → ℕ → ℕ → Bool) (table : List ℕ) (at i w : ℕ) (p : Bool) → RowsPassed ok table at i → i + 2 < length table
     → w ≡ getD table i 0 → p ≡ ok (getD table (i + 1) 0) (getD table (i + 2) 0) at w → p ≡ false → at + 1 ≡ firstBad ok 0 table
 walked-bad ok table at i w p c h e q t =
     sym (bad-here ok table at i h (ap (ok (getD table (i + 1) 0) (getD table (i + 2) 0) at) (sym e) ∙ sym q ∙ t)) ∙ c .left
 
-pub walked-all : (ok : ℕ → ℕ → ℕ → ℕ → Bool) (table : List ℕ) (at i : ℕ) → Walked ok table at i → length table ≤ i + 2 → 0 ≡ firstBad ok 0 table
+pub walked-all : (ok : ℕ → ℕ → ℕ → ℕ → Bool) (table : List ℕ) (at i : ℕ) → RowsPassed ok table at i → length table ≤ i + 2 → 0 ≡ firstBad ok 0 table
 walked-all ok table at i c h = sym (bad-end ok table at i h) ∙ c .left
 
 -- that a place in the table is small enough for a sum
-pub walked-small : (ok : ℕ → ℕ → ℕ → ℕ → Bool) (table : List ℕ) (at i : ℕ) → Walked ok table at i → at ≤ 16384
+pub walked-small : (ok : ℕ → ℕ → ℕ → ℕ → Bool) (table : List ℕ) (at i : ℕ) → RowsPassed ok table at i → at ≤ 16384
 walked-small ok table at i c = omega (arith, c .few, c .within, c .small)
 
 pub ruleset pieces = (walked-none, walked-more, walked-bad, walked-all, walked-small, needs)

@@ -55,7 +55,7 @@ decimal-long (suc k) n h = by-one (decLt n 10) (decimal-long k (n / 10) (tens-be
 
 -- ---- the loop of `put_decimal`: the digits of what is left, then those written from place i + 1 on
 
-pub record Spelled (n : ℕ) (d : List ℕ) (i rest : ℕ) : Type 0 where
+pub record DigitsSpelled (n : ℕ) (d : List ℕ) (i rest : ℕ) : Type 0 where
   pub size : length d ≡ 20
   pub within : i < 20
   pub small : rest < 10 ^ (i + 1)
@@ -67,18 +67,18 @@ drop-set d i x h =
     drop-cons (set d i x) i 0 (subst (λ (k : ℕ). i < k) (sym (length-set d i x)) h)
     ∙ ap₂ _∷_ (getD-set-same d i x 0 h) (ap (λ (k : ℕ). drop k (set d i x)) (sym (add-one i)) ∙ drop-set-lt (i + 1) d i x (omega arith))
 
-pub spelled-none : (n : ℕ) (d : List ℕ) → Fits w64 n → length d ≡ 20 → Spelled n d 19 n
+pub spelled-none : (n : ℕ) (d : List ℕ) → Fits w64 n → length d ≡ 20 → DigitsSpelled n d 19 n
 spelled-none n d h l =
     let small : n < 10 ^ (19 + 1) = omega (arith, h) in
     let none : length d ≤ 19 + 1 = omega arith in
     record { size = l; within = omega arith; small = small; left = ap (λ (k : List ℕ). decimal n ++ k) (drop-of-length-le d none) ∙ append-nil (decimal n) }
 
 -- a number of two digits or more has a place before its last
-pub place-before : (n : ℕ) (d : List ℕ) (i rest : ℕ) → Spelled n d i rest → 10 ≤ rest → 1 ≤ i
+pub place-before : (n : ℕ) (d : List ℕ) (i rest : ℕ) → DigitsSpelled n d i rest → 10 ≤ rest → 1 ≤ i
 place-before n d zero rest c h = absurd (omega (arith, c .small))
 place-before n d (suc i) rest c h = omega arith
 
-pub spelled-more : (n : ℕ) (d : List ℕ) (i rest : ℕ) → Spelled n d i rest → 10 ≤ rest → Spelled n (set d i (48 + rest % 10)) (i - 1) (rest / 10)
+pub spelled-more : (n : ℕ) (d : List ℕ) (i rest : ℕ) → DigitsSpelled n d i rest → 10 ≤ rest → DigitsSpelled n (set d i (48 + rest % 10)) (i - 1) (rest / 10)
 spelled-more n d i rest c h =
     let x : ℕ = 48 + rest % 10 in
     let before : 1 ≤ i = place-before n d i rest c h in
@@ -98,7 +98,7 @@ spelled-more n d i rest c h =
           ∙ c .left;
     }
 
-pub spelled-all : (n : ℕ) (d : List ℕ) (i rest : ℕ) → Spelled n d i rest → rest < 10 → take (20 - i) (drop i (set d i (48 + rest))) ≡ decimal n
+pub spelled-all : (n : ℕ) (d : List ℕ) (i rest : ℕ) → DigitsSpelled n d i rest → rest < 10 → take (20 - i) (drop i (set d i (48 + rest))) ≡ decimal n
 spelled-all n d i rest c h =
     take-all (20 - i) (drop i (set d i (48 + rest))) (simp (length-drop, length-set) (omega (arith, c .size)))
     ∙ drop-set d i (48 + rest) (omega (arith, c .size, c .within))
@@ -106,7 +106,7 @@ spelled-all n d i rest c h =
     ∙ c .left
 
 -- the last place is still there
-pub spelled-size : (n : ℕ) (d : List ℕ) (i rest x : ℕ) → Spelled n d i rest → 20 ≤ length (set d i x)
+pub spelled-size : (n : ℕ) (d : List ℕ) (i rest x : ℕ) → DigitsSpelled n d i rest → 20 ≤ length (set d i x)
 spelled-size n d i rest x c = let size : length (set d i x) ≡ length d = length-set d i x in omega (arith, c .size)
 
 pub ruleset spelling = (spelled-none, spelled-size, place-before, spelled-more, spelled-all, wrote-same, needs)

@@ -29,7 +29,7 @@ use Rattle.content.specs.declared.part.Part.{Part}
 use Rattle.content.specs.declared.part.Part.the-variants.{File as NewFile, Section, Block, None}
 use Rattle.content.proofs.Parts.{stands, IsAhead, first-ahead}
 use Rattle.content.proofs.Walked.{files-all}
-use Rattle.listing.specs.Page.{Wrote, endless}
+use Rattle.listing.specs.Page.{PageWrote, endless}
 use Rattle.listing.specs.Text.{heading, named, counted, described, line, lines, listingOf}
 use Rattle.listing.specs.Place.{describedAt, lineAt}
 
@@ -38,7 +38,7 @@ use Rattle.listing.specs.Place.{describedAt, lineAt}
 -- what is said of a file, by the parts of the image that the code cuts out
 pub described-written : (s : List ℕ) (f : FileAt) (first second i g : List ℕ) (x : Held) (o : List ℕ) (a : ℕ) (p : List ℕ) (r : ℕ) (q : List ℕ) (t : ℕ)
     → first ≡ part (f .first) 80 s → second ≡ part (f .second) 80 s → i ≡ part 4 17 first → g ≡ part 4 1 second
-    → Wrote o a (named i g) p r → Wrote p r (counted (x .records) (x .bytes)) q t → Wrote o a (describedAt s f x) q t
+    → PageWrote o a (named i g) p r → PageWrote p r (counted (x .records) (x .bytes)) q t → PageWrote o a (describedAt s f x) q t
 unfolding describedAt
 described-written s f first second i g x o a p r q t ef es ei eg w v =
     wrote-same o a (named i g ++ counted (x .records) (x .bytes)) (describedAt s f x) q t
@@ -46,7 +46,7 @@ described-written s f first second i g x o a p r q t ef es ei eg w v =
     (wrote-wrote o a (named i g) p r (counted (x .records) (x .bytes)) q t w v)
 
 pub line-written : (s : List ℕ) (f : FileAt) (x : Held) (n : ℕ) (d o : List ℕ) (a : ℕ) (p : List ℕ) (r : ℕ) (q : List ℕ) (t : ℕ)
-    → d ≡ digits 4 n → Wrote o a d p r → Wrote p r (describedAt s f x) q t → Wrote o a (lineAt s n f x) q t
+    → d ≡ digits 4 n → PageWrote o a d p r → PageWrote p r (describedAt s f x) q t → PageWrote o a (lineAt s n f x) q t
 unfolding lineAt
 line-written s f x n d o a p r q t e w v =
     wrote-same o a (d ++ describedAt s f x) (lineAt s n f x) q t (ap (λ (y : List ℕ). y ++ describedAt s f x) e)
@@ -70,15 +70,15 @@ line-is s n f d c =
 -- ---- from file to file
 
 -- a file stands no earlier than at a place
-abbrev pub Behind : ℕ → NextFile → Type 0
-Behind at (At f) = at ≤ f .second
-Behind at Nowhere = 0 ≤ at
+abbrev pub NoEarlier : ℕ → NextFile → Type 0
+NoEarlier at (At f) = at ≤ f .second
+NoEarlier at Nowhere = 0 ≤ at
 
-behind-less : (a b : ℕ) (x : NextFile) → a ≤ b → Behind b x → Behind a x
+behind-less : (a b : ℕ) (x : NextFile) → a ≤ b → NoEarlier b x → NoEarlier a x
 behind-less a b (At f) h c = omega arith
 behind-less a b Nowhere h c = omega arith
 
-file-behind : (s : List ℕ) (at : ℕ) (p : Part) → IsAhead s at p → Behind at (asFile s p)
+file-behind : (s : List ℕ) (at : ℕ) (p : Part) → IsAhead s at p → NoEarlier at (asFile s p)
 unfolding asFile
 file-behind s at (NewFile a b) h = omega (arith, h .onward)
 file-behind s at (Section a b) h = omega arith
@@ -86,7 +86,7 @@ file-behind s at (Block start n) h = omega arith
 file-behind s at None h = omega arith
 
 -- what is found from a place on stands behind it
-found-behind : (s : List ℕ) (at hdr1 : ℕ) (p : Phase) → Behind at (fileFrom s (stands at hdr1 p false))
+found-behind : (s : List ℕ) (at hdr1 : ℕ) (p : Phase) → NoEarlier at (fileFrom s (stands at hdr1 p false))
 unfolding fileFrom firstFileIn
 found-behind s at hdr1 p = file-behind s at _ (first-ahead s false false at hdr1 p false)
 
@@ -97,15 +97,15 @@ pub record Lining (s o : List ℕ) (a : ℕ) (p : List ℕ) (r n : ℕ) (x : Nex
   pub before : List ℕ
   pub rest : List File
   pub filed : Filed s x rest
-  pub wrote : Wrote o a before p r
+  pub wrote : PageWrote o a before p r
   pub whole : before ++ lines n rest ≡ lines 1 (content s .files)
-  pub number : Behind (n + 1) x
+  pub number : NoEarlier (n + 1) x
 
 -- nothing is written yet
-wrote-none : (o : List ℕ) (a : ℕ) → a ≤ endless → Wrote o a [] o a
+wrote-none : (o : List ℕ) (a : ℕ) → a ≤ endless → PageWrote o a [] o a
 wrote-none o a h = record { kept = refl; place = omega arith; done = λ _ _. sym (put-none o a) }
 
-pub lining-none : (s o p : List ℕ) (r : ℕ) (x : NextFile) → length s < 18446744073709551616 → imageVerdict s .number ≡ 0 → x ≡ firstFile s → Wrote o 0 heading p r
+pub lining-none : (s o p : List ℕ) (r : ℕ) (x : NextFile) → length s < 18446744073709551616 → imageVerdict s .number ≡ 0 → x ≡ firstFile s → PageWrote o 0 heading p r
     → Lining s p r p r 1 x
 unfolding firstFile
 lining-none s o p r x l h e w =
@@ -116,7 +116,7 @@ lining-none s o p r x l h e w =
       filed = subst (λ (y : NextFile). Filed s y (content s .files)) (sym e) (files-all s h);
       wrote = wrote-none p r (omega (arith, w .place));
       whole = refl;
-      number = subst (Behind 2) (sym e) (behind-less 2 5 (firstFile s) (omega arith) (found-behind s 5 (length s) Reel));
+      number = subst (NoEarlier 2) (sym e) (behind-less 2 5 (firstFile s) (omega arith) (found-behind s 5 (length s) Reel));
     }
 
 -- what the search for the next file found
@@ -129,14 +129,14 @@ fileIn f (At g) = g
 fileIn f Nowhere = f
 
 -- of the files left the first stands at f
-pub record Next (s : List ℕ) (n : ℕ) (f : FileAt) (rest : List File) : Type 0 where
+pub record NextAt (s : List ℕ) (n : ℕ) (f : FileAt) (rest : List File) : Type 0 where
   pub file : File
   pub others : List File
   pub is : FileIs s f file
   pub filed : Filed s (nextFile s f) others
   pub lined : lines n rest ≡ lineAt s n f (fileHeld s (f .walk) .held) ++ lines (n + 1) others
 
-next-file : (s : List ℕ) (n : ℕ) (x : NextFile) (f : FileAt) (ds : List File) → Filed s x ds → x ≡ At f → Next s n f ds
+next-file : (s : List ℕ) (n : ℕ) (x : NextFile) (f : FileAt) (ds : List File) → Filed s x ds → x ≡ At f → NextAt s n f ds
 unfolding isFile fileIn lines
 next-file s n x f [] c e = absurd (false≢true (sym (ap isFile c) ∙ ap isFile e))
 next-file s n x f (d ∷ ds) (g, e′, is, others) e =
@@ -150,8 +150,8 @@ next-file s n x f (d ∷ ds) (g, e′, is, others) e =
       lined = ap (λ (l : List ℕ). l ++ lines (n + 1) ds) (sym (line-is s n f d here));
     }
 
-pub lining-all : (s e o : List ℕ) (a : ℕ) (p : List ℕ) (r n : ℕ) (x : NextFile) → Wrote e 0 heading o a → Lining s o a p r n x → x ≡ Nowhere
-    → Wrote e 0 (listingOf (content s)) p r
+pub lining-all : (s e o : List ℕ) (a : ℕ) (p : List ℕ) (r n : ℕ) (x : NextFile) → PageWrote e 0 heading o a → Lining s o a p r n x → x ≡ Nowhere
+    → PageWrote e 0 (listingOf (content s)) p r
 unfolding isFile lines listingOf
 lining-all s e o a p r n x w c z =
     wrote-same e 0 (heading ++ c .before) (listingOf (content s)) p r (ap (λ (l : List ℕ). heading ++ l) (all (c .rest) (c .filed) (c .whole)))
@@ -166,18 +166,18 @@ abbrev pub left : List ℕ → NextFile → ℕ
 left s (At f) = suc (length s - f .second)
 left s Nowhere = 0
 
-left-falls : (s : List ℕ) (f : FileAt) (y : NextFile) → f .second + 80 ≤ length s → Behind (f .second + 80) y → left s y < left s (At f)
+left-falls : (s : List ℕ) (f : FileAt) (y : NextFile) → f .second + 80 ≤ length s → NoEarlier (f .second + 80) y → left s y < left s (At f)
 left-falls s f (At g) h b = omega arith
 left-falls s f Nowhere h b = omega arith
 
 module _ (s o : List ℕ) (a : ℕ) (p : List ℕ) (r n : ℕ) (x : NextFile) (f : FileAt) (c : Lining s o a p r n x) (e : x ≡ At f) where
-  next : Next s n f (c .rest)
+  next : NextAt s n f (c .rest)
   next = next-file s n x f (c .rest) (c .filed) e
 
   after : n + 1 ≤ f .second
-  after = subst (Behind (n + 1)) e (c .number)
+  after = subst (NoEarlier (n + 1)) e (c .number)
 
-  behind : Behind (f .second + 80) (nextFile s f)
+  behind : NoEarlier (f .second + 80) (nextFile s f)
   unfolding nextFile
   behind = found-behind s (f .second + 80) (f .first) (Header 2)
 
@@ -188,7 +188,7 @@ module _ (s o : List ℕ) (a : ℕ) (p : List ℕ) (r n : ℕ) (x : NextFile) (f
   found : (y : FileHeld) (z : NextFile) → y ≡ fileHeld s (f .walk) → z ≡ fileBehind s f (y .end) → z ≡ nextFile s f
   found y z h k = k ∙ ap (λ (x : FileHeld). fileBehind s f (x .end)) h ∙ next .is .amounts .behind
 
-  pub lining-more : (y : FileHeld) (q : List ℕ) (t : ℕ) (z : NextFile) → y ≡ fileHeld s (f .walk) → Wrote p r (lineAt s n f (y .held)) q t
+  pub lining-more : (y : FileHeld) (q : List ℕ) (t : ℕ) (z : NextFile) → y ≡ fileHeld s (f .walk) → PageWrote p r (lineAt s n f (y .held)) q t
       → z ≡ fileBehind s f (y .end) → Lining s o a q t (n + 1) z
   lining-more y q t z h w k =
       record {
@@ -202,12 +202,12 @@ module _ (s o : List ℕ) (a : ℕ) (p : List ℕ) (r n : ℕ) (x : NextFile) (f
             ∙ ap (λ (u : FileHeld). c .before ++ (lineAt s n f (u .held) ++ lines (n + 1) (next .others))) h
             ∙ ap (λ (l : List ℕ). c .before ++ l) (sym (next .lined))
             ∙ c .whole;
-        number = subst (Behind (n + 1 + 1)) (sym (found y z h k)) (behind-less (n + 1 + 1) (f .second + 80) (nextFile s f) (omega (arith, after)) behind);
+        number = subst (NoEarlier (n + 1 + 1)) (sym (found y z h k)) (behind-less (n + 1 + 1) (f .second + 80) (nextFile s f) (omega (arith, after)) behind);
       }
 
   pub lining-falls : (y : FileHeld) (z : NextFile) → y ≡ fileHeld s (f .walk) → z ≡ fileBehind s f (y .end) → left s z < left s x
   lining-falls y z h k =
       subst (λ (u : NextFile). left s z < left s u) (sym e)
-      (left-falls s f z (next .is .secondWithin) (subst (Behind (f .second + 80)) (sym (found y z h k)) behind))
+      (left-falls s f z (next .is .secondWithin) (subst (NoEarlier (f .second + 80)) (sym (found y z h k)) behind))
 
 pub ruleset lining = (lining-none, lining-all, lining-more, number-fits, lining-falls, needs)

@@ -8,7 +8,7 @@ use borrow.Author.Tests.{eqb-true}
 use lib.Dec.{eqb, ltb}
 use Rattle.base.specs.If.{ifB, if-false, if-case, and-first, and-second, and-true}
 use Rattle.order.specs.Kind.{hdr, eof, dataBlock, tapeMark, endOfReel, isKind}
-use Rattle.order.specs.Due.{Turn, dues, choose, dueAfter, upToNine}
+use Rattle.order.specs.Due.{DueItem, dues, choose, dueAfter, upToNine}
 use Rattle.order.specs.Group.{amongLabels, amongHeaders, amongData, groupAfter}
 use Rattle.order.specs.declared.Kind.{Kind}
 use Rattle.order.specs.declared.Phase.{Phase}
@@ -138,9 +138,9 @@ label-labels p k q h m e =
     }
 
 -- one more optional label is no data block
-past-nine : (n : ℕ) (t : Turn) (ts : List Turn) → isKind dataBlock (t .item) ≡ false → choose ts dataBlock ≡ Wrong → choose (upToNine n t ts) dataBlock ≡ Wrong
+past-nine : (n : ℕ) (t : DueItem) (ts : List DueItem) → isKind dataBlock (t .item) ≡ false → choose ts dataBlock ≡ Wrong → choose (upToNine n t ts) dataBlock ≡ Wrong
 unfolding upToNine choose
-past-nine n t ts h e = if-case (λ (us : List Turn). choose us dataBlock ≡ Wrong) (ltb n 9) (t ∷ ts) ts (λ _. if-false _ _ _ h ∙ e) (λ _. e)
+past-nine n t ts h e = if-case (λ (us : List DueItem). choose us dataBlock ≡ Wrong) (ltb n 9) (t ∷ ts) ts (λ _. if-false _ _ _ h ∙ e) (λ _. e)
 
 -- a data block is due exactly among data blocks
 pub data-group : (p : Phase) → dueAfter p dataBlock ≡ ifB (eqb (groupOf p) amongData) (To Data) Wrong

@@ -11,7 +11,7 @@ use borrow.Author.Tests.{eq-eqb, ne-eqb, lt-ltb, le-ltb, ltb-true, eqb-true}
 use lib.Dec.{eqb, ltb}
 use Rattle.base.specs.If.{ifB, if-true, if-false, if-case, and-left, and-first, and-second}
 use Rattle.order.specs.Kind.{kind, isKind, vol, hdr, eof, eov, dataBlock, tapeMark, endOfReel, endOfImage}
-use Rattle.order.specs.Due.{Turn, turn, dues, choose, dueAfter, upToNine}
+use Rattle.order.specs.Due.{DueItem, turn, dues, choose, dueAfter, upToNine}
 use Rattle.order.specs.declared.Kind.{Kind}
 use Rattle.order.specs.declared.Phase.{Phase}
 use Rattle.order.specs.declared.Phase.the-variants.{Reel, Volume, FirstHeader, Header, Data, Trailer, FirstEof, Eof, FirstEov, Eov, FileEnd, VolumeEnd, SetClosed, ReelClosed, Over, Accepted}
@@ -31,7 +31,7 @@ and-so a b p h q = q ∙ and-then a b h
 pub ruleset ands = (and-then, and-so, and-not, eq-eqb, ne-eqb, lt-ltb, le-ltb, needs)
 
 -- one more optional label is due, and is there
-pub choose-next : (n : ℕ) (i : Kind) (p : Phase) (ts : List Turn) (k : Kind) (m : Bool) → m ≡ (ltb n 9 && isKind k i) → m ≡ true
+pub choose-next : (n : ℕ) (i : Kind) (p : Phase) (ts : List DueItem) (k : Kind) (m : Bool) → m ≡ (ltb n 9 && isKind k i) → m ≡ true
     → To p ≡ choose (upToNine n (turn i p) ts) k
 unfolding choose upToNine ifB
 choose-next n i p ts k m e h =
@@ -42,7 +42,7 @@ choose-next n i p ts k m e h =
     go false q = absurd (mathlib.Core.Bool.false≢true q)
 
 -- it is not there, or no more is due: what else is due decides
-pub choose-rest : (n : ℕ) (i : Kind) (p : Phase) (ts : List Turn) (k : Kind) (m : Bool) (r : Due) → m ≡ (ltb n 9 && isKind k i) → m ≡ false
+pub choose-rest : (n : ℕ) (i : Kind) (p : Phase) (ts : List DueItem) (k : Kind) (m : Bool) (r : Due) → m ≡ (ltb n 9 && isKind k i) → m ≡ false
     → r ≡ choose ts k → r ≡ choose (upToNine n (turn i p) ts) k
 unfolding choose upToNine ifB
 choose-rest n i p ts k m r e h q =
@@ -125,16 +125,16 @@ kind-is a b h =
 
 -- ---- what holds of all that is due
 
-abbrev pub Each : (Kind → Phase → Type 0) → List Turn → Type 0
+abbrev pub Each : (Kind → Phase → Type 0) → List DueItem → Type 0
 Each P [] = Unit {0}
 Each P (t ∷ ts) = P (t .item) (t .phase) × Each P ts
 
-pub nine : (P : Kind → Phase → Type 0) (n : ℕ) (t : Turn) (ts : List Turn) → P (t .item) (t .phase) → Each P ts → Each P (upToNine n t ts)
+pub nine : (P : Kind → Phase → Type 0) (n : ℕ) (t : DueItem) (ts : List DueItem) → P (t .item) (t .phase) → Each P ts → Each P (upToNine n t ts)
 unfolding upToNine
 nine P n t ts h k = if-case (Each P) (ltb n 9) (t ∷ ts) ts (λ _. (h, k)) (λ _. k)
 
 -- what holds of every turn that is due holds of the one that is taken
-pub chosen : (P : Kind → Phase → Type 0) (ts : List Turn) (k : Kind) (q : Phase) → Each P ts → choose ts k ≡ To q → P k q
+pub chosen : (P : Kind → Phase → Type 0) (ts : List DueItem) (k : Kind) (q : Phase) → Each P ts → choose ts k ≡ To q → P k q
 unfolding choose
 chosen P [] k q each e = let z : _≡_ {A = ℕ} 0 1 = cc in absurd (omega arith)
 chosen P (t ∷ ts) k q (here, later) e =

@@ -21,19 +21,19 @@ use Rattle.order.specs.declared.Due.{Due}
 use Rattle.order.specs.declared.Due.the-variants.{To, Wrong}
 
 -- a kind that is due, and the phase behind it
-pub record Turn : Type 0 where
+pub record DueItem : Type 0 where
   pub item : Kind
   pub phase : Phase
 
-abbrev pub turn : Kind → Phase → Turn
+abbrev pub turn : Kind → Phase → DueItem
 turn k p = record { item = k; phase = p }
 
 -- one more optional label behind n of them: the limit is nine
-unfoldable pub upToNine : ℕ → Turn → List Turn → List Turn
+unfoldable pub upToNine : ℕ → DueItem → List DueItem → List DueItem
 upToNine n t ts = ifB (ltb n 9) (t ∷ ts) ts
 
 -- what is due in each phase
-unfoldable pub dues : Phase → List Turn
+unfoldable pub dues : Phase → List DueItem
 dues Reel = turn (vol 1) (Volume 1) ∷ []
 dues (Volume n) = upToNine n (turn (vol (n + 1)) (Volume (n + 1))) (turn (uvl 1) (UserVolume 1) ∷ turn (hdr 1) FirstHeader ∷ [])
 dues (UserVolume n) = upToNine n (turn (uvl (n + 1)) (UserVolume (n + 1))) (turn (hdr 1) FirstHeader ∷ [])
@@ -56,7 +56,7 @@ dues Over = turn endOfImage Accepted ∷ []
 dues Accepted = []
 
 -- the phase behind an item of this kind, or Wrong where it is not due
-unfoldable pub choose : List Turn → Kind → Due
+unfoldable pub choose : List DueItem → Kind → Due
 choose [] k = Wrong
 choose (t ∷ ts) k = ifB (isKind k (t .item)) (To (t .phase)) (choose ts k)
 

@@ -31,7 +31,7 @@ use Rattle.volume.specs.Fault.{crossed, newFilePlace, laterPlace, fileFault, fi
 use Rattle.volume.specs.Step.{Event, begins, continues, holds, Next, kindIn, bytesIn, isDue, stateAfter, namesAfter, filesAfter, goesOnAfter, firstAfter, secondAfter, countAfter, pendingAfter, segmentsIn, eventsOf}
 use Rattle.volume.specs.Run.{runs, imageVerdict}
 use Rattle.volume.specs.Meaning.{Collected, meaningOf, handedOut, content}
-use Rattle.volume.specs.Accepted.{Faultless, All, MayEnd, behind}
+use Rattle.volume.specs.Accepted.{Faultless, All, MayEnd, stateBehind}
 use Rattle.volume.specs.Dates.{isDated, undated, undatedIn, undatedBehind, undatedFrom, SameDates}
 use Rattle.volume.proofs.Accepted.{faultless-go, accepted-iff}
 use Rattle.volume.proofs.Events.{handed-more, OneMeaning, meaning-behind, meaning-continued}
@@ -61,7 +61,7 @@ front-part l m e a w h = sym (of l) ∙ ap (part a w) e ∙ of m
     of : (x : List ℕ) → part a w (part 0 41 x) ≡ part a w x
     of x = let z : 0 + a ≡ a = omega arith in part-part 0 a w 41 x h ∙ ap (λ (n : ℕ). part n w x) z
 
--- and one behind them is one of the back
+-- and one stateBehind them is one of the back
 back-part : (l m : List ℕ) → drop 53 l ≡ drop 53 m → (a w : ℕ) → 53 ≤ a → part a w l ≡ part a w m
 back-part l m e a w h = sym (of l) ∙ ap (part (a - 53) w) e ∙ of m
   where
@@ -317,7 +317,7 @@ some-items x xs e = let h : 0 ≡ suc (length xs) = ap length e in omega arith
 
 -- an item without fault goes on
 undated-go : (s : State) (x : Item) (xs : List Item) (p : Phase) → Faultless s x p
-    → undatedFrom s (x ∷ xs) ≡ undatedIn (s .goesOn) (s .phase) x ∷ undatedFrom (behind s x p) xs
+    → undatedFrom s (x ∷ xs) ≡ undatedIn (s .goesOn) (s .phase) x ∷ undatedFrom (stateBehind s x p) xs
 unfolding undatedFrom undatedBehind
 undated-go s x xs p h =
     ap (λ (r : Next). undatedIn (s .goesOn) (s .phase) x ∷ undatedBehind r (λ t. undatedFrom t xs)) (faultless-go s x p h)
@@ -331,7 +331,7 @@ same-runs [] (y ∷ ys) s f n b e u v = absurd (some-items _ _ e)
 same-runs (x ∷ xs) [] s f n b e u v = absurd (some-items _ _ (sym e))
 same-runs (x ∷ xs) (y ∷ ys) s f n b e (p, u, us) (q, v, vs) =
     let k : Kind = kindIn (s .phase) x in
-    let both : undatedIn (s .goesOn) (s .phase) x ∷ undatedFrom (behind s x p) xs ≡ undatedIn (s .goesOn) (s .phase) y ∷ undatedFrom (behind t y q) ys
+    let both : undatedIn (s .goesOn) (s .phase) x ∷ undatedFrom (stateBehind s x p) xs ≡ undatedIn (s .goesOn) (s .phase) y ∷ undatedFrom (stateBehind t y q) ys
     = sym (undated-go s x xs p u) ∙ e ∙ undated-go t y ys q v in
     let item : undatedIn (s .goesOn) (s .phase) x ≡ undatedIn (s .goesOn) (s .phase) y = first-item _ _ _ _ both in
     let kind : k ≡ kindIn (s .phase) y = same-kind (s .goesOn) (s .phase) x y item in
@@ -342,15 +342,15 @@ same-runs (x ∷ xs) (y ∷ ys) s f n b e (p, u, us) (q, v, vs) =
     (λ g. same-bytes (s .goesOn) (s .phase) x y item (and-left (s .goesOn) (isDated k) g))
     (λ d. same-bytes (s .goesOn) (s .phase) x y item (and-right (s .goesOn) (isDated k) d)) in
     let m : List ℕ = bytesIn y in
-    let state : behind t y q ≡ withFirst (behind s x p) (firstAfter t k m) = sym (ap₂ (λ (r : Phase) (j : Kind). stateAfter t r j m) phase kind) ∙ a .state in
-    let rest : OneMeaning (handedOut (runs (behind s x p) xs)) (handedOut (runs (withFirst (behind s x p) (firstAfter t k m)) ys))
-    = same-runs xs ys (behind s x p) (firstAfter t k m) (moved .numbered) (a .begun)
+    let state : stateBehind t y q ≡ withFirst (stateBehind s x p) (firstAfter t k m) = sym (ap₂ (λ (r : Phase) (j : Kind). stateAfter t r j m) phase kind) ∙ a .state in
+    let rest : OneMeaning (handedOut (runs (stateBehind s x p) xs)) (handedOut (runs (withFirst (stateBehind s x p) (firstAfter t k m)) ys))
+    = same-runs xs ys (stateBehind s x p) (firstAfter t k m) (moved .numbered) (a .begun)
     (rest-items _ _ _ _ both ∙ ap (λ (r : State). undatedFrom r ys) state) us (subst (λ (r : State). All MayEnd r ys) state vs) in
-    let here : OneMeaning (eventsOf s k (bytesIn x) ++ handedOut (runs (behind s x p) xs)) (eventsOf t k m ++ handedOut (runs (behind t y q) ys))
-    = a .events _ _ (subst (λ (r : State). OneMeaning (handedOut (runs (behind s x p) xs)) (handedOut (runs r ys))) (sym state) rest) in
+    let here : OneMeaning (eventsOf s k (bytesIn x) ++ handedOut (runs (stateBehind s x p) xs)) (eventsOf t k m ++ handedOut (runs (stateBehind t y q) ys))
+    = a .events _ _ (subst (λ (r : State). OneMeaning (handedOut (runs (stateBehind s x p) xs)) (handedOut (runs r ys))) (sym state) rest) in
     subst (λ (es : List Event). OneMeaning es (handedOut (runs t (y ∷ ys)))) (sym (handed-more s x xs p u us))
-    (subst (OneMeaning (eventsOf s k (bytesIn x) ++ handedOut (runs (behind s x p) xs)))
-    (ap (λ (j : Kind). eventsOf t j m ++ handedOut (runs (behind t y q) ys)) kind ∙ sym (handed-more t y ys q v vs)) here)
+    (subst (OneMeaning (eventsOf s k (bytesIn x) ++ handedOut (runs (stateBehind s x p) xs)))
+    (ap (λ (j : Kind). eventsOf t j m ++ handedOut (runs (stateBehind t y q) ys)) kind ∙ sym (handed-more t y ys q v vs)) here)
   where
     t : State
     t = withFirst s f

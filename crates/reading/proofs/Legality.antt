@@ -21,7 +21,7 @@ use Rattle.volume.specs.State.{State, start}
 use Rattle.volume.specs.Step.{Event, Next, kindIn, bytesIn, isDue, stateAfter, eventsOf}
 use Rattle.volume.specs.Run.{Run, ended, stopped, further, next, runs, imageVerdict}
 use Rattle.volume.specs.Meaning.{collect, setFrom, meaningOf, handedOut, content}
-use Rattle.volume.specs.Accepted.{Faultless, behind}
+use Rattle.volume.specs.Accepted.{Faultless, stateBehind}
 use Rattle.volume.proofs.Accepted.{by-step, Ends, all-ends, accepted-iff}
 use Rattle.reading.specs.Legal.{legalFiles, legalMeaning, legalQuota, legalNames, legalSheet}
 use Rattle.order.proofs.Moves.{Stage, stage, fileOver, Numbered, Move, stays, nextReel, header1, nextFile, header2, datum, eof1, eov1, finish, due-goes}
@@ -79,7 +79,7 @@ unfolding start
 kept-start =
     record { numbered = tt; holds = record { few = omega arith; idle = λ _. refl; some = λ on. absurd (false≢true on) } }
 
-pub kept-step : (s : State) (x : Item) (p : Phase) → Kept s → Faultless s x p → Kept (behind s x p)
+pub kept-step : (s : State) (x : Item) (p : Phase) → Kept s → Faultless s x p → Kept (stateBehind s x p)
 unfolding stateAfter
 kept-step s x p h f =
     record {
@@ -89,7 +89,7 @@ kept-step s x p h f =
     }
 
 promise-step : (s : State) (x : Item) (p : Phase) → Kept s → Faultless s x p → (es : List Event)
-    → Promised (stage p) (view (behind s x p)) es → Promised (stage (s .phase)) (view s) (eventsOf s (kindIn (s .phase) x) (bytesIn x) ++ es)
+    → Promised (stage p) (view (stateBehind s x p)) es → Promised (stage (s .phase)) (view s) (eventsOf s (kindIn (s .phase) x) (bytesIn x) ++ es)
 promise-step s x p h f =
     step-promise s p (bytesIn x) (due-goes (s .phase) (kindIn (s .phase) x) p (h .numbered) (f .due) .move) (header-long (s .phase) x) (h .holds) (f .sound)
 
@@ -114,7 +114,7 @@ unfolding runs next stateAfter
 told [] s h = if-case (Told s) (isDue (dueAfter (s .phase) endOfImage)) (ended []) (stopped 3 0 0) (λ e. told-end s h e) (λ _. tt)
 told (x ∷ xs) s h =
     by-step (λ (r : Next). Told s (next r (λ t. runs t xs))) s x
-    (λ p f. told-further s (behind s x p) (eventsOf s (kindIn (s .phase) x) (bytesIn x)) (runs (behind s x p) xs) (promise-step s x p h f) (told xs (behind s x p) (kept-step s x p h f)))
+    (λ p f. told-further s (stateBehind s x p) (eventsOf s (kindIn (s .phase) x) (bytesIn x)) (runs (stateBehind s x p) xs) (promise-step s x p h f) (told xs (stateBehind s x p) (kept-step s x p h f)))
     (λ k b _ _. tt)
 
 -- ---- the meaning

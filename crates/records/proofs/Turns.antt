@@ -13,7 +13,7 @@ pub behind : (x y : Reading) → Said locatedBy x y → x .walk ≡ y .walk
 behind x y e = ap (λ (z : Reading). z .walk) (e .case)
 
 -- at most so many turns were taken, and the buffer is as long as it was
-pub record Turn (counter most : ℕ) (join old : List ℕ) : Type 0 where
+pub record TurnsTaken (counter most : ℕ) (join old : List ℕ) : Type 0 where
   pub few : counter ≤ most
   pub long : length join ≡ length old
 

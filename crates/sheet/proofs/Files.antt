@@ -20,7 +20,7 @@ use Rattle.volume.specs.Fault.{valueOf}
 use Rattle.volume.specs.Meaning.{File}
 use Rattle.reading.specs.Legal.{formatFrom, recordLengthFrom, legalEntry, legalRecords, legalFile, legalFiles}
 use Rattle.sheet.specs.Flat.{inParts, filesFrom}
-use Rattle.sheet.specs.Passing.{Behind}
+use Rattle.sheet.specs.Passing.{RecordsPassed}
 use Rattle.sheet.specs.declared.file.Passed.{Passed}
 use Rattle.sheet.proofs.Cutting.{drop-past, take-past, parts-none, parts-some}
 
@@ -50,8 +50,8 @@ abbrev pub file : List ℕ → List (List ℕ) → File
 file e rs = record { fields = e; records = rs }
 
 pub entry-right : (set e ls s : List ℕ) (from f r : ℕ) (p : Bool) (x : Passed) → p ≡ legalEntry set e → p ≡ true → f ≡ formatFrom e
-    → r ≡ recordLengthFrom e → Behind (legalRecords f r (cutBy ls (drop from s))) ls from x
-    → Behind (legalFile set (file e (cutBy ls (drop from s)))) ls from x
+    → r ≡ recordLengthFrom e → RecordsPassed (legalRecords f r (cutBy ls (drop from s))) ls from x
+    → RecordsPassed (legalFile set (file e (cutBy ls (drop from s)))) ls from x
 unfolding legalFile
 entry-right set e ls s from f r p x q t ef er b =
     record {
@@ -64,7 +64,7 @@ entry-right set e ls s from f r p x q t ef er b =
     }
 
 pub entry-wrong : (set e ls s : List ℕ) (from : ℕ) (p : Bool) → p ≡ legalEntry set e → p ≡ false
-    → Behind (legalFile set (file e (cutBy ls (drop from s)))) ls from (record { legal = false; at = from })
+    → RecordsPassed (legalFile set (file e (cutBy ls (drop from s)))) ls from (record { legal = false; at = from })
 unfolding legalFile
 entry-wrong set e ls s from p q t =
     record { answer = sym (if-false _ _ _ (sym q ∙ t)); place = λ h. absurd (false≢true h) }
@@ -73,7 +73,7 @@ pub ruleset entries = (entry-right, entry-wrong, needs)
 
 -- ---- the loop of `are_legal`: the files that are left from here decide as all of them
 
-pub record Left (set files counts lengths s : List ℕ) (entry first at i : ℕ) : Type 0 where
+pub record FilesLeft (set files counts lengths s : List ℕ) (entry first at i : ℕ) : Type 0 where
   pub within : first ≤ length lengths
   pub fits : at + sum (drop first lengths) ≤ length s
   pub left : legalFiles set (filesFrom (inParts 46 (drop entry files)) (drop i counts) (drop first lengths) (drop at s))
@@ -91,22 +91,22 @@ files-at set files counts ls s entry i h k =
     let l = length-drop entry files in
     rw (add-one, drop-cons counts i 0 k, parts-some 46 (drop entry files) (omega arith) (omega arith))
 
-pub left-none : (set files counts lengths s : List ℕ) → sum lengths ≤ length s → Left set files counts lengths s 0 0 0 0
+pub left-none : (set files counts lengths s : List ℕ) → sum lengths ≤ length s → FilesLeft set files counts lengths s 0 0 0 0
 left-none set files counts lengths s h = record { within = omega arith; fits = omega arith; left = refl }
 
 -- the bytes of the lengths that are left are those of a file's and those behind
 sum-parts : (n : ℕ) (ls : List ℕ) → sum ls ≡ sum (take n ls) + sum (drop n ls)
 sum-parts n ls = ap sum (sym (take-append-drop n ls)) ∙ sum-append (take n ls) (drop n ls)
 
-pub left-room : (set files counts lengths s : List ℕ) (entry first at i end : ℕ) → Left set files counts lengths s entry first at i
+pub left-room : (set files counts lengths s : List ℕ) (entry first at i end : ℕ) → FilesLeft set files counts lengths s entry first at i
     → at + sum (take (end - first) (drop first lengths)) ≤ length s
 left-room set files counts lengths s entry first at i end c = omega (arith, c .fits, sum-parts (end - first) (drop first lengths))
 
 pub left-more : (set files counts lengths s : List ℕ) (entry first at i : ℕ) (e : List ℕ) (end next : ℕ) (x : Passed)
-    → Left set files counts lengths s entry first at i → i < length counts → entry < length files → e ≡ part entry 46 files
+    → FilesLeft set files counts lengths s entry first at i → i < length counts → entry < length files → e ≡ part entry 46 files
     → end ≡ min (first + getD counts i 0) (length lengths)
-    → Behind (legalFile set (file e (cutBy (take (end - first) (drop first lengths)) (drop at s)))) (take (end - first) (drop first lengths)) at x
-    → not (x .legal) ≡ false → next ≡ min (entry + 46) (length files) → Left set files counts lengths s next end (x .at) (i + 1)
+    → RecordsPassed (legalFile set (file e (cutBy (take (end - first) (drop first lengths)) (drop at s)))) (take (end - first) (drop first lengths)) at x
+    → not (x .legal) ≡ false → next ≡ min (entry + 46) (length files) → FilesLeft set files counts lengths s next end (x .at) (i + 1)
 left-more set files counts lengths s entry first at i e end next x c h k ee el b n en =
     let ls : take (end - first) (drop first lengths) ≡ take (getD counts i 0) (drop first lengths) = take-past first (getD counts i 0) end lengths el in
     let yes : legalFile set (file (part entry 46 files) (cutBy (take (getD counts i 0) (drop first lengths)) (drop at s))) ≡ true
@@ -131,9 +131,9 @@ left-more set files counts lengths s entry first at i e end next x c h k ee el b
     }
 
 pub left-wrong : (set files counts lengths s : List ℕ) (entry first at i : ℕ) (e : List ℕ) (end : ℕ) (x : Passed)
-    → Left set files counts lengths s entry first at i → i < length counts → entry < length files → e ≡ part entry 46 files
+    → FilesLeft set files counts lengths s entry first at i → i < length counts → entry < length files → e ≡ part entry 46 files
     → end ≡ min (first + getD counts i 0) (length lengths)
-    → Behind (legalFile set (file e (cutBy (take (end - first) (drop first lengths)) (drop at s)))) (take (end - first) (drop first lengths)) at x
+    → RecordsPassed (legalFile set (file e (cutBy (take (end - first) (drop first lengths)) (drop at s)))) (take (end - first) (drop first lengths)) at x
     → not (x .legal) ≡ true → false ≡ legalFiles set (filesFrom (inParts 46 files) counts lengths s)
 left-wrong set files counts lengths s entry first at i e end x c h k ee el b n =
     let ls : take (end - first) (drop first lengths) ≡ take (getD counts i 0) (drop first lengths) = take-past first (getD counts i 0) end lengths el in
@@ -152,7 +152,7 @@ unfolding legalFiles filesFrom
 no-count set [] ls s = refl
 no-count set (e ∷ es) ls s = refl
 
-pub left-entries : (set files counts lengths s : List ℕ) (entry first at i : ℕ) → Left set files counts lengths s entry first at i → length files ≤ entry
+pub left-entries : (set files counts lengths s : List ℕ) (entry first at i : ℕ) → FilesLeft set files counts lengths s entry first at i → length files ≤ entry
     → true ≡ legalFiles set (filesFrom (inParts 46 files) counts lengths s)
 left-entries set files counts lengths s entry first at i c h =
     sym (ap (λ (l : List ℕ). legalFiles set (filesFrom (inParts 46 l) (drop i counts) (drop first lengths) (drop at s))) (drop-of-length-le files h)
@@ -160,7 +160,7 @@ left-entries set files counts lengths s entry first at i c h =
     ∙ no-entry set (drop i counts) (drop first lengths) (drop at s))
     ∙ c .left
 
-pub left-counts : (set files counts lengths s : List ℕ) (entry first at i : ℕ) → Left set files counts lengths s entry first at i → length counts ≤ i
+pub left-counts : (set files counts lengths s : List ℕ) (entry first at i : ℕ) → FilesLeft set files counts lengths s entry first at i → length counts ≤ i
     → true ≡ legalFiles set (filesFrom (inParts 46 files) counts lengths s)
 left-counts set files counts lengths s entry first at i c h =
     sym (ap (λ (l : List ℕ). legalFiles set (filesFrom (inParts 46 (drop entry files)) l (drop first lengths) (drop at s))) (drop-of-length-le counts h)

@@ -9,7 +9,7 @@ ghost use Rattle.label.specs.Judged.{labelFault};
 ghost use Rattle.label.specs.Made.{madeFirst, madeSecond};
 ghost use Rattle.reading.specs.Legal.{isSound, formatFrom, recordLengthFrom, legalEntry, legalRecord, legalRecords, legalFile, legalFiles};
 ghost use Rattle.sheet.specs.Flat.{inParts, filesFrom};
-ghost use Rattle.sheet.specs.Passing.{Behind, tooLong};
+ghost use Rattle.sheet.specs.Passing.{RecordsPassed, tooLong};
 use crate::sum::past;
 use base::FIXED;
 use base::VARIABLE;
@@ -122,7 +122,7 @@ fn is_fixed(size: u32, x: &[u8]) -> bool
 // The records of an F file, of these lengths from a place on.
 fn fixed_passed(size: u32, lengths: &[u64], bytes: &[u8], from: usize) -> Passed
     requires { ⌜ from + sum (now lengths) ≤ length (now bytes) ⌝ }
-    ensures { λ r. ⌜ Behind (legalRecords 70 size (cutBy (now (lengths .entry)) (drop from (now (bytes .entry))))) (now (lengths .entry)) from r ⌝ }
+    ensures { λ r. ⌜ RecordsPassed (legalRecords 70 size (cutBy (now (lengths .entry)) (drop from (now (bytes .entry))))) (now (lengths .entry)) from r ⌝ }
 {
     let mut at = from;
     let mut i = 0;
@@ -158,7 +158,7 @@ fn too_long(format: u8, size: u32) -> usize
 fn lengths_passed(format: u8, size: u32, lengths: &[u64], bytes: &[u8], from: usize) -> Passed
     requires { ⌜ (format ≡ 70 → ⊥) ⌝ }
     requires { ⌜ from + sum (now lengths) ≤ length (now bytes) ⌝ }
-    ensures { λ r. ⌜ Behind (legalRecords format size (cutBy (now (lengths .entry)) (drop from (now (bytes .entry))))) (now (lengths .entry)) from r ⌝ }
+    ensures { λ r. ⌜ RecordsPassed (legalRecords format size (cutBy (now (lengths .entry)) (drop from (now (bytes .entry))))) (now (lengths .entry)) from r ⌝ }
 {
     let over = too_long(format, size);
     let mut at = from;
@@ -177,7 +177,7 @@ fn lengths_passed(format: u8, size: u32, lengths: &[u64], bytes: &[u8], from: us
 // The records of these lengths from a place on.
 fn records_passed(format: u8, size: u32, lengths: &[u64], bytes: &[u8], from: usize) -> Passed
     requires { ⌜ from + sum (now lengths) ≤ length (now bytes) ⌝ }
-    ensures { λ r. ⌜ Behind (legalRecords format size (cutBy (now (lengths .entry)) (drop from (now (bytes .entry))))) (now (lengths .entry)) from r ⌝ }
+    ensures { λ r. ⌜ RecordsPassed (legalRecords format size (cutBy (now (lengths .entry)) (drop from (now (bytes .entry))))) (now (lengths .entry)) from r ⌝ }
 {
     if format == FIXED {
         return fixed_passed(size, lengths, bytes, from);
@@ -190,7 +190,7 @@ fn records_passed(format: u8, size: u32, lengths: &[u64], bytes: &[u8], from: us
 // A file with that entry, and records of these lengths from a place on.
 fn file_passed(set: &[u8], entry: &[u8], lengths: &[u64], bytes: &[u8], from: usize) -> Passed
     requires { ⌜ from + sum (now lengths) ≤ length (now bytes) ⌝ }
-    ensures { λ r. ⌜ Behind
+    ensures { λ r. ⌜ RecordsPassed
         (legalFile (now (set .entry)) (record { fields = now (entry .entry); records = cutBy (now (lengths .entry)) (drop from (now (bytes .entry))) }))
         (now (lengths .entry)) from r ⌝ }
 {

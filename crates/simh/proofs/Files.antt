@@ -97,10 +97,10 @@ unfolding Shaped
 end-at s e = subst (Shaped s) e (shaped s)
 
 -- where no item is broken, the length word alone tells the shape
-abbrev pub Told : List ℕ → Shape → Type 0
-Told s p = isItem (itemOf p s) ≡ true → (word s ≡ 0 → p ≡ Mark) × (word s ≡ endWord → p ≡ ReelEnd) × ((word s ≡ 0 → ⊥) → (word s ≡ endWord → ⊥) → p ≡ Block (word s))
+abbrev pub ShapeTold : List ℕ → Shape → Type 0
+ShapeTold s p = isItem (itemOf p s) ≡ true → (word s ≡ 0 → p ≡ Mark) × (word s ≡ endWord → p ≡ ReelEnd) × ((word s ≡ 0 → ⊥) → (word s ≡ endWord → ⊥) → p ≡ Block (word s))
 
-pub told : (s : List ℕ) (p : Shape) → shape s ≡ p → Told s p
+pub told : (s : List ℕ) (p : Shape) → shape s ≡ p → ShapeTold s p
 unfolding itemOf isItem
 told s (Block n) e h =
     let b : BlockAt s n = block-at s n e in

@@ -18,13 +18,13 @@ use Rattle.image.proofs.Coding.{all-first, all-rest}
 use Rattle.image.proofs.Items.{block-within, block-fits, decode-past, decode-block, decode-mark, decode-reel-end, decode-broken}
 use Rattle.base.proofs.Put.{put-first}
 use Rattle.simh.specs.Tape.{endWord, spanOf, four, bytesOf, encode}
-use Rattle.simh.specs.Passes.{lengthsFrom, Filed}
+use Rattle.simh.specs.Passes.{lengthsFrom, FilesFit}
 use Rattle.simh.proofs.Sizes.{item-span}
 use Rattle.simh.proofs.Sizing.{block-most}
 use Rattle.simh.proofs.Storing.{Putting, putting-none, putting-item, putting-all, putting-room}
 
 -- n bytes of the open file are written, and so many of the lengths
-pub record Listing (xs ys : List Item) (ls lens : List ℕ) (n file : ℕ) : Type 0 where
+pub record FilesLaid (xs ys : List Item) (ls lens : List ℕ) (n file : ℕ) : Type 0 where
   pub size : length lens ≡ length ls
   pub fits : length (lengthsFrom 0 xs) ≤ length ls
   pub ends : file + length (lengthsFrom n ys) ≡ length (lengthsFrom 0 xs)
@@ -32,7 +32,7 @@ pub record Listing (xs ys : List Item) (ls lens : List ℕ) (n file : ℕ) : Typ
 
 -- an item that ends no file, and one that does
 listing-more : (xs : List Item) (x : Item) (ys : List Item) (ls lens : List ℕ) (n k file : ℕ) → lengthsFrom n (x ∷ ys) ≡ lengthsFrom k ys
-    → Listing xs (x ∷ ys) ls lens n file → Listing xs ys ls lens k file
+    → FilesLaid xs (x ∷ ys) ls lens n file → FilesLaid xs ys ls lens k file
 listing-more xs x ys ls lens n k file e w =
     record {
       size = w .size;
@@ -41,12 +41,12 @@ listing-more xs x ys ls lens n k file e w =
       left = ap (putAt lens file) (sym e) ∙ w .left;
     }
 
-listing-room : (xs ys : List Item) (ls lens : List ℕ) (n file : ℕ) → Listing xs (reelEnd ∷ ys) ls lens n file → file < length lens
+listing-room : (xs ys : List Item) (ls lens : List ℕ) (n file : ℕ) → FilesLaid xs (reelEnd ∷ ys) ls lens n file → file < length lens
 unfolding lengthsFrom
 listing-room xs ys ls lens n file w = omega (arith, w .size, w .fits, w .ends)
 
-listing-end : (xs ys : List Item) (ls lens : List ℕ) (n file : ℕ) → Listing xs (reelEnd ∷ ys) ls lens n file
-    → Listing xs ys ls (set lens file (n + 4)) 0 (file + 1)
+listing-end : (xs ys : List Item) (ls lens : List ℕ) (n file : ℕ) → FilesLaid xs (reelEnd ∷ ys) ls lens n file
+    → FilesLaid xs ys ls (set lens file (n + 4)) 0 (file + 1)
 unfolding lengthsFrom
 listing-end xs ys ls lens n file w =
     record {
@@ -62,9 +62,9 @@ pub record Laying (s o ls out lens : List ℕ) (at to from file : ℕ) : Type 0 
   pub right : allItems (decode (drop at s)) ≡ true
   pub ahead : from ≤ to
   pub put : Putting bytesOf (items s) (decode (drop at s)) o 0 out to
-  pub list : Listing (items s) (decode (drop at s)) ls lens (to - from) file
+  pub list : FilesLaid (items s) (decode (drop at s)) ls lens (to - from) file
 
-pub laying-none : (s o ls : List ℕ) → Filed (items s) (length o) (length ls) → Laying s o ls o ls 5 0 0 0
+pub laying-none : (s o ls : List ℕ) → FilesFit (items s) (length o) (length ls) → Laying s o ls o ls 5 0 0 0
 unfolding items encode
 laying-none s o ls f =
     record {
@@ -79,8 +79,8 @@ module _ (s o ls out lens : List ℕ) (at to from file : ℕ) (w : Laying s o ls
   there-put : (x : Item) (xs : List Item) → decode (drop at s) ≡ x ∷ xs → Putting bytesOf (items s) (x ∷ xs) o 0 out to
   there-put x xs d = subst (λ (ys : List Item). Putting bytesOf (items s) ys o 0 out to) d (w .put)
 
-  there-list : (x : Item) (xs : List Item) → decode (drop at s) ≡ x ∷ xs → Listing (items s) (x ∷ xs) ls lens (to - from) file
-  there-list x xs d = subst (λ (ys : List Item). Listing (items s) ys ls lens (to - from) file) d (w .list)
+  there-list : (x : Item) (xs : List Item) → decode (drop at s) ≡ x ∷ xs → FilesLaid (items s) (x ∷ xs) ls lens (to - from) file
+  there-list x xs d = subst (λ (ys : List Item). FilesLaid (items s) ys ls lens (to - from) file) d (w .list)
 
   there-right : (x : Item) (xs : List Item) → decode (drop at s) ≡ x ∷ xs → allItems (x ∷ xs) ≡ true
   there-right x xs d = sym (ap allItems d) ∙ w .right
@@ -94,8 +94,8 @@ module _ (s o ls out lens : List ℕ) (at to from file : ℕ) (w : Laying s o ls
   pub listing-all : length s ≤ at → lens ≡ putAt ls 0 (lengthsFrom 0 (items s))
   unfolding lengthsFrom
   listing-all h =
-      let l : Listing (items s) [] ls lens (to - from) file
-      = subst (λ (ys : List Item). Listing (items s) ys ls lens (to - from) file) (decode-past s at h) (w .list) in
+      let l : FilesLaid (items s) [] ls lens (to - from) file
+      = subst (λ (ys : List Item). FilesLaid (items s) ys ls lens (to - from) file) (decode-past s at h) (w .list) in
       sym (put-none lens file) ∙ l .left
 
   module _ (p : Shape) (h : at < length s) (e : p ≡ shape (drop at s)) where
@@ -149,8 +149,8 @@ module _ (s o ls out lens : List ℕ) (at to from file : ℕ) (w : Laying s o ls
             ahead = omega arith;
             put = putting-item bytesOf (items s) o 0 out to reelEnd xs 4 r (there-put reelEnd xs d) refl f;
             list =
-                subst (λ (k : ℕ). Listing (items s) xs ls (set lens file (to + 4 - from)) k (file + 1)) none
-                (subst (λ (k : ℕ). Listing (items s) xs ls (set lens file k) 0 (file + 1)) n (listing-end (items s) xs ls lens (to - from) file (there-list reelEnd xs d)));
+                subst (λ (k : ℕ). FilesLaid (items s) xs ls (set lens file (to + 4 - from)) k (file + 1)) none
+                (subst (λ (k : ℕ). FilesLaid (items s) xs ls (set lens file k) 0 (file + 1)) n (listing-end (items s) xs ls lens (to - from) file (there-list reelEnd xs d)));
           }
 
     module _ (n : ℕ) (q : p ≡ Block n) where

@@ -11,7 +11,7 @@ use Rattle.simh.specs.Tape.{spanOf, bytesOf, encode}
 use Rattle.simh.specs.Set.{reelsOf}
 use Rattle.simh.specs.Passes.{lengthsFrom}
 use Rattle.simh.proofs.Sizes.{no-file, file-block, file-mark, file-end}
-use Rattle.simh.proofs.Reels.{Closes, AllClose, reels-joined}
+use Rattle.simh.proofs.Reels.{ReelCloses, AllClose, reels-joined}
 
 -- how many there are does not hang on the bytes before them
 pub lengths-alike : (j k : ℕ) (xs : List Item) → length (lengthsFrom j xs) ≡ length (lengthsFrom k xs)
@@ -23,8 +23,8 @@ lengths-alike j k (reelEnd ∷ xs) = refl
 lengths-alike j k (broken ∷ xs) = refl
 
 -- the first of them, where a reel closes
-reel-lengths : (k : ℕ) (r xs : List Item) → Closes r → lengthsFrom k (r ++ xs) ≡ (k + length (encode r)) ∷ lengthsFrom 0 xs
-unfolding Closes lengthsFrom
+reel-lengths : (k : ℕ) (r xs : List Item) → ReelCloses r → lengthsFrom k (r ++ xs) ≡ (k + length (encode r)) ∷ lengthsFrom 0 xs
+unfolding ReelCloses lengthsFrom
 reel-lengths k [] xs h = absurd h
 reel-lengths k (block bs ∷ r) xs h =
     let e : k + spanOf (length bs) + length (encode r) ≡ k + length (encode (block bs ∷ r)) = omega (arith, file-block bs r) in

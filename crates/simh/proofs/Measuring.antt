@@ -23,7 +23,7 @@ use Rattle.simh.specs.declared.import.Scan.{Scan}
 use Rattle.simh.specs.declared.import.Measure.{Measure}
 use Rattle.simh.specs.Tape.{decode}
 use Rattle.simh.specs.Set.{torn, reelVerdict, reelsVerdict, reelsIn, isFew, tapeVerdict}
-use Rattle.simh.specs.Passes.{itemsIn, Scanned, Measured}
+use Rattle.simh.specs.Passes.{itemsIn, Scanned, TapeMeasured}
 use Rattle.simh.proofs.Reels.{reels-close, close-reels}
 use Rattle.simh.proofs.Sizes.{no-bytes}
 
@@ -60,28 +60,28 @@ no-reels = no-bytes
 -- ---- a walk over the files
 
 -- a place is where a file begins: its length and those behind it are what is left
-pub record Between (tape lengths : List ℕ) (from i : ℕ) : Type 0 where
+pub record FileStart (tape lengths : List ℕ) (from i : ℕ) : Type 0 where
   pub within : i ≤ length lengths
   pub place : from + sum (drop i lengths) ≡ length tape
 
-pub between-none : (tape lengths : List ℕ) → sum lengths ≡ length tape → Between tape lengths 0 0
+pub between-none : (tape lengths : List ℕ) → sum lengths ≡ length tape → FileStart tape lengths 0 0
 between-none tape lengths h = record { within = omega arith; place = omega arith }
 
-pub between-more : (tape lengths : List ℕ) (from i : ℕ) → Between tape lengths from i → i < length lengths
-    → Between tape lengths (from + getD lengths i 0) (i + 1)
+pub between-more : (tape lengths : List ℕ) (from i : ℕ) → FileStart tape lengths from i → i < length lengths
+    → FileStart tape lengths (from + getD lengths i 0) (i + 1)
 between-more tape lengths from i b h =
     let e = sum-at lengths i h in
     record { within = omega arith; place = omega (arith, b .place) }
 
-pub file-within : (tape lengths : List ℕ) (from i : ℕ) → Between tape lengths from i → i < length lengths → from + getD lengths i 0 ≤ length tape
+pub file-within : (tape lengths : List ℕ) (from i : ℕ) → FileStart tape lengths from i → i < length lengths → from + getD lengths i 0 ≤ length tape
 file-within tape lengths from i b h = let e = sum-at lengths i h in omega (arith, b .place)
 
-pub file-fits : (tape lengths : List ℕ) (from i : ℕ) → Between tape lengths from i → i < length lengths → length tape < 2 ^ 64
+pub file-fits : (tape lengths : List ℕ) (from i : ℕ) → FileStart tape lengths from i → i < length lengths → length tape < 2 ^ 64
     → Fits w64 (from + getD lengths i 0)
 file-fits tape lengths from i b h f = record { fits = omega (arith, file-within tape lengths from i b h) }
 
 pub record Measuring (tape lengths : List ℕ) (from item len i : ℕ) : Type 0 where
-  pub between : Between tape lengths from i
+  pub between : FileStart tape lengths from i
   pub counted : item ≤ from
   pub short : len ≤ from
   pub left : reelsVerdict item (reelsFrom tape lengths from i) ≡ reelsVerdict 0 (reelsIn tape lengths)
@@ -129,7 +129,7 @@ module _ (tape lengths : List ℕ) (from item len i : ℕ) (m : Measuring tape l
           bytes = omega (arith, m .bytes, size, x .bytes f);
         }
 
-    pub measured-torn : (v : Verdict) → r .torn ≡ true → v ≡ torn (r .item) → Measured (reelsVerdict 0 (reelsIn tape lengths)) tape lengths (record { verdict = v; len = 0 })
+    pub measured-torn : (v : Verdict) → r .torn ≡ true → v ≡ torn (r .item) → TapeMeasured (reelsVerdict 0 (reelsIn tape lengths)) tape lengths (record { verdict = v; len = 0 })
     unfolding reelsVerdict torn verdict
     measured-torn v t e =
         let here : List ℕ = take (from + getD lengths i 0 - from) (drop from tape) in
@@ -145,7 +145,7 @@ module _ (tape lengths : List ℕ) (from item len i : ℕ) (m : Measuring tape l
         }
 
 pub measured-all : (tape lengths : List ℕ) (from item len i : ℕ) (v : Verdict) → Measuring tape lengths from item len i → length lengths ≤ i
-    → v ≡ verdict 0 0 0 → Measured (reelsVerdict 0 (reelsIn tape lengths)) tape lengths (record { verdict = v; len = len })
+    → v ≡ verdict 0 0 0 → TapeMeasured (reelsVerdict 0 (reelsIn tape lengths)) tape lengths (record { verdict = v; len = len })
 unfolding reelsVerdict
 measured-all tape lengths from item len i v m h e =
     let gone : reelsFrom tape lengths from i ≡ [] = reels-past tape lengths from i h in
@@ -164,14 +164,14 @@ pub sums-right : (b : Bool) (tape lengths : List ℕ) → b ≡ eqb (sum lengths
 sums-right b tape lengths e h = eqb-true (sum lengths) (length tape) (sym e ∙ h)
 
 pub checked-sum : (b : Bool) (tape lengths : List ℕ) (v : Verdict) → b ≡ eqb (sum lengths) (length tape) → b ≡ false → v ≡ verdict 15 0 0
-    → Measured (tapeVerdict tape lengths) tape lengths (record { verdict = v; len = 0 })
+    → TapeMeasured (tapeVerdict tape lengths) tape lengths (record { verdict = v; len = 0 })
 unfolding tapeVerdict verdict
 checked-sum b tape lengths v e h q =
     let said : v .number ≡ 15 = ap (λ (u : Verdict). u .number) q in
     record { said = q ∙ sym (if-false _ _ _ (sym e ∙ h)); bytes = λ z. absurd (omega arith) }
 
-module _ (b : Bool) (tape lengths : List ℕ) (m : Measure) (e : b ≡ eqb (sum lengths) (length tape)) (h : b ≡ true) (x : Measured (reelsVerdict 0 (reelsIn tape lengths)) tape lengths m) where
-  pub checked-torn : (m .verdict .number ≡ 0 → ⊥) → Measured (tapeVerdict tape lengths) tape lengths m
+module _ (b : Bool) (tape lengths : List ℕ) (m : Measure) (e : b ≡ eqb (sum lengths) (length tape)) (h : b ≡ true) (x : TapeMeasured (reelsVerdict 0 (reelsIn tape lengths)) tape lengths m) where
+  pub checked-torn : (m .verdict .number ≡ 0 → ⊥) → TapeMeasured (tapeVerdict tape lengths) tape lengths m
   unfolding tapeVerdict
   checked-torn z =
       record {
@@ -187,11 +187,11 @@ module _ (b : Bool) (tape lengths : List ℕ) (m : Measure) (e : b ≡ eqb (sum 
     zero : m .verdict ≡ verdict 0 0 0
     zero = x .said ∙ close-reels 0 (reelsIn tape lengths) (reels-close 0 (reelsIn tape lengths) (sym (ap (λ (v : Verdict). v .number) (x .said)) ∙ z))
 
-    pub checked-few : (few : Bool) → few ≡ isFew (length lengths) → few ≡ true → Measured (tapeVerdict tape lengths) tape lengths m
+    pub checked-few : (few : Bool) → few ≡ isFew (length lengths) → few ≡ true → TapeMeasured (tapeVerdict tape lengths) tape lengths m
     checked-few few k l = record { said = zero ∙ sym (found ∙ if-true _ _ _ (sym k ∙ l)); bytes = x .bytes }
 
     pub checked-many : (few : Bool) (v : Verdict) → few ≡ isFew (length lengths) → few ≡ false → v ≡ verdict 2 0 0
-        → Measured (tapeVerdict tape lengths) tape lengths (record { verdict = v; len = 0 })
+        → TapeMeasured (tapeVerdict tape lengths) tape lengths (record { verdict = v; len = 0 })
     unfolding verdict
     checked-many few v k l q =
         let said : v .number ≡ 2 = ap (λ (u : Verdict). u .number) q in

@@ -17,7 +17,7 @@ use Rattle.image.specs.Item.{Item, block, mark, reelEnd, broken, mostBytes, isI
 use Rattle.image.specs.Framing.{mostReels, framedFrom}
 use Rattle.image.specs.declared.Shape.{Shape}
 use Rattle.image.specs.declared.Shape.the-variants.{Block, Mark, ReelEnd, Broken}
-use Rattle.image.proofs.Frames.{Sound}
+use Rattle.image.proofs.Frames.{SoundItem}
 use Rattle.image.proofs.Coding.{all-append, by-read}
 use Rattle.simh.specs.Tape.{shape, itemOf, itemIn, leftOf, decode}
 use Rattle.simh.specs.Set.{torn, reelVerdict, reelsVerdict, onFirst, reelsOf}
@@ -25,17 +25,17 @@ use Rattle.simh.proofs.Files.{BlockAt, left-less, decode-none, decode-m
 
 -- ---- one reel
 
-unfoldable pub Closes : List Item → Type 0
-Closes [] = ⊥
-Closes (block bs ∷ xs) = Closes xs
-Closes (mark ∷ xs) = Closes xs
-Closes (reelEnd ∷ []) = Unit {0}
-Closes (reelEnd ∷ x ∷ xs) = ⊥
-Closes (broken ∷ xs) = ⊥
+unfoldable pub ReelCloses : List Item → Type 0
+ReelCloses [] = ⊥
+ReelCloses (block bs ∷ xs) = ReelCloses xs
+ReelCloses (mark ∷ xs) = ReelCloses xs
+ReelCloses (reelEnd ∷ []) = Unit {0}
+ReelCloses (reelEnd ∷ x ∷ xs) = ⊥
+ReelCloses (broken ∷ xs) = ⊥
 
 -- number 0 exactly for these
-pub reel-closes : (n : ℕ) (r : List Item) → reelVerdict n r .number ≡ 0 → Closes r
-unfolding Closes reelVerdict torn verdict
+pub reel-closes : (n : ℕ) (r : List Item) → reelVerdict n r .number ≡ 0 → ReelCloses r
+unfolding ReelCloses reelVerdict torn verdict
 reel-closes n [] h = absurd (omega arith)
 reel-closes n (block bs ∷ xs) h = reel-closes (n + 1) xs h
 reel-closes n (mark ∷ xs) h = reel-closes (n + 1) xs h
@@ -43,8 +43,8 @@ reel-closes n (reelEnd ∷ []) h = tt
 reel-closes n (reelEnd ∷ x ∷ xs) h = absurd (omega arith)
 reel-closes n (broken ∷ xs) h = absurd (omega arith)
 
-pub closes-reel : (n : ℕ) (r : List Item) → Closes r → reelVerdict n r ≡ verdict 0 0 0
-unfolding Closes reelVerdict
+pub closes-reel : (n : ℕ) (r : List Item) → ReelCloses r → reelVerdict n r ≡ verdict 0 0 0
+unfolding ReelCloses reelVerdict
 closes-reel n [] h = absurd h
 closes-reel n (block bs ∷ xs) h = closes-reel (n + 1) xs h
 closes-reel n (mark ∷ xs) h = closes-reel (n + 1) xs h
@@ -56,7 +56,7 @@ closes-reel n (broken ∷ xs) h = absurd h
 
 unfoldable pub AllClose : List (List Item) → Type 0
 AllClose [] = Unit {0}
-AllClose (r ∷ rs) = Closes r × AllClose rs
+AllClose (r ∷ rs) = ReelCloses r × AllClose rs
 
 pub reels-close : (n : ℕ) (rs : List (List Item)) → reelsVerdict n rs .number ≡ 0 → AllClose rs
 unfolding AllClose reelsVerdict
@@ -87,8 +87,8 @@ reels-joined (mark ∷ xs) = first-joined mark (reelsOf xs) ∙ ap (λ (l : List
 reels-joined (reelEnd ∷ xs) = ap (λ (l : List Item). reelEnd ∷ l) (reels-joined xs)
 reels-joined (broken ∷ xs) = first-joined broken (reelsOf xs) ∙ ap (λ (l : List Item). broken ∷ l) (reels-joined xs)
 
-reel-apart : (r xs : List Item) → Closes r → reelsOf (r ++ xs) ≡ r ∷ reelsOf xs
-unfolding Closes reelsOf onFirst
+reel-apart : (r xs : List Item) → ReelCloses r → reelsOf (r ++ xs) ≡ r ∷ reelsOf xs
+unfolding ReelCloses reelsOf onFirst
 reel-apart [] xs h = absurd h
 reel-apart (block bs ∷ r) xs h = ap (onFirst (block bs)) (reel-apart r xs h)
 reel-apart (mark ∷ r) xs h = ap (onFirst mark) (reel-apart r xs h)
@@ -109,7 +109,7 @@ pub record Reeled (r : ℕ) (closed : Bool) (xs : List Item) : Type 0 where
   pub some : closed ≡ false → 1 ≤ length (reelsOf xs)
   pub few : r + length (reelsOf xs) ≤ mostReels
 
-reeled-first : (x : Item) (r : ℕ) (closed : Bool) (xs : List Item) → ((s : List Item) → Closes s → Closes (x ∷ s)) → Reeled r false xs
+reeled-first : (x : Item) (r : ℕ) (closed : Bool) (xs : List Item) → ((s : List Item) → ReelCloses s → ReelCloses (x ∷ s)) → Reeled r false xs
     → reelsOf (x ∷ xs) ≡ onFirst x (reelsOf xs) → Reeled r closed (x ∷ xs)
 unfolding AllClose onFirst
 reeled-first x r closed xs more w e = by (reelsOf xs) refl
@@ -130,7 +130,7 @@ reeled-first x r closed xs more w e = by (reelsOf xs) refl
 -- one item further, while reels are left
 module _ (xs : List Item) (again : (n r : ℕ) (closed : Bool) → r ≤ mostReels → framedFrom n r closed xs .number ≡ 0 → Reeled r closed xs) where
   next-reel : (n r : ℕ) (closed : Bool) → r ≤ mostReels → framedFrom n r closed (reelEnd ∷ xs) .number ≡ 0 → Reeled r closed (reelEnd ∷ xs)
-  unfolding framedFrom verdict AllClose Closes reelsOf
+  unfolding framedFrom verdict AllClose ReelCloses reelsOf
   next-reel n r closed m =
       if-case (λ (v : Verdict). v .number ≡ 0 → Reeled r closed (reelEnd ∷ xs)) (eqb r mostReels) _ _ (λ _ q. absurd (omega arith))
       (λ f q.
@@ -138,7 +138,7 @@ module _ (xs : List Item) (again : (n r : ℕ) (closed : Bool) → r ≤ mostRee
       let w : Reeled (r + 1) true xs = again (n + 1) (r + 1) true (omega arith) q in
       record { close = (tt, w .close); some = λ _. omega arith; few = omega (arith, w .few) })
 
-  next-item : (x : Item) (n r : ℕ) (closed : Bool) → ((s : List Item) → Closes s → Closes (x ∷ s)) → reelsOf (x ∷ xs) ≡ onFirst x (reelsOf xs) → r ≤ mostReels
+  next-item : (x : Item) (n r : ℕ) (closed : Bool) → ((s : List Item) → ReelCloses s → ReelCloses (x ∷ s)) → reelsOf (x ∷ xs) ≡ onFirst x (reelsOf xs) → r ≤ mostReels
       → ifB (eqb r mostReels) (verdict 2 n 0) (framedFrom (n + 1) r false xs) .number ≡ 0 → Reeled r closed (x ∷ xs)
   unfolding verdict
   next-item x n r closed more e m =
@@ -146,7 +146,7 @@ module _ (xs : List Item) (again : (n r : ℕ) (closed : Bool) → r ≤ mostRee
       (λ _ q. reeled-first x r closed xs more (again (n + 1) r false m q) e)
 
 pub framed-reels : (xs : List Item) (n r : ℕ) (closed : Bool) → r ≤ mostReels → framedFrom n r closed xs .number ≡ 0 → Reeled r closed xs
-unfolding framedFrom verdict AllClose Closes reelsOf
+unfolding framedFrom verdict AllClose ReelCloses reelsOf
 framed-reels [] n r closed m h =
     if-case (λ (v : Verdict). v .number ≡ 0 → Reeled r closed []) closed (verdict 0 0 0) (verdict 2 n 0)
     (λ e _. record { close = tt; some = λ f. absurd (false≢true (sym f ∙ e)); few = omega arith }) (λ _ q. absurd (omega arith)) h
@@ -156,9 +156,9 @@ framed-reels (reelEnd ∷ xs) n r closed m h = next-reel xs (framed-reels xs) n 
 framed-reels (broken ∷ xs) n r closed m h = absurd (omega arith)
 
 -- and the other way round
-reel-framed : (x xs : List Item) (n r : ℕ) (closed : Bool) → Closes x → r < mostReels
+reel-framed : (x xs : List Item) (n r : ℕ) (closed : Bool) → ReelCloses x → r < mostReels
     → framedFrom n r closed (x ++ xs) ≡ framedFrom (n + length x) (r + 1) true xs
-unfolding Closes framedFrom
+unfolding ReelCloses framedFrom
 reel-framed [] xs n r closed h m = absurd h
 reel-framed (block bs ∷ x) xs n r closed h m =
     let e : n + 1 + length x ≡ n + suc (length x) = omega arith in
@@ -186,8 +186,8 @@ reels-framed (x ∷ rs) h s m = reel-framed x (endToEnd rs) 0 0 false (h .0) (om
 -- ---- a file whose items close holds only items that can stand in an image
 
 -- an item as `decode` makes it has a legal length
-sound-item : (p : Shape) (s : List ℕ) → shape s ≡ p → Sound (itemOf p s)
-unfolding Sound itemOf isItem
+sound-item : (p : Shape) (s : List ℕ) → shape s ≡ p → SoundItem (itemOf p s)
+unfolding SoundItem itemOf isItem
 sound-item (Block n) s e =
     let a : BlockAt s n = block-at s n e in
     let whole : 4 + n ≤ length s = omega (arith, a .whole) in
@@ -197,20 +197,20 @@ sound-item Mark s e = tt
 sound-item ReelEnd s e = tt
 sound-item Broken s e = tt
 
-right-more : (x : Item) (xs : List Item) → Sound x → (Closes xs → allItems xs ≡ true) → Closes (x ∷ xs) → allItems (x ∷ xs) ≡ true
-unfolding Sound Closes allItems isItem
+right-more : (x : Item) (xs : List Item) → SoundItem x → (ReelCloses xs → allItems xs ≡ true) → ReelCloses (x ∷ xs) → allItems (x ∷ xs) ≡ true
+unfolding SoundItem ReelCloses allItems isItem
 right-more (block bs) xs good again h = if-true _ _ _ good ∙ again h
 right-more mark xs good again h = if-true _ _ _ refl ∙ again h
 right-more reelEnd [] good again h = if-true _ _ _ refl
 right-more reelEnd (x ∷ xs) good again h = absurd h
 right-more broken xs good again h = absurd h
 
-pub closes-right : (s : List ℕ) → Closes (decode s) → allItems (decode s) ≡ true
-unfolding Closes
+pub closes-right : (s : List ℕ) → ReelCloses (decode s) → allItems (decode s) ≡ true
+unfolding ReelCloses
 closes-right =
-    by-read itemIn leftOf left-less (λ (s : List ℕ). Closes (decode s) → allItems (decode s) ≡ true) (λ h. absurd (subst Closes decode-none h))
+    by-read itemIn leftOf left-less (λ (s : List ℕ). ReelCloses (decode s) → allItems (decode s) ≡ true) (λ h. absurd (subst ReelCloses decode-none h))
     (λ s h again c.
-    ap allItems (decode-more s h) ∙ right-more _ _ (sound-item (shape s) s refl) again (subst Closes (decode-more s h) c))
+    ap allItems (decode-more s h) ∙ right-more _ _ (sound-item (shape s) s refl) again (subst ReelCloses (decode-more s h) c))
 
 -- the items of files that all close
 pub all-right : (fs : List (List ℕ)) → AllClose (map decode fs) → allItems (endToEnd (map decode fs)) ≡ true

@@ -15,10 +15,10 @@ use Rattle.image.specs.declared.Shape.the-variants.{Block, Mark, ReelEnd}
 use Rattle.image.proofs.Coding.{all-first, all-rest, by-append}
 use Rattle.simh.specs.Tape.{endWord, word, spanOf, shape, itemOf, decode}
 use Rattle.simh.specs.Set.{reelsIn}
-use Rattle.simh.specs.Passes.{itemsIn, Fitting, Storable}
+use Rattle.simh.specs.Passes.{itemsIn, FittingItems, Storable}
 use Rattle.simh.proofs.Files.{told, block-at, block-within, word-whole, decode-past, decode-at, decode-block, decode-mark, decode-end}
 use Rattle.simh.proofs.Reels.{AllClose, reels-close, closes-right}
-use Rattle.simh.proofs.Measuring.{reelsFrom, reels-at, reels-past, Between, between-none, between-more, file-within, file-fits, file-start}
+use Rattle.simh.proofs.Measuring.{reelsFrom, reels-at, reels-past, FileStart, between-none, between-more, file-within, file-fits, file-start}
 
 -- ---- items in either form, of which ys are left to be written from a place on
 
@@ -80,7 +80,7 @@ pub record Filling (s o : List ℕ) (to : ℕ) (out : List ℕ) (at place : ℕ)
   pub right : allItems (decode (drop at s)) ≡ true
   pub put : Putting imageItem (decode s) (decode (drop at s)) o to out place
 
-pub filling-none : (s o : List ℕ) (to : ℕ) → Fitting (decode s) (length o) to → Filling s o to o 0 to
+pub filling-none : (s o : List ℕ) (to : ℕ) → FittingItems (decode s) (length o) to → Filling s o to o 0 to
 unfolding imageBytes
 filling-none s o to f = record { within = omega arith; right = f .right; put = putting-none imageItem (decode s) o to (f .room) }
 
@@ -201,7 +201,7 @@ pub ruleset fills =
 -- ---- all files
 
 pub record Storing (tape lengths o out : List ℕ) (from to i : ℕ) : Type 0 where
-  pub between : Between tape lengths from i
+  pub between : FileStart tape lengths from i
   pub close : AllClose (reelsFrom tape lengths from i)
   pub put : Putting imageItem (itemsIn tape lengths) (endToEnd (reelsFrom tape lengths from i)) o 5 out to
 
@@ -235,7 +235,7 @@ module _ (tape lengths o out : List ℕ) (from to i : ℕ) (w : Storing tape len
     unfolding endToEnd
     here = subst (λ (rs : List (List Item)). Putting imageItem (itemsIn tape lengths) (endToEnd rs) o 5 out to) (reels-at tape lengths from i h) (w .put)
 
-    pub file-fitting : Fitting (decode (take (from + getD lengths i 0 - from) (drop from tape))) (length out) to
+    pub file-fitting : FittingItems (decode (take (from + getD lengths i 0 - from) (drop from tape))) (length out) to
     unfolding AllClose imageBytes
     file-fitting =
         let long = ap length (by-append imageItem (decode file) (endToEnd rest)) ∙ length-append (encodeBy imageItem (decode file)) (encodeBy imageItem (endToEnd rest)) in

@@ -32,12 +32,12 @@ pub record Scanned (n : ℕ) (s : List ℕ) (r : Scan) : Type 0 where
   pub less : r .len ≤ length s
 
 -- all files, on which the answer is v
-pub record Measured (v : Verdict) (tape lengths : List ℕ) (r : Measure) : Type 0 where
+pub record TapeMeasured (v : Verdict) (tape lengths : List ℕ) (r : Measure) : Type 0 where
   pub said : r .verdict ≡ v
   pub bytes : r .verdict .number ≡ 0 → r .len ≡ length (imageBytes (itemsIn tape lengths))
 
 -- items that can stand in an image, and that have room from a place on
-pub record Fitting (xs : List Item) (size at : ℕ) : Type 0 where
+pub record FittingItems (xs : List Item) (size at : ℕ) : Type 0 where
   pub right : allItems xs ≡ true
   pub room : at + length (imageBytes xs) ≤ size
 
@@ -58,13 +58,13 @@ lengthsFrom n (reelEnd ∷ xs) = (n + 4) ∷ lengthsFrom 0 xs
 lengthsFrom n (broken ∷ xs) = []
 
 -- an image, on which the answer is v
-pub record Sized (v : Verdict) (s : List ℕ) (r : Size) : Type 0 where
+pub record ImageSized (v : Verdict) (s : List ℕ) (r : Size) : Type 0 where
   pub said : r .verdict ≡ v
   pub bytes : r .verdict .number ≡ 0 → r .len ≡ length (encode (items s))
   pub reels : r .verdict .number ≡ 0 → r .files ≡ length (lengthsFrom 0 (items s))
 
 -- items that can stand in an image, with room for their files and for the lengths of these
-pub record Filed (xs : List Item) (size list : ℕ) : Type 0 where
+pub record FilesFit (xs : List Item) (size list : ℕ) : Type 0 where
   pub right : allItems xs ≡ true
   pub room : length (encode xs) ≤ size
   pub entries : length (lengthsFrom 0 xs) ≤ list

@@ -7,7 +7,7 @@ ghost use Rattle.base.specs.Part.{putAt};
 ghost use Rattle.image.specs.Framing.{mostImage, framedFrom, items, framing};
 ghost use Rattle.simh.specs.Tape.{encode};
 ghost use Rattle.simh.specs.Set.{Converts, toSimh};
-ghost use Rattle.simh.specs.Passes.{Sized, Filed, wrongItem, sizeOf, shortOf, lengthsFrom};
+ghost use Rattle.simh.specs.Passes.{ImageSized, FilesFit, wrongItem, sizeOf, shortOf, lengthsFrom};
 use crate::put::put_four;
 use crate::put::put_record;
 use crate::tape::END_WORD;
@@ -67,7 +67,7 @@ fn good(len: usize, files: usize) -> Size
 // The items of an image that opens as one.
 fn size_of_items(image: &[u8]) -> Size
     requires { ⌜ length (now image) ≤ mostImage ⌝ }
-    ensures { λ r. ⌜ Sized (framedFrom 0 0 false (items (now (image .entry)))) (now (image .entry)) r ⌝ }
+    ensures { λ r. ⌜ ImageSized (framedFrom 0 0 false (items (now (image .entry)))) (now (image .entry)) r ⌝ }
 {
     let mut at: usize = 5;
     let mut item: u32 = 0;
@@ -109,7 +109,7 @@ fn size_of_items(image: &[u8]) -> Size
 
 // The framing of an image, and the size of its files.
 fn size_of_image(image: &[u8]) -> Size
-    ensures { λ r. ⌜ Sized (framing (now (image .entry))) (now (image .entry)) r ⌝ }
+    ensures { λ r. ⌜ ImageSized (framing (now (image .entry))) (now (image .entry)) r ⌝ }
 {
     if image::opens(image) {
         return size_of_items(image);
@@ -125,7 +125,7 @@ fn size_of_image(image: &[u8]) -> Size
 
 // Writes the items of an image with a good framing as files, and the length of each file into the list.
 fn put_files(image: &[u8], out: &mut [u8], lengths: &mut [u64])
-    requires { ⌜ Filed (items (now image)) (length (now out)) (length (now lengths)) ⌝ }
+    requires { ⌜ FilesFit (items (now image)) (length (now out)) (length (now lengths)) ⌝ }
     ensures { λ _. ⌜ now (out .exit) ≡ putAt (now (out .entry)) 0 (encode (items (now (image .entry)))) ⌝ }
     ensures { λ _. ⌜ now (lengths .exit) ≡ putAt (now (lengths .entry)) 0 (lengthsFrom 0 (items (now (image .entry)))) ⌝ }
 {

@@ -8,7 +8,7 @@ ghost use Rattle.base.specs.Answer.{verdict};
 ghost use Rattle.image.specs.Item.{encode as imageBytes};
 ghost use Rattle.output.specs.Output.{AnswersAt};
 ghost use Rattle.simh.specs.Set.{torn, reelsVerdict, reelsIn, isFew, tapeVerdict, fromSimh};
-ghost use Rattle.simh.specs.Passes.{Scanned, Measured, Fitting, Storable, itemsIn};
+ghost use Rattle.simh.specs.Passes.{Scanned, TapeMeasured, FittingItems, Storable, itemsIn};
 ghost use Rattle.simh.specs.Tape.{decode};
 use crate::put::put_block;
 use crate::put::put_three;
@@ -122,7 +122,7 @@ pub struct Measure {
 // All files, which their lengths tell.
 fn measure_reels(tape: &[u8], lengths: &[u64]) -> Measure
     requires { ⌜ sum (now lengths) ≡ length (now tape) ⌝ }
-    ensures { λ r. ⌜ Measured (reelsVerdict 0 (reelsIn (now (tape .entry)) (now (lengths .entry)))) (now (tape .entry)) (now (lengths .entry)) r ⌝ }
+    ensures { λ r. ⌜ TapeMeasured (reelsVerdict 0 (reelsIn (now (tape .entry)) (now (lengths .entry)))) (now (tape .entry)) (now (lengths .entry)) r ⌝ }
 {
     let mut from: usize = 0;
     let mut item: usize = 0;
@@ -157,7 +157,7 @@ fn is_few(n: usize) -> bool
 
 // 15 for the lengths, then for what stands in the files, then 2.
 fn check(tape: &[u8], lengths: &[u64]) -> Measure
-    ensures { λ r. ⌜ Measured (tapeVerdict (now (tape .entry)) (now (lengths .entry))) (now (tape .entry)) (now (lengths .entry)) r ⌝ }
+    ensures { λ r. ⌜ TapeMeasured (tapeVerdict (now (tape .entry)) (now (lengths .entry))) (now (tape .entry)) (now (lengths .entry)) r ⌝ }
 {
     if add_up_to(lengths, tape.len()) {
         let m = measure_reels(tape, lengths);
@@ -183,7 +183,7 @@ fn check(tape: &[u8], lengths: &[u64]) -> Measure
 
 // Writes the items of one file, in which nothing is wrong, and gives the place behind them.
 fn put_reel(reel: &[u8], out: &mut [u8], to: usize) -> usize
-    requires { ⌜ Fitting (decode (now reel)) (length (now out)) to ⌝ }
+    requires { ⌜ FittingItems (decode (now reel)) (length (now out)) to ⌝ }
     ensures { λ r. ⌜ r ≡ to + length (imageBytes (decode (now (reel .entry)))) ⌝ }
     ensures { λ r. ⌜ now (out .exit) ≡ putAt (now (out .entry)) to (imageBytes (decode (now (reel .entry)))) ⌝ }
 {

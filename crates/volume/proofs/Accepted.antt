@@ -21,26 +21,26 @@ use Rattle.volume.specs.State.{State, start}
 use Rattle.volume.specs.Fault.{itemFault}
 use Rattle.volume.specs.Step.{Event, Next, go, no, step, judged, ordered, eventsOf, kindIn, bytesIn, isDue}
 use Rattle.volume.specs.Run.{Run, ended, stopped, further, next, runs, answerOf, imageVerdict}
-use Rattle.volume.specs.Accepted.{Faultless, All, MayEnd, Accepted, FirstWrong, behind}
+use Rattle.volume.specs.Accepted.{Faultless, All, MayEnd, Accepted, FirstWrong, stateBehind}
 
 -- ---- one item
 
 -- an item without fault goes on
-pub faultless-go : (s : State) (x : Item) (p : Phase) → Faultless s x p → step s x ≡ go (behind s x p) (eventsOf s (kindIn (s .phase) x) (bytesIn x))
+pub faultless-go : (s : State) (x : Item) (p : Phase) → Faultless s x p → step s x ≡ go (stateBehind s x p) (eventsOf s (kindIn (s .phase) x) (bytesIn x))
 unfolding step ordered judged
 faultless-go s x p h =
     ap (ordered s (kindIn (s .phase) x) (bytesIn x)) (h .due)
     ∙ if-true _ _ _ (eq-eqb (itemFault s (kindIn (s .phase) x) (bytesIn x) .number) 0 (h .sound))
 
--- and reading goes on behind it
+-- and reading goes on stateBehind it
 pub faultless-runs : (s : State) (x : Item) (xs : List Item) (p : Phase) → Faultless s x p
-    → runs s (x ∷ xs) ≡ further (eventsOf s (kindIn (s .phase) x) (bytesIn x)) (runs (behind s x p) xs)
+    → runs s (x ∷ xs) ≡ further (eventsOf s (kindIn (s .phase) x) (bytesIn x)) (runs (stateBehind s x p) xs)
 unfolding runs next
 faultless-runs s x xs p h = ap (λ (r : Next). next r (λ t. runs t xs)) (faultless-go s x p h)
 
 -- what holds where an item is without fault, and where it is refused with a number that is not 0, holds of its step
 pub by-step {ℓ} : (P : Next → Type ℓ) (s : State) (x : Item)
-    → ((p : Phase) → Faultless s x p → P (go (behind s x p) (eventsOf s (kindIn (s .phase) x) (bytesIn x))))
+    → ((p : Phase) → Faultless s x p → P (go (stateBehind s x p) (eventsOf s (kindIn (s .phase) x) (bytesIn x))))
     → ((k b : ℕ) → (k ≡ 0 → ⊥) → step s x ≡ no k b → P (no k b)) → P (step s x)
 unfolding step ordered judged
 by-step P s x good bad = due (dueAfter (s .phase) (kindIn (s .phase) x)) refl
@@ -53,7 +53,7 @@ by-step P s x good bad = due (dueAfter (s .phase) (kindIn (s .phase) x)) refl
 
     due : (d : Due) → dueAfter (s .phase) (kindIn (s .phase) x) ≡ d → P (ordered s (kindIn (s .phase) x) l d)
     due (To p) e =
-        if-case P (eqb (f .number) 0) (go (behind s x p) (eventsOf s (kindIn (s .phase) x) l)) (no (f .number) (f .byte))
+        if-case P (eqb (f .number) 0) (go (stateBehind s x p) (eventsOf s (kindIn (s .phase) x) l)) (no (f .number) (f .byte))
         (λ h. good p (record { due = e; sound = eqb-true (f .number) 0 h }))
         (λ h. bad (f .number) (f .byte) (eqb-false (f .number) 0 h) (ap (ordered s (kindIn (s .phase) x) l) e ∙ if-false _ _ _ h))
     due Wrong e = bad 3 0 (λ q. eqb-false 3 0 refl q) (ap (ordered s (kindIn (s .phase) x) l) e)
@@ -97,7 +97,7 @@ Told s xs (ended es) = Unit {0}
 Told s xs (stopped k i b) = (k ≡ 0 → ⊥) × FirstWrong s xs k i b
 
 told-further : (s : State) (x : Item) (xs : List Item) (p : Phase) → Faultless s x p → (es : List Event) (r : Run)
-    → Told (behind s x p) xs r → Told s (x ∷ xs) (further es r)
+    → Told (stateBehind s x p) xs r → Told s (x ∷ xs) (further es r)
 unfolding Told further
 told-further s x xs p f es (ended fs) h = tt
 told-further s x xs p f es (stopped k i b) h = (h .0, record { within = omega (arith, h .1 .within); refused = (p, f, h .1 .refused) })

@@ -26,7 +26,7 @@ use Rattle.volume.specs.State.{State}
 use Rattle.volume.specs.Fault.{outcomeIn, volumeFault, contextFault, itemFault}
 use Rattle.volume.specs.Step.{stateAfter, namesAfter, filesAfter, goesOnAfter, firstAfter, secondAfter, countAfter, pendingAfter}
 use Rattle.volume.specs.Place.{labelAt, namesAt, contents}
-use Rattle.volume.specs.Walk.{Sized, Behind}
+use Rattle.volume.specs.Walk.{LabelSized, ReadingBehind}
 use Rattle.volume.proofs.Faults.{length-names}
 
 -- ---- field by field
@@ -59,7 +59,7 @@ names-kept s names start len false z = refl
 
 -- what the code makes of each field stands for the state behind the item
 pub contents-after : (s : List ℕ) (st : Reading) (p : Phase) (k : Kind) (start len files first second count pending : ℕ) (ongoing : Bool) (names : List ℕ)
-    → Sized k len
+    → LabelSized k len
     → files ≡ ifB (isKind k (hdr 2)) (ifB (st .ongoing) (st .files) (st .files + 1)) (st .files)
     → ongoing ≡ ifB (isKind k (eov 1)) true (ifB (isKind k (eof 1)) false (st .ongoing))
     → first ≡ ifB (isKind k (hdr 1)) start (st .first)
@@ -84,14 +84,14 @@ if-most : (t : Bool) (a b m x : ℕ) → a ≤ m → b ≤ m → x ≡ ifB t a b
 if-most t a b m x p q e = subst (λ (y : ℕ). y ≤ m) (sym e) (if-case (λ (y : ℕ). y ≤ m) t a b (λ _. p) (λ _. q))
 
 pub behind-made : (s : List ℕ) (st : Reading) (p : Phase) (k : Kind) (start len files first second count pending : ℕ) (ongoing : Bool)
-    → Sized k len
+    → LabelSized k len
     → files ≡ ifB (isKind k (hdr 2)) (ifB (st .ongoing) (st .files) (st .files + 1)) (st .files)
     → ongoing ≡ ifB (isKind k (eov 1)) true (ifB (isKind k (eof 1)) false (st .ongoing))
     → first ≡ ifB (isKind k (hdr 1)) start (st .first)
     → second ≡ ifB (isKind k (hdr 2)) start (st .second)
     → count ≡ ifB (isKind k dataBlock) (st .count + 1) (ifB (isKind k (hdr 1)) 0 (st .count))
     → pending ≡ ifB (isKind k dataBlock) (outcomeIn (labelAt s (st .second)) (st .pending) (part start len s) .pending) (st .pending)
-    → Behind s st p k start len
+    → ReadingBehind s st p k start len
     (record { first = first; second = second; count = count; pending = pending; files = files; phase = p; ongoing = ongoing })
 behind-made s st p k start len files first second count pending ongoing z ef eo e1 e2 ec ep =
     record {

@@ -33,7 +33,7 @@ use Rattle.volume.specs.State.{State}
 use Rattle.volume.specs.Fault.{valueOf, outcomeIn, blockFault, contextFault, itemFault}
 use Rattle.volume.specs.Step.{Event, Next, go, step, ordered, judged, kindIn, bytesIn, isDue, stateAfter, eventsOf, namesAfter, filesAfter, goesOnAfter, firstAfter, secondAfter, countAfter, pendingAfter}
 use Rattle.volume.specs.Told.{toldFrom}
-use Rattle.volume.specs.Body.{body, Given, Inside, toldBetween, Skipped, between}
+use Rattle.volume.specs.Body.{body, Given, PlaceInside, toldBetween, Skipped, between}
 use Rattle.volume.proofs.Runs.{told-go}
 
 -- a data block has the fault of its units and turns, and no other
@@ -51,7 +51,7 @@ step-block t count pending l h =
 
 -- ---- the loop over blocks
 
-pub skip-none : (s : List ℕ) (h : Lengths) (at item count pending : ℕ) → Inside s at item count
+pub skip-none : (s : List ℕ) (h : Lengths) (at item count pending : ℕ) → PlaceInside s at item count
     → Skipped s h (between at item count pending) (between at item count pending)
 skip-none s h at item count pending i = record { same = λ t g. refl; onward = le-refl at; passed = le-refl item; inside = i }
 
@@ -62,11 +62,11 @@ unfolding outcomeIn
 outcome-given h second pending l g = cc (g .format, g .block, g .size, g .offset)
 
 -- a block of n bytes stands at a place, as the code tells it
-pub record BlockAt (s : List ℕ) (at n : ℕ) : Type 0 where
+pub record BlockStands (s : List ℕ) (at n : ℕ) : Type 0 where
   pub is : shape (drop at s) ≡ Block n
   pub within : at + 3 + n ≤ length s
 
-pub block-at : (s : List ℕ) (at n : ℕ) → n ≡ blockLength (shape (drop at s)) → (n ≡ 0 → ⊥) → BlockAt s at n
+pub block-at : (s : List ℕ) (at n : ℕ) → n ≡ blockLength (shape (drop at s)) → (n ≡ 0 → ⊥) → BlockStands s at n
 block-at s at n e h = let b = block-there (shape (drop at s)) n e h in record { is = b; within = block-within s at n _ refl b }
 
 pub block-ends : (s : List ℕ) (at n : ℕ) → n ≡ blockLength (shape (drop at s)) → (n ≡ 0 → ⊥) → at + 3 + n ≤ length s
@@ -80,7 +80,7 @@ unfolding toldBetween
 skip-block s h a at item count pending n o k e f q z =
     let b = block-at s at n e f in
     let w : at + 3 + n ≤ length s = b .within in
-    let i : Inside s at item count = k .inside in
+    let i : PlaceInside s at item count = k .inside in
     let l : List ℕ = part (at + 3) n s in
     let made : o ≡ blockOutcome (h .format) (h .block) (h .size) (h .offset) pending l
     = q ∙ ap (blockOutcome (h .format) (h .block) (h .size) (h .offset) pending) (part-within (at + 3) n s) in
@@ -99,17 +99,17 @@ skip-block s h a at item count pending n o k e f q z =
 pub block-falls : (s : List ℕ) (at n : ℕ) → n ≡ blockLength (shape (drop at s)) → (n ≡ 0 → ⊥) → length s - (at + 3 + n) < length s - at
 block-falls s at n e f = omega (arith, block-at s at n e f .within)
 
-pub start-fits : (s : List ℕ) (at item count n : ℕ) → Inside s at item count → n ≡ blockLength (shape (drop at s)) → (n ≡ 0 → ⊥) → Fits w64 (at + 3)
+pub start-fits : (s : List ℕ) (at item count n : ℕ) → PlaceInside s at item count → n ≡ blockLength (shape (drop at s)) → (n ≡ 0 → ⊥) → Fits w64 (at + 3)
 start-fits s at item count n i e f = record { fits = omega (arith, block-at s at n e f .within, i .short) }
 
-pub end-fits : (s : List ℕ) (at item count n : ℕ) → Inside s at item count → n ≡ blockLength (shape (drop at s)) → (n ≡ 0 → ⊥) → Fits w64 (at + 3 + n)
+pub end-fits : (s : List ℕ) (at item count n : ℕ) → PlaceInside s at item count → n ≡ blockLength (shape (drop at s)) → (n ≡ 0 → ⊥) → Fits w64 (at + 3 + n)
 end-fits s at item count n i e f = record { fits = omega (arith, block-at s at n e f .within, i .short) }
 
 -- an item and a block more can be counted
-pub item-fits : (s : List ℕ) (at item count n : ℕ) → Inside s at item count → n ≡ blockLength (shape (drop at s)) → (n ≡ 0 → ⊥) → Fits w32 (item + 1)
+pub item-fits : (s : List ℕ) (at item count n : ℕ) → PlaceInside s at item count → n ≡ blockLength (shape (drop at s)) → (n ≡ 0 → ⊥) → Fits w32 (item + 1)
 item-fits s at item count n i e f = record { fits = omega (arith, block-at s at n e f .within, i .short, i .items) }
 
-pub count-fits : (s : List ℕ) (at item count n : ℕ) → Inside s at item count → n ≡ blockLength (shape (drop at s)) → (n ≡ 0 → ⊥) → Fits w64 (count + 1)
+pub count-fits : (s : List ℕ) (at item count n : ℕ) → PlaceInside s at item count → n ≡ blockLength (shape (drop at s)) → (n ≡ 0 → ⊥) → Fits w64 (count + 1)
 count-fits s at item count n i e f = record { fits = omega (arith, block-at s at n e f .within, i .short, i .blocks) }
 
 pub ruleset skips = (skip-none, skip-block, block-falls, start-fits, end-fits, item-fits, count-fits, block-ends, needs)

@@ -24,7 +24,7 @@ use Rattle.volume.specs.Fault.{valueOf, outcomeIn, blockFault, contextFa
 use Rattle.volume.specs.Step.{Event, begins, continues, holds, kindIn, bytesIn, segmentsOf, segmentsIn, secondAfter, stateAfter, eventsOf}
 use Rattle.volume.specs.Run.{Run, ended, stopped, further, runs}
 use Rattle.volume.specs.Meaning.{joined, Collected, fieldsFrom, collect, setFrom, handedOut}
-use Rattle.volume.specs.Accepted.{Faultless, All, MayEnd, behind}
+use Rattle.volume.specs.Accepted.{Faultless, All, MayEnd, stateBehind}
 use Rattle.volume.proofs.Accepted.{Ends, faultless-runs, all-ends}
 
 -- ---- item by item
@@ -35,11 +35,11 @@ handed-further es (ended fs) h = refl
 handed-further es (stopped k i b) h = absurd h
 
 -- an item without fault hands out its events before those of the rest
-pub handed-more : (t : State) (x : Item) (xs : List Item) (q : Phase) → Faultless t x q → All MayEnd (behind t x q) xs
-    → handedOut (runs t (x ∷ xs)) ≡ eventsOf t (kindIn (t .phase) x) (bytesIn x) ++ handedOut (runs (behind t x q) xs)
+pub handed-more : (t : State) (x : Item) (xs : List Item) (q : Phase) → Faultless t x q → All MayEnd (stateBehind t x q) xs
+    → handedOut (runs t (x ∷ xs)) ≡ eventsOf t (kindIn (t .phase) x) (bytesIn x) ++ handedOut (runs (stateBehind t x q) xs)
 handed-more t x xs q f all =
     ap handedOut (faultless-runs t x xs q f)
-    ∙ handed-further (eventsOf t (kindIn (t .phase) x) (bytesIn x)) (runs (behind t x q) xs) (all-ends (behind t x q) xs all)
+    ∙ handed-further (eventsOf t (kindIn (t .phase) x) (bytesIn x)) (runs (stateBehind t x q) xs) (all-ends (stateBehind t x q) xs all)
 
 -- where the image may end nothing more is handed out
 pub handed-none : (t : State) → MayEnd t → handedOut (runs t []) ≡ []
@@ -53,7 +53,7 @@ pub record OneMeaning (es fs : List Event) : Type 0 where
   pub collected : collect es ≡ collect fs
   pub set : setFrom es ≡ setFrom fs
 
--- so they are behind the same event
+-- so they are stateBehind the same event
 pub meaning-behind : (x : Event) (es fs : List Event) → OneMeaning es fs → OneMeaning (x ∷ es) (x ∷ fs)
 unfolding collect setFrom
 meaning-behind (begins f s) es fs h =
@@ -65,7 +65,7 @@ meaning-behind (continues f s) es fs h = record { collected = h .collected; set 
 meaning-behind (holds l xs) es fs h =
     record { collected = ap (λ (c : Collected). record { segments = xs ++ c .segments; files = c .files }) (h .collected); set = h .set }
 
--- and behind a later section of a file, whatever its HDR1 and HDR2
+-- and stateBehind a later section of a file, whatever its HDR1 and HDR2
 pub meaning-continued : (f s g t : List ℕ) (es fs : List Event) → OneMeaning es fs → OneMeaning (continues f s ∷ es) (continues g t ∷ fs)
 unfolding collect setFrom
 meaning-continued f s g t es fs h = record { collected = h .collected; set = h .set }
@@ -131,4 +131,4 @@ pub handed-cuts : (xs : List Item) (t : State) → All MayEnd t xs → Cuts (t .
 unfolding stateAfter
 handed-cuts [] t h = subst (Cuts (t .second)) (sym (handed-none t h)) tt
 handed-cuts (x ∷ xs) t (p, f, all) =
-    subst (Cuts (t .second)) (sym (handed-more t x xs p f all)) (cuts-step t (kindIn (t .phase) x) (bytesIn x) _ (f .sound) (handed-cuts xs (behind t x p) all))
+    subst (Cuts (t .second)) (sym (handed-more t x xs p f all)) (cuts-step t (kindIn (t .phase) x) (bytesIn x) _ (f .sound) (handed-cuts xs (stateBehind t x p) all))

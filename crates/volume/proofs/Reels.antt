@@ -1,4 +1,4 @@
--- What is read without fault is well framed: a broken item is never due, a 17th volume label is a fault, and the image may end only behind an end of
+-- What is read without fault is well framed: a broken item is never due, a 17th volume label is a fault, and the image may end only stateBehind an end of
 -- reel. So the framing of the whole is that of what is left from the first wrong item on. Assumes nothing.
 use mathlib.Core.Path.{_≡_, refl, sym, ap, ap₂, _∙_, subst}
 use mathlib.Core.Bool.{Bool, true, false, not, _&&_, _||_, false≢true}
@@ -33,13 +33,13 @@ use Rattle.volume.specs.Fault.{volumeFault, contextFault, itemFault}
 use Rattle.volume.specs.Step.{Next, kindIn, bytesIn, isDue, stateAfter, namesAfter}
 use Rattle.volume.specs.Told.{isInside, endedIn, closedIn, framedIn, framedOr, toldNext, toldFrom}
 use Rattle.volume.specs.Run.{runs, next, answerOf}
-use Rattle.volume.specs.Accepted.{Faultless, behind}
+use Rattle.volume.specs.Accepted.{Faultless, stateBehind}
 use Rattle.volume.proofs.Runs.{answer-further, answer-end, answer-early}
 use Rattle.volume.proofs.Accepted.{by-step}
 
 -- ---- the table of what is due
 
--- before the VOL1 of a reel, behind its VOL n, further inside it, and behind the end of the last reel
+-- before the VOL1 of a reel, stateBehind its VOL n, further inside it, and stateBehind the end of the last reel
 data Side : Type 0 where
   between : Side
   volume : ℕ → Side
@@ -80,14 +80,14 @@ isOver (volume n) = false
 isOver within = false
 isOver over = true
 
--- where reading comes: behind a VOL n, n is 1 or more
+-- where reading comes: stateBehind a VOL n, n is 1 or more
 abbrev isReached : Side → Bool
 isReached between = true
 isReached (volume n) = leb 1 n
 isReached within = true
 isReached over = true
 
--- an end of reel leads out of a reel, and the end of the image stands behind the last; all else of a kind leads on inside a reel or, VOL1, into one
+-- an end of reel leads out of a reel, and the end of the image stands stateBehind the last; all else of a kind leads on inside a reel or, VOL1, into one
 abbrev leads : Phase → Kind → Phase → Bool
 leads p k q =
     ifB (isKind k endOfReel) (isWithin (side p) && not (isInside q))
@@ -160,7 +160,7 @@ outside-over : (p : Phase) → isDue (dueAfter p endOfImage) ≡ true → isInsi
 unfolding isInside
 outside-over p e = if-case (λ (a : Bool). a ≡ false) (isDue (dueAfter p (vol 1))) _ _ (λ _. refl) (λ _. ap not e)
 
--- the image may end only behind the end of the last reel
+-- the image may end only stateBehind the end of the last reel
 end-over : (p : Phase) → isDue (dueAfter p endOfImage) ≡ true → isOver (side p) ≡ true
 unfolding isDue isKind ifB
 end-over p h = by-due (dueAfter p endOfImage) refl h
@@ -250,7 +250,7 @@ closed-outside : (p : Phase) (m : ℕ) → isInside p ≡ false → 1 ≤ m → 
 unfolding closedIn
 closed-outside p m w h = if-false _ _ _ (ne-eqb m 0 (λ z. omega arith)) ∙ ap not w
 
--- behind m volume labels: at most sixteen, and one or more but before the first
+-- stateBehind m volume labels: at most sixteen, and one or more but before the first
 record Reels (p : Phase) (m : ℕ) : Type 0 where
   pub few : m ≤ mostReels
   pub reached : isReached (side p) ≡ true
@@ -301,7 +301,7 @@ length-names s k l =
 
 -- ---- one item
 
--- from item x on the framing is that from the next one on, in the state behind it
+-- from item x on the framing is that from the next one on, in the state stateBehind it
 record Onward (n : ℕ) (s : State) (x : Item) (xs : List Item) (t : State) : Type 0 where
   pub framed : framedIn n s (x ∷ xs) ≡ framedIn (n + 1) t xs
   pub next : Reels (t .phase) (length (t .names))
@@ -315,12 +315,12 @@ item-on s k l q h e i d z =
     (passed-on (s .phase) q (length (s .names)) (isKind k (vol 1)) h (inside .from) (outside-volume (s .phase) k q d)
     (λ v. volume-few s l (subst (λ (j : Kind). itemFault s j l .number ≡ 0) (kind-is k (vol 1) v) z)) (inside .to) (reached (s .phase) k q d))
 
--- what is left behind it
+-- what is left stateBehind it
 passed-framed : (n : ℕ) (xs : List Item) (p q : Phase) (m o : ℕ) → Passed p q m o
     → framedFrom n (endedIn p m) false xs ≡ framedFrom n (endedIn q o) (closedIn q o) xs
 passed-framed n xs p q m o on = ap₂ (λ (r : ℕ) (c : Bool). framedFrom n r c xs) (on .ended) (sym (on .still))
 
-onward : (n : ℕ) (s : State) (x : Item) (xs : List Item) (p : Phase) → Reels (s .phase) (length (s .names)) → Faultless s x p → Onward n s x xs (behind s x p)
+onward : (n : ℕ) (s : State) (x : Item) (xs : List Item) (p : Phase) → Reels (s .phase) (length (s .names)) → Faultless s x p → Onward n s x xs (stateBehind s x p)
 unfolding framedIn kindIn bytesIn stateAfter isKind namesAfter ifB
 onward n s (block l) xs p h f =
     let k : Kind = kindIn (s .phase) (block l) in
@@ -363,10 +363,10 @@ told-all n s [] h =
 told-all n s (x ∷ xs) h =
     by-step (λ (r : Next). toldNext n s (x ∷ xs) r (λ t. toldFrom (n + 1) t xs) ≡ framedOr n s (x ∷ xs) (answerOf n (next r (λ t. runs t xs)))) s x
     (λ p f.
-    let on : Onward n s x xs (behind s x p) = onward n s x xs p h f in
-    told-all (n + 1) (behind s x p) xs (on .next)
-    ∙ ap (λ (f : Verdict). ifB (eqb (f .number) 0) (answerOf (n + 1) (runs (behind s x p) xs)) f) (sym (on .framed))
-    ∙ ap (framedOr n s (x ∷ xs)) (sym (answer-further n _ (runs (behind s x p) xs))))
+    let on : Onward n s x xs (stateBehind s x p) = onward n s x xs p h f in
+    told-all (n + 1) (stateBehind s x p) xs (on .next)
+    ∙ ap (λ (f : Verdict). ifB (eqb (f .number) 0) (answerOf (n + 1) (runs (stateBehind s x p) xs)) f) (sym (on .framed))
+    ∙ ap (framedOr n s (x ∷ xs)) (sym (answer-further n _ (runs (stateBehind s x p) xs))))
     (λ k b _ _. let z : n ≡ n + 0 = omega arith in ap (λ (m : ℕ). framedOr n s (x ∷ xs) (verdict k m b)) z)
 
 -- the framing from the first wrong item on decides as that of the whole does

@@ -52,9 +52,9 @@ behindAll k es (ended fs) = ended (es ++ fs)
 behindAll k es (stopped n i b) = stopped n (k + i) b
 
 -- reading goes from s over xs to t, and hands out es
-abbrev pub Steps : State → List Item → State → List Event → Type 0
-Steps s [] t es = (s ≡ t) × (es ≡ [])
-Steps s (x ∷ xs) t es = (u : State) × (fs gs : List Event) × (step s x ≡ go u fs) × (es ≡ fs ++ gs) × Steps u xs t gs
+abbrev pub ReadsOver : State → List Item → State → List Event → Type 0
+ReadsOver s [] t es = (s ≡ t) × (es ≡ [])
+ReadsOver s (x ∷ xs) t es = (u : State) × (fs gs : List Event) × (step s x ≡ go u fs) × (es ≡ fs ++ gs) × ReadsOver u xs t gs
 
 further-behind : (k : ℕ) (fs gs : List Event) (r : Run) → further fs (behindAll k gs r) ≡ behindAll (suc k) (fs ++ gs) r
 unfolding further behindAll
@@ -66,7 +66,7 @@ unfolding behindAll
 behind-none (ended es) = refl
 behind-none (stopped n i b) = let e : i ≡ 0 + i = omega arith in ap (λ (m : ℕ). stopped n m b) e
 
-pub runs-append : (s t : State) (xs ys : List Item) (es : List Event) → Steps s xs t es → runs s (xs ++ ys) ≡ behindAll (length xs) es (runs t ys)
+pub runs-append : (s t : State) (xs ys : List Item) (es : List Event) → ReadsOver s xs t es → runs s (xs ++ ys) ≡ behindAll (length xs) es (runs t ys)
 unfolding runs next
 runs-append s t [] ys es h =
     ap (λ (u : State). runs u ys) (h .0) ∙ behind-none (runs t ys) ∙ ap (λ (e : List Event). behindAll 0 e (runs t ys)) (sym (h .1))

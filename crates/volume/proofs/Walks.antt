@@ -41,13 +41,13 @@ use Rattle.volume.specs.declared.walk.Turn.{Turn}
 use Rattle.volume.specs.declared.blocks.Lengths.{Lengths}
 use Rattle.volume.specs.declared.blocks.Between.{Between}
 use Rattle.volume.specs.State.{State, start}
-use Rattle.volume.specs.Body.{body, between, toldBetween, Given, Inside, Skipped}
+use Rattle.volume.specs.Body.{body, between, toldBetween, Given, PlaceInside, Skipped}
 use Rattle.volume.specs.Fault.{itemFault, contextFault}
 use Rattle.volume.specs.Step.{Event, go, no, step, isDue, ordered, judged, kindIn, bytesIn, stateAfter, eventsOf, namesAfter, filesAfter, goesOnAfter, firstAfter, secondAfter, countAfter, pendingAfter}
 use Rattle.volume.specs.Run.{runs, answerOf, imageVerdict}
 use Rattle.volume.specs.Told.{isInside, endedIn, closedIn, framedIn, framedOr, toldNext, toldFrom}
 use Rattle.volume.specs.Place.{contents, labelAt, namesAt}
-use Rattle.volume.specs.Walk.{toldAt, toldStep, toldBy, toldDue, toldEnd, toldAfter, placesAfter, frame, framedAt, framedElse, lastTurn, onTurn, bareTurn, phased, inPhase, Bare, BlockHere, BareHere, Begun, Walked, Past, Sized, Framed, Bounded, Small, Behind, Onward, Owes}
+use Rattle.volume.specs.Walk.{toldAt, toldStep, toldBy, toldDue, toldEnd, toldAfter, placesAfter, frame, framedAt, framedElse, lastTurn, onTurn, bareTurn, phased, inPhase, Bare, BlockHere, BareHere, FirstSpot, Walked, Past, LabelSized, FrameHere, Bounded, Small, ReadingBehind, Onward, Owes}
 use Rattle.volume.proofs.Reels.{told-whole, broken-undue}
 use Rattle.volume.proofs.Faults.{length-names}
 use Rattle.volume.proofs.Afters.{room-for-name}
@@ -107,18 +107,18 @@ ended-most p m =
     if-case (λ (r : ℕ). r ≤ m) (eqb m 0) _ _ (λ _. omega arith) (λ _. if-case (λ (r : ℕ). r ≤ m) (isInside p) _ _ (λ _. omega arith) (λ _. omega arith))
 
 -- the framing from a place on
-framed-here : (s : List ℕ) (at item : ℕ) (p : Phase) (m : ℕ) (y : Frame) (f : Verdict) → Framed s at item m → y ≡ frame at item (endedIn p m) (closedIn p m)
+framed-here : (s : List ℕ) (at item : ℕ) (p : Phase) (m : ℕ) (y : Frame) (f : Verdict) → FrameHere s at item m → y ≡ frame at item (endedIn p m) (closedIn p m)
     → f ≡ framingFrom s (y .at) (y .item) (y .reels) (y .closed) → f ≡ framedAt s at item p m
 framed-here s at item p m y f b e q =
     q ∙ ap (λ (z : Frame). framingFrom s (z .at) (z .item) (z .reels) (z .closed)) e
     ∙ framing-from s at item (endedIn p m) (closedIn p m) (b .short) (omega (arith, b .short, b .within, b .items)) (omega (arith, ended-most p m, b .few))
 
-pub framed-good : (s : List ℕ) (at item : ℕ) (p : Phase) (m : ℕ) (y : Frame) (f v : Verdict) → Framed s at item m → y ≡ frame at item (endedIn p m) (closedIn p m)
+pub framed-good : (s : List ℕ) (at item : ℕ) (p : Phase) (m : ℕ) (y : Frame) (f v : Verdict) → FrameHere s at item m → y ≡ frame at item (endedIn p m) (closedIn p m)
     → f ≡ framingFrom s (y .at) (y .item) (y .reels) (y .closed) → f .number ≡ 0 → v ≡ framedElse s at item p m v
 framed-good s at item p m y f v b e q z =
     sym (if-true _ _ _ (eq-eqb _ 0 (ap (λ (g : Verdict). g .number) (sym (framed-here s at item p m y f b e q)) ∙ z)))
 
-pub framed-bad : (s : List ℕ) (at item : ℕ) (p : Phase) (m : ℕ) (y : Frame) (f v : Verdict) → Framed s at item m → y ≡ frame at item (endedIn p m) (closedIn p m)
+pub framed-bad : (s : List ℕ) (at item : ℕ) (p : Phase) (m : ℕ) (y : Frame) (f v : Verdict) → FrameHere s at item m → y ≡ frame at item (endedIn p m) (closedIn p m)
     → f ≡ framingFrom s (y .at) (y .item) (y .reels) (y .closed) → (f .number ≡ 0 → ⊥) → f ≡ framedElse s at item p m v
 framed-bad s at item p m y f v b e q z =
     let here : f ≡ framedAt s at item p m = framed-here s at item p m y f b e q in
@@ -194,7 +194,7 @@ unfolding toldStep toldNext
 told-on s names x behind t es = refl
 
 pub onward-made : (s : List ℕ) (x : Spot) (p : Phase) (k : Kind) (n : ℕ) (t : Reading) (b : Bool) (r : Turn)
-    → Behind s (x .state) p k (x .at + 3) n t → b ≡ isKind k (vol 1) → r ≡ onTurn (x .at + 3 + n) (x .item + 1) t b (x .at + 3) → Onward s x p k n r
+    → ReadingBehind s (x .state) p k (x .at + 3) n t → b ≡ isKind k (vol 1) → r ≡ onTurn (x .at + 3 + n) (x .item + 1) t b (x .at + 3) → Onward s x p k n r
 onward-made s x p k n t b r h e q =
     subst (Onward s x p k n) (sym q) (record { on = refl; at = refl; item = refl; named = e; label = refl; behind = h })
 
@@ -297,7 +297,7 @@ sized-of p l f n d o =
     (λ e _. eqb-true (length l) 80 e) (λ _ h. absurd (false≢true (sym o ∙ h))))
 
 pub sized-block : (s : List ℕ) (x : Spot) (n : ℕ) (k : Kind) → BlockHere s x n
-    → k ≡ kindIn (x .state .phase) (block (take (x .at + 3 + n - (x .at + 3)) (drop (x .at + 3) s))) → Sized k n
+    → k ≡ kindIn (x .state .phase) (block (take (x .at + 3 + n - (x .at + 3)) (drop (x .at + 3) s))) → LabelSized k n
 unfolding isKind
 sized-block s x n k h e =
     let l : List ℕ = take (x .at + 3 + n - (x .at + 3)) (drop (x .at + 3) s) in
@@ -430,7 +430,7 @@ pub ruleset items = (owes-end, owes-early, kind-label, kind-data, sized-block, o
 
 -- ---- data blocks in a row
 
-pub inside : (s : List ℕ) (x : Spot) → Bounded s (x .at) (x .item) (x .state) → Inside s (x .at) (x .item) (x .state .count)
+pub inside : (s : List ℕ) (x : Spot) → Bounded s (x .at) (x .item) (x .state) → PlaceInside s (x .at) (x .item) (x .state .count)
 inside s x b = record { short = b .short; within = b .within; items = b .items; blocks = b .blocks }
 
 -- past data blocks the verdict is the same
@@ -479,7 +479,7 @@ pub ruleset pasts = (inside, past-data, past-none, needs)
 -- ---- the whole walk
 
 pub begun : (s : List ℕ) → 5 ≤ length s → length s ≤ mostImage
-    → Begun s []
+    → FirstSpot s []
     (record {
       at = 5;
       state = record { first = length s; second = length s; count = 0; pending = 0; files = 0; phase = Reel; ongoing = false };
@@ -495,12 +495,12 @@ begun s a b =
       bounded = record { short = b; within = a; items = omega arith; files = omega arith; blocks = omega arith };
     }
 
-pub walked-none : (s names : List ℕ) (x : Spot) → Begun s [] x → length names ≡ 16 → Walked s names 0 x
+pub walked-none : (s names : List ℕ) (x : Spot) → FirstSpot s [] x → length names ≡ 16 → Walked s names 0 x
 walked-none s names x b e = record { begun = b; few = omega arith; kept = e }
 
 -- a turn that goes on leads to a spot from which the verdict is the same
-begun-after : (s names : List ℕ) (x y : Spot) (t : Turn) → Begun s names x → Past s x y → Owes s names (y .at) (toldAt s names y) t → t .on ≡ true
-    → Begun s (placesAfter names t) (t .spot)
+begun-after : (s names : List ℕ) (x y : Spot) (t : Turn) → FirstSpot s names x → Past s x y → Owes s names (y .at) (toldAt s names y) t → t .on ≡ true
+    → FirstSpot s (placesAfter names t) (t .spot)
 unfolding toldAfter
 begun-after s names x y t b p o h = record { same = sym (if-true _ _ _ h) ∙ o .same ∙ p .same names ∙ b .same; bounded = o .bounded }
 
@@ -509,7 +509,7 @@ pub walk-on : (s names : List ℕ) (reels : ℕ) (x y : Spot) (t : Turn) → Wal
 unfolding placesAfter
 walk-on s names reels x y t w p o h n =
     record {
-      begun = subst (λ (l : List ℕ). Begun s l (t .spot)) (if-false _ _ _ n) (begun-after s (take reels names) x y t (w .begun) p o h);
+      begun = subst (λ (l : List ℕ). FirstSpot s l (t .spot)) (if-false _ _ _ n) (begun-after s (take reels names) x y t (w .begun) p o h);
       few = w .few;
       kept = w .kept;
     }
@@ -532,7 +532,7 @@ walk-named s names reels x y t w p o h n =
     let places : take (reels + 1) (set names reels (t .label)) ≡ take reels names ++ (t .label ∷ [])
     = ap (λ (m : ℕ). take m (set names reels (t .label))) (add-one reels) ∙ take-suc-set names reels (t .label) (omega (arith, w .kept)) in
     record {
-      begun = subst (λ (l : List ℕ). Begun s l (t .spot)) (if-true _ _ _ n ∙ sym places) (begun-after s (take reels names) x y t (w .begun) p o h);
+      begun = subst (λ (l : List ℕ). FirstSpot s l (t .spot)) (if-true _ _ _ n ∙ sym places) (begun-after s (take reels names) x y t (w .begun) p o h);
       few = omega arith;
       kept = length-set names reels (t .label) ∙ w .kept;
     }
@@ -542,7 +542,7 @@ pub walk-falls : (s names : List ℕ) (reels : ℕ) (x y : Spot) (t : Turn) → 
 walk-falls s names reels x y t p o h = omega (arith, p .onward, o .onward h, o .bounded .within)
 
 pub walk-framed : (s names : List ℕ) (reels : ℕ) (x y : Spot) (t : Turn) → Walked s names reels x
-    → Owes s (take reels names) (y .at) (toldAt s (take reels names) y) t → Framed s (t .spot .at) (t .spot .item) (length (take reels names))
+    → Owes s (take reels names) (y .at) (toldAt s (take reels names) y) t → FrameHere s (t .spot .at) (t .spot .item) (length (take reels names))
 walk-framed s names reels x y t w o =
     let b : Bounded s (t .spot .at) (t .spot .item) (t .spot .state) = o .bounded in
     record { short = b .short; within = b .within; items = b .items; few = omega (arith, length-take-le reels names (omega (arith, w .few, w .kept)), w .few) }

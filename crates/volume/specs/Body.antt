@@ -43,7 +43,7 @@ unfoldable pub toldBetween : List ℕ → State → Between → Verdict
 toldBetween s t b = toldFrom (b .item) (body t (b .count) (b .pending)) (decode (drop (b .at) s))
 
 -- a place of an image that is not too long; each item before it took a byte or more, and each block is an item
-pub record Inside (s : List ℕ) (at item count : ℕ) : Type 0 where
+pub record PlaceInside (s : List ℕ) (at item count : ℕ) : Type 0 where
   pub short : length s ≤ mostImage
   pub within : at ≤ length s
   pub items : item ≤ at
@@ -54,4 +54,4 @@ pub record Skipped (s : List ℕ) (h : Lengths) (a b : Between) : Type 0 where
   pub same : (t : State) → Given h (t .second) → toldBetween s t a ≡ toldBetween s t b
   pub onward : a .at ≤ b .at
   pub passed : a .item ≤ b .item
-  pub inside : Inside s (b .at) (b .item) (b .count)
+  pub inside : PlaceInside s (b .at) (b .item) (b .count)

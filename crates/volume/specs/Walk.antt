@@ -71,7 +71,7 @@ unfoldable pub toldAfter : List ℕ → List ℕ → Turn → Verdict
 toldAfter s names r = ifB (r .on) (toldAt s (placesAfter names r) (r .spot)) (toldEnd s names (r .spot) (r .fault))
 
 -- a place of an image that is not too long, behind few reels: each item before it took a byte or more
-pub record Framed (s : List ℕ) (at item reels : ℕ) : Type 0 where
+pub record FrameHere (s : List ℕ) (at item reels : ℕ) : Type 0 where
   pub short : length s ≤ mostImage
   pub within : at ≤ length s
   pub items : item ≤ at
@@ -91,13 +91,13 @@ pub record Small (x : Reading) : Type 0 where
   pub blocks : x .count < 4294967295
 
 -- a label of a kind that is kept by its place has 80 bytes
-pub record Sized (k : Kind) (len : ℕ) : Type 0 where
+pub record LabelSized (k : Kind) (len : ℕ) : Type 0 where
   pub volume : isKind k (vol 1) ≡ true → len ≡ 80
   pub first : isKind k (hdr 1) ≡ true → len ≡ 80
   pub second : isKind k (hdr 2) ≡ true → len ≡ 80
 
 -- a reading behind an item of kind k at `start`, whatever volume labels were read before it, and its counts, each of at most one more
-pub record Behind (s : List ℕ) (x : Reading) (p : Phase) (k : Kind) (start len : ℕ) (r : Reading) : Type 0 where
+pub record ReadingBehind (s : List ℕ) (x : Reading) (p : Phase) (k : Kind) (start len : ℕ) (r : Reading) : Type 0 where
   pub same : (names : List ℕ)
       → contents s (ifB (isKind k (vol 1)) (names ++ (start ∷ [])) names) r ≡ stateAfter (contents s names x) p k (part start len s)
   pub files : r .files ≤ x .files + 1
@@ -118,7 +118,7 @@ pub record Onward (s : List ℕ) (x : Spot) (p : Phase) (k : Kind) (n : ℕ) (r 
   pub item : r .spot .item ≡ x .item + 1
   pub named : r .named ≡ isKind k (vol 1)
   pub label : r .label ≡ x .at + 3
-  pub behind : Behind s (x .state) p k (x .at + 3) n (r .spot .state)
+  pub behind : ReadingBehind s (x .state) p k (x .at + 3) n (r .spot .state)
 
 -- a block of n bytes stands at a spot
 pub record BlockHere (s : List ℕ) (x : Spot) (n : ℕ) : Type 0 where
@@ -182,12 +182,12 @@ pub record Past (s : List ℕ) (x y : Spot) : Type 0 where
   pub bounded : Bounded s (y .at) (y .item) (y .state)
 
 -- a spot from which the verdict is that from the first item on
-pub record Begun (s names : List ℕ) (x : Spot) : Type 0 where
+pub record FirstSpot (s names : List ℕ) (x : Spot) : Type 0 where
   pub same : toldAt s names x ≡ toldFrom 0 start (items s)
   pub bounded : Bounded s (x .at) (x .item) (x .state)
 
 -- the same behind the first `reels` of sixteen places
 pub record Walked (s names : List ℕ) (reels : ℕ) (x : Spot) : Type 0 where
-  pub begun : Begun s (take reels names) x
+  pub begun : FirstSpot s (take reels names) x
   pub few : reels ≤ mostReels
   pub kept : length names ≡ mostReels

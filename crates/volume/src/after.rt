@@ -7,7 +7,7 @@ ghost use Rattle.base.specs.Part.{part};
 ghost use Rattle.order.specs.Kind.{hdr, eov, eof, dataBlock, isKind};
 ghost use Rattle.volume.specs.Fault.{outcomeIn};
 ghost use Rattle.volume.specs.Place.{labelAt};
-ghost use Rattle.volume.specs.Walk.{Sized, Small, Behind};
+ghost use Rattle.volume.specs.Walk.{LabelSized, Small, ReadingBehind};
 use crate::Reading;
 use crate::fault::outcome_in;
 use base::part_of;
@@ -101,9 +101,9 @@ pub(crate) fn reading_after(
     start: usize,
     len: usize,
 ) -> Reading
-    requires { ⌜ Sized k len ⌝ }
+    requires { ⌜ LabelSized k len ⌝ }
     requires { ⌜ Small st ⌝ }
-    ensures { λ r. ⌜ Behind (now (image .entry)) st p k start len r ⌝ }
+    ensures { λ r. ⌜ ReadingBehind (now (image .entry)) st p k start len r ⌝ }
 {
     Reading {
         first: header_after(st.first, k, 1, start),

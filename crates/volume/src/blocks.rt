@@ -1,7 +1,7 @@
 // Data blocks passed in a row: numbers only, since an image may hold millions of them. It knows of a section the lengths that its HDR2 gives.
 ghost use mathlib.Core.Path.{_≡_};
 ghost use Rattle.block.specs.Turn.{blockOutcome};
-ghost use Rattle.volume.specs.Body.{Inside, Skipped};
+ghost use Rattle.volume.specs.Body.{PlaceInside, Skipped};
 use base::SEGMENTED;
 use base::VARIABLE;
 use block::Outcome;
@@ -48,7 +48,7 @@ fn outcome_of(h: Lengths, pending: usize, s: &[u8]) -> Outcome
 
 // The place behind all the blocks from here on that have no fault.
 pub(crate) fn past_blocks(image: &[u8], h: Lengths, from: Between) -> Between
-    requires { ⌜ Inside (now image) (from .at) (from .item) (from .count) ⌝ }
+    requires { ⌜ PlaceInside (now image) (from .at) (from .item) (from .count) ⌝ }
     ensures { λ r. ⌜ Skipped (now (image .entry)) h from r ⌝ }
 {
     let mut at = from.at;

@@ -4,7 +4,7 @@ ghost use Rattle.order.specs.Kind.{kind};
 ghost use Rattle.order.specs.Due.{dueAfter};
 ghost use Rattle.volume.specs.Step.{isDue};
 ghost use Rattle.volume.specs.Told.{isInside, endedIn, closedIn};
-ghost use Rattle.volume.specs.Walk.{frame, framedElse, Framed};
+ghost use Rattle.volume.specs.Walk.{frame, framedElse, FrameHere};
 use base::Verdict;
 use image::Frame;
 use image::framing_from;
@@ -72,7 +72,7 @@ pub(crate) fn framed_or(
     reels: usize,
     v: Verdict,
 ) -> Verdict
-    requires { ⌜ Framed (now image) at item reels ⌝ }
+    requires { ⌜ FrameHere (now image) at item reels ⌝ }
     ensures { λ r. ⌜ r ≡ framedElse (now (image .entry)) at item phase reels v ⌝ }
 {
     let f = framing_from(image, frame_at(at, item, phase, reels));

@@ -10,7 +10,7 @@ ghost use Rattle.volume.specs.State.{start as begin};
 ghost use Rattle.volume.specs.Step.{kindIn};
 ghost use Rattle.volume.specs.Told.{toldFrom};
 ghost use Rattle.volume.specs.Body.{Given};
-ghost use Rattle.volume.specs.Walk.{toldAt, toldBy, toldDue, toldEnd, lastTurn, onTurn, bareTurn, inPhase, BlockHere, BareHere, Begun, Past, Framed, Bounded, Sized, Onward, Owes};
+ghost use Rattle.volume.specs.Walk.{toldAt, toldBy, toldDue, toldEnd, lastTurn, onTurn, bareTurn, inPhase, BlockHere, BareHere, FirstSpot, Past, FrameHere, Bounded, LabelSized, Onward, Owes};
 use crate::Reading;
 use crate::after::reading_after;
 use crate::blocks::Between;
@@ -84,7 +84,7 @@ fn on(at: usize, item: u32, state: Reading, named: bool, label: usize) -> Turn
 
 // A turn that goes on past a block of n bytes, which is of kind k and has no fault.
 fn go_on(image: &[u8], x: Spot, p: Phase, k: Kind, n: usize) -> Turn
-    requires { ⌜ Sized k n ⌝ }
+    requires { ⌜ LabelSized k n ⌝ }
     requires { ⌜ BlockHere (now image) x n ⌝ }
     ensures { λ r. ⌜ Onward (now (image .entry)) x p k n r ⌝ }
 {
@@ -103,7 +103,7 @@ fn go_on(image: &[u8], x: Spot, p: Phase, k: Kind, n: usize) -> Turn
 
 // The turn of a block of n bytes that is due, with phase p behind it: past it, or its fault.
 fn judge(image: &[u8], names: &[usize], x: Spot, p: Phase, k: Kind, n: usize) -> Turn
-    requires { ⌜ Sized k n ⌝ }
+    requires { ⌜ LabelSized k n ⌝ }
     requires { ⌜ BlockHere (now image) x n ⌝ }
     ensures { λ r. ⌜ Owes (now (image .entry)) (now (names .entry)) (x .at) (toldDue (now (image .entry)) (now (names .entry)) x p k (part (x .at + 3) n (now (image .entry))) (x .at + 3 + n)) r ⌝ }
 {
@@ -119,7 +119,7 @@ fn judge(image: &[u8], names: &[usize], x: Spot, p: Phase, k: Kind, n: usize) ->
 
 // The turn of a block of n bytes and of kind k: 3 where it is not due.
 fn order_turn(image: &[u8], names: &[usize], x: Spot, k: Kind, n: usize) -> Turn
-    requires { ⌜ Sized k n ⌝ }
+    requires { ⌜ LabelSized k n ⌝ }
     requires { ⌜ BlockHere (now image) x n ⌝ }
     ensures { λ r. ⌜ Owes (now (image .entry)) (now (names .entry)) (x .at) (toldBy (now (image .entry)) (now (names .entry)) x k (part (x .at + 3) n (now (image .entry))) (x .at + 3 + n)) r ⌝ }
 {
@@ -300,7 +300,7 @@ fn past(image: &[u8], x: Spot) -> Spot
 fn first_spot(image: &[u8]) -> Spot
     requires { ⌜ 5 ≤ length (now image) ⌝ }
     requires { ⌜ length (now image) ≤ mostImage ⌝ }
-    ensures { λ r. ⌜ Begun (now (image .entry)) [] r ⌝ }
+    ensures { λ r. ⌜ FirstSpot (now (image .entry)) [] r ⌝ }
 {
     Spot {
         at: 5,
@@ -319,7 +319,7 @@ fn first_spot(image: &[u8]) -> Spot
 
 // The verdict where a walk ends: that of the fault, or of the framing from there on.
 fn ended(image: &[u8], names: &[usize], x: Spot, f: Fault) -> Verdict
-    requires { ⌜ Framed (now image) (x .at) (x .item) (length (now names)) ⌝ }
+    requires { ⌜ FrameHere (now image) (x .at) (x .item) (length (now names)) ⌝ }
     ensures { λ r. ⌜ r ≡ toldEnd (now (image .entry)) (now (names .entry)) x f ⌝ }
 {
     if f.number == 0 {

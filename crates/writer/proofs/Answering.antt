@@ -30,7 +30,7 @@ use Rattle.writing.proofs.Packing.{by-test}
 use Rattle.writing.proofs.Units.{both}
 use Rattle.writer.specs.declared.pen.Pen.{Pen}
 use Rattle.writer.specs.declared.set.Place.{Place}
-use Rattle.writer.specs.Pass.{overLong, reelsFrom, reelsAt, inked, behind, inkedAt, Outcome, outcome, laidFrom, imaged, imageFrom}
+use Rattle.writer.specs.Pass.{overLong, reelsFrom, reelsAt, inked, behind, inkedAt, PassEnd, outcome, laidFrom, imaged, imageFrom}
 use Rattle.writer.specs.Sets.{Origin, originOf, Task, task, taskOf, Sheeted, meaningAt, Writable, setLaid, SetReady, sheetAt, Ordered}
 use Rattle.writer.proofs.Files.{laid-short}
 use Rattle.writer.proofs.LabelParts.{set-in, names-in}
@@ -62,7 +62,7 @@ image-out o l xs e = ap (λ (k : Laid). imageFrom true o k .out) e
 last-short : (lay : Bool) (r : Pen) (q : List ℕ) → laidFrom lay r q (laid []) .short ≡ r .short
 unfolding laidFrom outcome inked
 last-short lay r q =
-    by-test (r .short) (λ s. ap (λ (w : Outcome). w .short) (laid-short lay r q (laid []) s) ∙ sym s)
+    by-test (r .short) (λ s. ap (λ (w : PassEnd). w .short) (laid-short lay r q (laid []) s) ∙ sym s)
     (λ s. ap (λ k. outcome lay false (r .at) 0 q k .short) (if-false _ _ _ s) ∙ sym s)
 
 last-end : (lay : Bool) (r : Pen) (q : List ℕ) → r .short ≡ false → laidFrom lay r q (laid []) .end ≡ r .at + 0
@@ -75,14 +75,14 @@ last-out r q s = ap (λ k. outcome true false (r .at) 0 q k .out) (if-false _ _ 
 
 module _ (l : Laid) (o q : List ℕ) (r : Pen) (lay : Bool) (m : Sheeted lay l o q r) where
   ends-short : r .short ≡ imageFrom lay o l .short
-  ends-short = sym (last-short lay r q) ∙ ap (λ (w : Outcome). w .short) (m .same)
+  ends-short = sym (last-short lay r q) ∙ ap (λ (w : PassEnd). w .short) (m .same)
 
   -- where no reel is lacking there are items, and the pass ends behind them
   by-items : {A : Type 0} → r .short ≡ false → ((xs : List Item) → l ≡ laid xs → r .at ≡ length (head ++ encode xs) → A) → A
   by-items e f =
       laid-by l
       (λ xs h.
-      let end : r .at + 0 ≡ 0 + length (head ++ encode xs) = sym (last-end lay r q e) ∙ ap (λ (w : Outcome). w .end) (m .same) ∙ image-end lay o l xs h in
+      let end : r .at + 0 ≡ 0 + length (head ++ encode xs) = sym (last-end lay r q e) ∙ ap (λ (w : PassEnd). w .end) (m .same) ∙ image-end lay o l xs h in
       f xs h (omega arith))
       (λ h. absurd (false≢true (sym e ∙ ends-short ∙ image-short lay o l h)))
 
@@ -164,7 +164,7 @@ module _ (t : Task) (g : Place) (o q : List ℕ) (r : Pen) (m : Sheeted false (s
               out =
                   sym (put-none v (u .at))
                   ∙ sym (last-out u v gone)
-                  ∙ ap (λ (x : Outcome). x .out) (w .same)
+                  ∙ ap (λ (x : PassEnd). x .out) (w .same)
                   ∙ image-out q (setLaid t g) xs z
                   ∙ ap (λ (x : List ℕ). putAt x 0 (head ++ encode xs)) measured-same
                   ∙ ap (λ (k : ℕ). (head ++ encode xs) ++ drop k o) none;

@@ -6,11 +6,11 @@ use Prim.Native.Nat.{ℕ, _+_, _≤_}
 use borrow.Author.Needs.{needs}
 use lib.ListN.{length}
 use Rattle.base.specs.If.{ifB, if-true, if-false}
-use Rattle.writing.specs.Pack.{Left, going, enters, fill, after, blocksLeft, Room}
-use Rattle.writing.specs.Lay.{Next}
+use Rattle.writing.specs.Pack.{Left, going, enters, fill, after, blocksLeft, RoomEach}
+use Rattle.writing.specs.Lay.{Sequel}
 use Rattle.writing.proofs.Packing.{by-test, blocks-going}
 use Rattle.writer.specs.declared.pen.Pen.{Pen}
-use Rattle.writer.specs.Pass.{Job, inkAt, inked, Outcome, outcome, restOf, ends, Fits, Sound, Due, between, fillOf, afterOf, fillDue, leftDue, penned}
+use Rattle.writer.specs.Pass.{Job, inkAt, inked, PassEnd, outcome, restOf, ends, EndsWithin, Sound, UnitDue, between, fillOf, afterOf, fillDue, leftDue, penned}
 use Rattle.writer.specs.Pens.{Ready, Opens}
 use Rattle.writer.specs.Packs.{entersOn, Wanting, Blocked, more}
 use Rattle.writer.proofs.Passes.{outcome-unit, fits-unit}
@@ -19,7 +19,7 @@ use Rattle.writer.proofs.Dues.{fill-full, after-full}
 
 -- ---- a pen in an open block
 
-pub penned-on : (lay : Bool) (f b : ℕ) (j : Job) (p : Pen) (o : List ℕ) (d : Due) (next : Next) → p .on ≡ true → p .short ≡ false
+pub penned-on : (lay : Bool) (f b : ℕ) (j : Job) (p : Pen) (o : List ℕ) (d : UnitDue) (next : Sequel) → p .on ≡ true → p .short ≡ false
     → penned lay f b j p o d next
     ≡ outcome lay true (p .at) (p .used) o (inked (p .used) (fillDue f b true (p .used) d) (restOf j p (blocksLeft f b (leftDue f b true (p .used) d)) next))
 unfolding penned
@@ -27,18 +27,18 @@ penned-on lay f b j p o d next h s =
     ap (λ (t : Bool). ends lay j p o (fillDue f b t (p .used) d) (blocksLeft f b (leftDue f b t (p .used) d)) next) h
     ∙ ends-given lay j p o (fillDue f b true (p .used) d) (blocksLeft f b (leftDue f b true (p .used) d)) next true s h
 
-pub penned-short : (lay : Bool) (f b : ℕ) (j : Job) (p : Pen) (o : List ℕ) (d : Due) (next : Next) → p .short ≡ true
+pub penned-short : (lay : Bool) (f b : ℕ) (j : Job) (p : Pen) (o : List ℕ) (d : UnitDue) (next : Sequel) → p .short ≡ true
     → penned lay f b j p o d next ≡ record { out = []; end = 0; short = true }
 unfolding penned
 penned-short lay f b j p o d next s = ends-short lay j p o _ _ next s
 
 -- bytes v into the open block, after which e is due
-module _ (f b : ℕ) (j : Job) (p : Pen) (o v : List ℕ) (d e : Due) (next : Next) (h : p .on ≡ true) (s : p .short ≡ false)
+module _ (f b : ℕ) (j : Job) (p : Pen) (o v : List ℕ) (d e : UnitDue) (next : Sequel) (h : p .on ≡ true) (s : p .short ≡ false)
     (x : fillDue f b true (p .used) d ≡ v ++ fillDue f b true (p .used + length v) e) where
-  pub room-unit : Fits (penned true f b j p o d next) (length o) → p .at + 3 + p .used + length v ≤ length o
+  pub room-unit : EndsWithin (penned true f b j p o d next) (length o) → p .at + 3 + p .used + length v ≤ length o
   room-unit w =
       fits-unit true (p .at) (p .used) o v (fillDue f b true (p .used + length v) e) _ (length o)
-      (subst (λ (u : Outcome). Fits u (length o))
+      (subst (λ (u : PassEnd). EndsWithin u (length o))
       (penned-on true f b j p o d next h s
       ∙ ap (λ (cs : List ℕ). outcome true true (p .at) (p .used) o (inked (p .used) cs (restOf j p (blocksLeft f b (leftDue f b true (p .used) d)) next))) x) w)
       .0
@@ -89,8 +89,8 @@ unfolding entersOn
 full-on f b isOn u n h e = sym (if-true _ _ _ e) ∙ h
 
 -- a record that does not enter is due in the next block
-penned-full : (lay : Bool) (f b : ℕ) (j : Job) (p : Pen) (o : List ℕ) (t : ℕ) (x : List ℕ) (xs : List (List ℕ)) (next : Next)
-    → (p .on ≡ true → enters f b (p .used) (length x) ≡ false) → Room f b (x ∷ xs)
+penned-full : (lay : Bool) (f b : ℕ) (j : Job) (p : Pen) (o : List ℕ) (t : ℕ) (x : List ℕ) (xs : List (List ℕ)) (next : Sequel)
+    → (p .on ≡ true → enters f b (p .used) (length x) ≡ false) → RoomEach f b (x ∷ xs)
     → penned lay f b j p o (between (going t x xs)) next ≡ ends lay j p o [] (fill f b 0 t x xs ∷ blocksLeft f b (after f b 0 t x xs)) next
 unfolding penned fillDue leftDue fillOf afterOf
 penned-full lay f b j p o t x xs next h r =
@@ -102,7 +102,7 @@ penned-full lay f b j p o t x xs next h r =
     ∙ ap (λ (l : Left). ends lay j p o [] (blocksLeft f b l) next) all
     ∙ ap (λ (bs : List (List ℕ)). ends lay j p o [] bs next) (blocks-going f b t x xs r)
 
-penned-empty : (lay : Bool) (f b : ℕ) (j : Job) (p : Pen) (o : List ℕ) (t : ℕ) (x : List ℕ) (xs : List (List ℕ)) (next : Next) → p .on ≡ true → p .used ≡ 0
+penned-empty : (lay : Bool) (f b : ℕ) (j : Job) (p : Pen) (o : List ℕ) (t : ℕ) (x : List ℕ) (xs : List (List ℕ)) (next : Sequel) → p .on ≡ true → p .used ≡ 0
     → penned lay f b j p o (between (going t x xs)) next ≡ ends lay j p o (fill f b 0 t x xs) (blocksLeft f b (after f b 0 t x xs)) next
 unfolding penned fillDue leftDue fillOf afterOf ifB
 penned-empty lay f b j p o t x xs next h e =
@@ -142,7 +142,7 @@ module _ (lay : Bool) (f b : ℕ) (j : Job) (n : ℕ) (p : Pen) (o : List ℕ) (
                 later = blocksLeft f b (after f b 0 (a .begun) (a .first) (a .later));
                 next = a .next;
                 fits =
-                    subst (λ (u : Outcome). Fits u (length o))
+                    subst (λ (u : PassEnd). EndsWithin u (length o))
                     (penned-full true f b j p o (a .begun) (a .first) (a .later) (a .next) (full (a .first) (a .size)) (enough (a .first) (a .size), a .room)) (a .fits);
               };
         }

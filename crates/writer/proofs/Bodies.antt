@@ -13,16 +13,16 @@ use Rattle.base.specs.Part.{part}
 use Rattle.base.proofs.Parts.{length-part}
 use Rattle.content.specs.declared.measuring.Measured.the-variants.{Split}
 use Rattle.content.proofs.Records.{split-long}
-use Rattle.writing.specs.Pack.{Left, finished, going, startOf, enters, Room}
-use Rattle.writing.specs.Lay.{Next}
+use Rattle.writing.specs.Pack.{Left, finished, going, startOf, enters, RoomEach}
+use Rattle.writing.specs.Lay.{Sequel}
 use Rattle.writing.proofs.Packing.{by-test}
 use Rattle.writer.specs.declared.pen.Pen.{Pen}
 use Rattle.writer.specs.declared.source.Cursor.{Cursor}
 use Rattle.writer.specs.declared.source.Found.{Found}
 use Rattle.writer.specs.declared.record.Quick.{Quick}
-use Rattle.writer.specs.Pass.{Job, Outcome, Fits, between, penned}
-use Rattle.writer.specs.Source.{walkOf, movedTo, recordsOf, endAt, stopOf, Good, splitBytes, SplitHere, foundBytes, Finds}
-use Rattle.writer.specs.Records.{Behind, Wholable, Wholed, Recordable, Splittable, Recorded, Somewhere, QuickBlock}
+use Rattle.writer.specs.Pass.{Job, PassEnd, EndsWithin, between, penned}
+use Rattle.writer.specs.Source.{walkOf, movedTo, recordsOf, endAt, stopOf, GoodCursor, splitBytes, SplitHere, foundBytes, Finds}
+use Rattle.writer.specs.Records.{RoomBehind, Wholable, Wholed, Recordable, Splittable, Recorded, Somewhere, QuickBlock}
 use Rattle.writer.specs.Bodies.{Takable, Bodied, BodyPut}
 use Rattle.writer.proofs.Blocks.{penned-short}
 use Rattle.writer.proofs.Records.{record-somewhere, record-wholable, record-whole, record-kept, record-again, record-slow}
@@ -50,7 +50,7 @@ module _ (lay : Bool) (f b : ℕ) (j : Job) (bytes : List ℕ) (c : Cursor) (r :
         most = k .most;
         split = k .split e;
         enough = k .enough;
-        ahead = λ l. subst (λ (x : List ℕ). Behind f b j x p o) (found-split bytes c r e) (k .ahead l);
+        ahead = λ l. subst (λ (x : List ℕ). RoomBehind f b j x p o) (found-split bytes c r e) (k .ahead l);
       }
 
   pub took-split : (q : List ℕ) (v : Pen) → r .kind ≡ 2 → Recorded lay f b j (splitBytes bytes c) p o q v → Recorded lay f b j (foundBytes bytes c r) p o q v
@@ -64,7 +64,7 @@ module _ (lay : Bool) (f b : ℕ) (j : Job) (bytes : List ℕ) (c : Cursor) (r :
         most = k .most;
         inside = k .inside e;
         enough = k .enough;
-        ahead = λ l. subst (λ (x : List ℕ). Behind f b j x p o) (found-whole bytes c r e) (k .ahead l);
+        ahead = λ l. subst (λ (x : List ℕ). RoomBehind f b j x p o) (found-whole bytes c r e) (k .ahead l);
       }
 
   module _ (e : r .kind ≡ 2 → ⊥) where
@@ -107,7 +107,7 @@ pub record Writing (lay : Bool) (f b : ℕ) (j : Job) (lengths bytes : List ℕ)
   pub kept : length q ≡ length o
   pub untouched : lay ≡ false → q ≡ o
   pub end : endAt lengths bytes c ≡ endAt lengths bytes first
-  pub same : (next : Next) → penned lay f b j r q (between (startOf (recordsOf lengths bytes c))) next
+  pub same : (next : Sequel) → penned lay f b j r q (between (startOf (recordsOf lengths bytes c))) next
       ≡ penned lay f b j p o (between (startOf (recordsOf lengths bytes first))) next
 
 pub writing-none : (lay : Bool) (f b : ℕ) (j : Job) (lengths bytes : List ℕ) (first : Cursor) (p : Pen) (o : List ℕ) → Bodied lay f b j lengths bytes first p o
@@ -119,7 +119,7 @@ module _ (lay : Bool) (f b : ℕ) (j : Job) (lengths bytes : List ℕ) (first : 
   pub writing-kept : length q ≡ length o
   writing-kept = w .kept
 
-  pub writing-good : Good lengths bytes c
+  pub writing-good : GoodCursor lengths bytes c
   writing-good = w .bodied .good
 
   module _ (x : Found) (y : Finds lengths bytes c x) where
@@ -154,8 +154,8 @@ module _ (lay : Bool) (f b : ℕ) (j : Job) (lengths bytes : List ℕ) (first : 
       unfolding startOf
       starts = ap startOf cons
 
-      room : Room f b (one ∷ xs)
-      room = subst (Room f b) cons (w .bodied .room)
+      room : RoomEach f b (one ∷ xs)
+      room = subst (RoomEach f b) cons (w .bodied .room)
 
       size : length one ≡ x .len
       size =
@@ -181,7 +181,7 @@ module _ (lay : Bool) (f b : ℕ) (j : Job) (lengths bytes : List ℕ) (first : 
                   later = xs;
                   next = a .next;
                   room = room .1;
-                  fits = subst (λ (d : Left). Fits (penned true f b j r q (between d) (a .next)) (length q)) starts (a .fits);
+                  fits = subst (λ (d : Left). EndsWithin (penned true f b j r q (between d) (a .next)) (length q)) starts (a .fits);
                 };
           }
 
@@ -192,7 +192,7 @@ module _ (lay : Bool) (f b : ℕ) (j : Job) (lengths bytes : List ℕ) (first : 
         pub writing-put-kept : length z ≡ length o
         writing-put-kept = u .kept ∙ w .kept
 
-        step : (next : Next) → penned lay f b j v z (between (startOf xs)) next ≡ penned lay f b j r q (between (startOf (recordsOf lengths bytes c))) next
+        step : (next : Sequel) → penned lay f b j v z (between (startOf xs)) next ≡ penned lay f b j r q (between (startOf (recordsOf lengths bytes c))) next
         step next = u .same xs next (room .1) ∙ ap (λ (d : Left). penned lay f b j r q (between d) next) (sym starts)
 
         pub writing-more : (d : Cursor) → v .short ≡ false → d ≡ later → Writing lay f b j lengths bytes first p o z v d
@@ -214,8 +214,8 @@ module _ (lay : Bool) (f b : ℕ) (j : Job) (lengths bytes : List ℕ) (first : 
                         record {
                           next = a .next;
                           fits =
-                              subst (Fits (penned true f b j v z (between (startOf xs)) (a .next))) (sym (u .kept))
-                              (subst (λ (t : Outcome). Fits t (length q)) (sym g) (a .fits));
+                              subst (EndsWithin (penned true f b j v z (between (startOf xs)) (a .next))) (sym (u .kept))
+                              (subst (λ (t : PassEnd). EndsWithin t (length q)) (sym g) (a .fits));
                         };
                   };
               kept = writing-put-kept;

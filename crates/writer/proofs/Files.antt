@@ -5,7 +5,7 @@ use mathlib.Core.List.{List, [], _∷_, _++_}
 use Prim.Native.Nat.{ℕ, _+_, _≤_}
 use native.Mathlib.Omega.{arith}
 use borrow.Author.Needs.{needs}
-use mir.Val.{Fits as FitsIn}
+use mir.Val.{EndsWithin as FitsIn}
 use mir.Syntax.{w64}
 use lib.ListN.{length, length-append}
 use Rattle.base.specs.If.{ifB, if-true, if-false, if-same}
@@ -19,12 +19,12 @@ use Rattle.label.specs.Name.{HDR1, HDR2, EOF1, EOF2}
 use Rattle.volume.specs.Fault.{valueOf}
 use Rattle.reading.specs.Legal.{formatFrom, blockLengthFrom}
 use Rattle.writing.specs.Pack.{Left, finished, startOf, blocksLeft, blocksF, weight, blocksOf}
-use Rattle.writing.specs.Lay.{Laid, laid, short, put, headers, fileEnd, Next, rest}
+use Rattle.writing.specs.Lay.{Laid, laid, short, put, headers, fileEnd, Sequel, rest}
 use Rattle.writing.proofs.Packing.{by-test}
 use Rattle.writer.specs.declared.pen.Pen.{Pen}
 use Rattle.writer.specs.declared.source.Cursor.{Cursor}
 use Rattle.writer.specs.declared.body.Body.{Body}
-use Rattle.writer.specs.Pass.{reelsAt, Job, job, entryIn, sequenceIn, setIn, Puts, pairOf, inkAt, lacks, inked, Outcome, behind, inkedAt, outcome, restOf, ends, laidFrom, Fits, Sound, between, fillOf, afterOf, fillDue, leftDue, penned}
+use Rattle.writer.specs.Pass.{reelsAt, Job, job, entryIn, sequenceIn, setIn, Puts, pairOf, inkAt, lacks, inked, PassEnd, behind, inkedAt, outcome, restOf, ends, laidFrom, EndsWithin, Sound, between, fillOf, afterOf, fillDue, leftDue, penned}
 use Rattle.writer.specs.Pens.{Closable, Closes}
 use Rattle.writer.specs.Source.{recordsOf}
 use Rattle.writer.specs.Bodies.{Bodied, BodyPut}
@@ -61,7 +61,7 @@ laid-items lay p r o q ys l n s t e long w room =
     ∙ sym (laid-given lay p o (put ys l) s)
 
 -- items behind an open block have room
-fits-tail : (at u : ℕ) (o : List ℕ) (ys : List Item) (l : Laid) (size : ℕ) → Fits (outcome true true at u o (inked u [] (put ys l))) size
+fits-tail : (at u : ℕ) (o : List ℕ) (ys : List Item) (l : Laid) (size : ℕ) → EndsWithin (outcome true true at u o (inked u [] (put ys l))) size
     → at + 3 + u + length (encode ys) ≤ size
 unfolding outcome inked behind ifB put
 fits-tail at u o ys short size w = absurd (false≢true (sym (w .given)))
@@ -71,10 +71,10 @@ fits-tail at u o ys (laid xs) size w =
     omega arith
 
 -- and have room
-pub laid-room : (p : Pen) (o : List ℕ) (ys : List Item) (l : Laid) (n : ℕ) → p .short ≡ false → length (encode ys) ≡ n → Fits (laidFrom true p o (put ys l)) (length o)
+pub laid-room : (p : Pen) (o : List ℕ) (ys : List Item) (l : Laid) (n : ℕ) → p .short ≡ false → length (encode ys) ≡ n → EndsWithin (laidFrom true p o (put ys l)) (length o)
     → p .at + n ≤ length o
 laid-room p o ys l n s long f =
-    let r = fits-items true (p .at) 0 o ys l (length o) (subst (λ (w : Outcome). Fits w (length o)) (laid-given true p o (put ys l) s) f) in
+    let r = fits-items true (p .at) 0 o ys l (length o) (subst (λ (w : PassEnd). EndsWithin w (length o)) (laid-given true p o (put ys l) s) f) in
     omega (arith, r .0)
 
 -- ---- the numbers of an entry, as the code reads them
@@ -152,7 +152,7 @@ module _ (lay : Bool) (set e : List ℕ) (sequence : ℕ) (p : Pen) (o : List �
       end-kept = ap length h ∙ ink-length lay q (c .at) (encode (fileEnd set e (c .section) sequence (c .count))) trailer-room ∙ x .kept
 
       -- behind the last record the open block is only to be closed, and then the file ends
-      finished-end : (f b : ℕ) (j : Job) (next : Next) → p .short ≡ false
+      finished-end : (f b : ℕ) (j : Job) (next : Sequel) → p .short ≡ false
           → penned lay f b j p o (between finished) next
           ≡ outcome lay false (c .at) (c .used) q (inked (c .used) [] (put (fileEnd (j .set) (j .entry) (c .section) (j .sequence) (c .count)) (next (c .room) (reelsAt (j .rooms) (j .names) (c .next)))))
       unfolding penned fillDue leftDue fillOf afterOf blocksLeft blocksF weight restOf rest
@@ -236,7 +236,7 @@ pub ruleset tails = (tail-short, tail-closable, tail-kept, tail-room, tail-fits,
 -- ---- the whole file
 
 -- behind the last record, all that ends the file has room
-ends-room : (j : Job) (p : Pen) (o : List ℕ) (next : Next) → p .short ≡ false → Fits (ends true j p o [] [] next) (length o)
+ends-room : (j : Job) (p : Pen) (o : List ℕ) (next : Sequel) → p .short ≡ false → EndsWithin (ends true j p o [] [] next) (length o)
     → behind (p .on) (p .at) (p .used) + 172 ≤ length o
 unfolding restOf rest behind ifB
 ends-room j p o next s k =
@@ -245,10 +245,10 @@ ends-room j p o next s k =
     let long : length (encode end) ≡ 172 = length-file-end (j .set) (j .entry) (p .section) (j .sequence) (p .count) in
     by-test (p .on)
     (λ t.
-    let r = fits-tail (p .at) (p .used) o end l (length o) (subst (λ (w : Outcome). Fits w (length o)) (ends-given true j p o [] [] next true s t) k) in
+    let r = fits-tail (p .at) (p .used) o end l (length o) (subst (λ (w : PassEnd). EndsWithin w (length o)) (ends-given true j p o [] [] next true s t) k) in
     omega (arith, if-true (p .on) (p .at + 3 + p .used) (p .at) t))
     (λ t.
-    let r = fits-items true (p .at) (p .used) o end l (length o) (subst (λ (w : Outcome). Fits w (length o)) (ends-given true j p o [] [] next false s t) k) in
+    let r = fits-items true (p .at) (p .used) o end l (length o) (subst (λ (w : PassEnd). EndsWithin w (length o)) (ends-given true j p o [] [] next false s t) k) in
     omega (arith, r .0, if-false (p .on) (p .at + 3 + p .used) (p .at) t))
 
 module _ (lay : Bool) (j : Job) (lengths bytes : List ℕ) (c : Cursor) (p : Pen) (o : List ℕ) (y : FileReady lay j lengths bytes c p o) where
@@ -261,7 +261,7 @@ module _ (lay : Bool) (j : Job) (lengths bytes : List ℕ) (c : Cursor) (p : Pen
   abbrev xs : List (List ℕ)
   xs = recordsOf lengths bytes c
 
-  abbrev blocks : Next → Laid
+  abbrev blocks : Sequel → Laid
   blocks next = rest (j .set) (j .entry) (j .sequence) 1 0 (p .room) (reelsAt (j .rooms) (j .names) (p .next)) (blocksOf f b xs) next
 
   pub file-beginnable : Beginnable lay p (length o)
@@ -276,13 +276,13 @@ module _ (lay : Bool) (j : Job) (lengths bytes : List ℕ) (c : Cursor) (p : Pen
       }
 
   module _ (q : List ℕ) (h : Pen) (z : Begins lay (j .set) (j .entry) (j .sequence) p o q h) where
-    penned-start : (next : Next) → penned lay f b j (begun p) q (between (startOf xs)) next ≡ laidFrom lay (begun p) q (blocks next)
+    penned-start : (next : Sequel) → penned lay f b j (begun p) q (between (startOf xs)) next ≡ laidFrom lay (begun p) q (blocks next)
     unfolding penned fillDue leftDue blocksOf restOf ifB
     penned-start next =
         ends-given lay j (begun p) q [] (blocksLeft f b (startOf xs)) next false refl refl
         ∙ sym (laid-given lay (begun p) q (blocks next) refl)
 
-    begun-same : (next : Next) → penned lay f b j (begun p) q (between (startOf xs)) next ≡ filedFrom lay j p o xs next
+    begun-same : (next : Sequel) → penned lay f b j (begun p) q (between (startOf xs)) next ≡ filedFrom lay j p o xs next
     unfolding filedFrom fileLaid
     begun-same next =
         penned-start next
@@ -320,8 +320,8 @@ module _ (lay : Bool) (j : Job) (lengths bytes : List ℕ) (c : Cursor) (p : Pen
               record {
                 next = a .next;
                 fits =
-                    subst (Fits (penned true f b j (begun p) q (between (startOf xs)) (a .next))) (sym (z .kept))
-                    (subst (λ (w : Outcome). Fits w (length o)) (sym e) (a .fits));
+                    subst (EndsWithin (penned true f b j (begun p) q (between (startOf xs)) (a .next))) (sym (z .kept))
+                    (subst (λ (w : PassEnd). EndsWithin w (length o)) (sym e) (a .fits));
               };
         }
 
@@ -343,7 +343,7 @@ module _ (lay : Bool) (j : Job) (lengths bytes : List ℕ) (c : Cursor) (p : Pen
       file-body u x w = put-of lay n m (j .entry) j lengths bytes c h q format-is long-is u x w
 
     module _ (u : List ℕ) (x : Body) (w : BodyPut lay f b j lengths bytes c h q u x) where
-      body-same : (next : Next) → penned lay f b j (x .pen) u (between finished) next ≡ filedFrom lay j p o xs next
+      body-same : (next : Sequel) → penned lay f b j (x .pen) u (between finished) next ≡ filedFrom lay j p o xs next
       body-same next =
           w .same next
           ∙ ap (λ (v : Pen). penned lay f b j v q (between (startOf xs)) next) (z .is)
@@ -359,13 +359,13 @@ module _ (lay : Bool) (j : Job) (lengths bytes : List ℕ) (c : Cursor) (p : Pen
           let a = y .ahead l in
           let e : penned true f b j (x .pen) u (between finished) (a .next) ≡ filedFrom true j p o xs (a .next)
           = subst (λ (t : Bool). penned t f b j (x .pen) u (between finished) (a .next) ≡ filedFrom t j p o xs (a .next)) l (body-same (a .next)) in
-          let g : Fits (penned true f b j (x .pen) u (between finished) (a .next)) (length u)
-          = subst (Fits (penned true f b j (x .pen) u (between finished) (a .next))) (sym body-kept) (subst (λ (v : Outcome). Fits v (length o)) (sym e) (a .fits)) in
+          let g : EndsWithin (penned true f b j (x .pen) u (between finished) (a .next)) (length u)
+          = subst (EndsWithin (penned true f b j (x .pen) u (between finished) (a .next))) (sym body-kept) (subst (λ (v : PassEnd). EndsWithin v (length o)) (sym e) (a .fits)) in
           let d : ends true j (x .pen) u [] [] (a .next) ≡ penned true f b j (x .pen) u (between finished) (a .next)
           = sym
           (ap (λ (cs : List ℕ). ends true j (x .pen) u cs (blocksLeft f b (ifB (x .pen .on) finished finished)) (a .next)) (if-same (x .pen .on) [])
           ∙ ap (λ (k : Left). ends true j (x .pen) u [] (blocksLeft f b k) (a .next)) (if-same (x .pen .on) finished)) in
-          ends-room j (x .pen) u (a .next) s (subst (λ (v : Outcome). Fits v (length u)) (sym d) g)
+          ends-room j (x .pen) u (a .next) s (subst (λ (v : PassEnd). EndsWithin v (length u)) (sym d) g)
 
       tailable : Tailable lay x (length u)
       tailable =

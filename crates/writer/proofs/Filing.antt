@@ -6,7 +6,7 @@ use Prim.Native.Nat.{ℕ, suc, _+_, _-_, _*_, _≤_, _<_}
 use native.Mathlib.Omega.{arith}
 use native.Mathlib.Numerals.{add-one}
 use borrow.Author.Needs.{needs}
-use mir.Val.{Fits as FitsIn}
+use mir.Val.{EndsWithin as FitsIn}
 use mir.Syntax.{w64}
 use lib.ListN.{length, drop, getD, length-append, drop-of-length-le}
 use Rattle.base.specs.If.{ifB, if-true, if-false}
@@ -19,8 +19,8 @@ use Rattle.label.specs.Made.{madeVolume}
 use Rattle.volume.specs.Meaning.{File, content}
 use Rattle.reading.specs.Legal.{formatFrom, blockLengthFrom, recordLengthFrom, legalFiles}
 use Rattle.sheet.specs.Flat.{inParts, filesFrom}
-use Rattle.writing.specs.Pack.{blocksOf, Room}
-use Rattle.writing.specs.Lay.{Laid, laid, short, put, headers, Next, rest, layFiles, layOn}
+use Rattle.writing.specs.Pack.{blocksOf, RoomEach}
+use Rattle.writing.specs.Lay.{Laid, laid, short, put, headers, Sequel, rest, layFiles, layOn}
 use Rattle.writing.proofs.Packing.{by-test}
 use Rattle.writing.proofs.Packed.{Suited, legal-room}
 use Rattle.writing.proofs.Entry.{legal-first, legal-second, suited}
@@ -29,8 +29,8 @@ use Rattle.writer.specs.declared.pen.Pen.{Pen}
 use Rattle.writer.specs.declared.source.Cursor.{Cursor}
 use Rattle.writer.specs.declared.body.Body.{Body}
 use Rattle.writer.specs.declared.set.Place.{Place}
-use Rattle.writer.specs.Pass.{Puts, reelsAt, Job, job, namesIn, inkAt, inked, behind, inkedAt, Outcome, outcome, laidFrom, imaged, imageFrom, Fits, Between}
-use Rattle.writer.specs.Source.{recordsOf, Good}
+use Rattle.writer.specs.Pass.{Puts, reelsAt, Job, job, namesIn, inkAt, inked, behind, inkedAt, PassEnd, outcome, laidFrom, imaged, imageFrom, EndsWithin, BetweenFiles}
+use Rattle.writer.specs.Source.{recordsOf, GoodCursor}
 use Rattle.writer.specs.Files.{fileLaid, filedFrom, nextFrom, FileReady, FilePut}
 use Rattle.writer.specs.Sets.{Origin, listed, read, totalOf, filesAt, Task, taskOf, PlacedIn, layAt, Filing, Filed, Fileable, OneFiled, AllFiled, Closing, Closed, firstPen, headOf, Sheeted, meaningAt, setLaid, SetReady}
 use Rattle.writer.proofs.Items.{length-first-reel, length-reel-end, puts-kept}
@@ -58,13 +58,13 @@ module _ (t : Task) (g : Place) (entry : List ℕ) (records : List (List ℕ)) (
   suits : Suited (formatFrom entry) (blockLengthFrom entry) (recordLengthFrom entry)
   suits = legal-file (t .set) _ _ legal (λ e r o. suited entry (legal-second (t .set) entry e))
 
-  room : Room (formatFrom entry) (blockLengthFrom entry) records
+  room : RoomEach (formatFrom entry) (blockLengthFrom entry) records
   room = legal-file (t .set) _ _ legal (λ e r o. legal-room _ _ (recordLengthFrom entry) records suits r)
 
   abbrev j : Job
   j = job (t .set) entry (g .nth + 1) (t .rooms) (t .names)
 
-  abbrev following : Next
+  abbrev following : Sequel
   following = λ left reels. layFiles (t .set) (suc (suc (g .nth))) left reels others
 
   -- what is laid from a place on is this file and what follows
@@ -77,7 +77,7 @@ module _ (t : Task) (g : Place) (entry : List ℕ) (records : List (List ℕ)) (
       (add-one (g .nth))
       ∙ ap (λ (ds : List File). laidFrom lay p o (layFiles (t .set) (suc (g .nth)) (p .room) (reelsAt (t .rooms) (t .names) (p .next)) ds)) (sym first)
 
-  module _ (lay : Bool) (d : Cursor) (good : Good (t .lengths) (t .bytes) d) (begun : recordsOf (t .lengths) (t .bytes) d ≡ records) where
+  module _ (lay : Bool) (d : Cursor) (good : GoodCursor (t .lengths) (t .bytes) d) (begun : recordsOf (t .lengths) (t .bytes) d ≡ records) where
     pub file-ready : (p : Pen) (o : List ℕ) → Fileable lay t g p o → FileReady lay j (t .lengths) (t .bytes) d p o
     file-ready p o f =
         record {
@@ -88,14 +88,14 @@ module _ (t : Task) (g : Place) (entry : List ℕ) (records : List (List ℕ)) (
           given = f .enough;
           most = suits .most;
           good = good;
-          room = subst (Room _ _) (sym begun) room;
+          room = subst (RoomEach _ _) (sym begun) room;
           ahead =
               λ l.
               record {
                 next = following;
                 fits =
-                    subst (λ (xs : List (List ℕ)). Fits (filedFrom true j p o xs following) (length o)) (sym begun)
-                    (subst (λ (w : Outcome). Fits w (length o)) (sym (this-file true p o)) (f .fits l));
+                    subst (λ (xs : List (List ℕ)). EndsWithin (filedFrom true j p o xs following) (length o)) (sym begun)
+                    (subst (λ (w : PassEnd). EndsWithin w (length o)) (sym (this-file true p o)) (f .fits l));
               };
         }
 
@@ -121,8 +121,8 @@ module _ (t : Task) (g : Place) (entry : List ℕ) (records : List (List ℕ)) (
                 placed = λ z. placed (same-short z);
                 sound =
                     λ z.
-                    subst (λ (n : ℕ). Between (t .rooms) (t .names) n (v .pen)) (sym next)
-                    (subst (Between (t .rooms) (t .names) (g .nth + 1)) (sym pen) (m .sound (same-short z)));
+                    subst (λ (n : ℕ). BetweenFiles (t .rooms) (t .names) n (v .pen)) (sym next)
+                    (subst (BetweenFiles (t .rooms) (t .names) (g .nth + 1)) (sym pen) (m .sound (same-short z)));
                 kept = m .kept;
                 untouched = m .untouched;
                 enough = λ z. ap (λ (w : Pen). w .short) pen ∙ on z;
@@ -150,14 +150,14 @@ filesOn from bytes g = ifB (g .on) (totalOf from bytes - g .nth) 0
 -- where the loop stands
 pub record Along (lay : Bool) (t : Task) (g : Place) (p : Pen) (o q : List ℕ) (x : Filing) : Type 0 where
   pub filed : Filed lay t g p o q x
-  pub fits : lay ≡ true → Fits (laidFrom true (x .pen) q (layAt t (x .place) (x .pen))) (length q)
+  pub fits : lay ≡ true → EndsWithin (laidFrom true (x .pen) q (layAt t (x .place) (x .pen))) (length q)
 
 fits-on : (lay : Bool) (t : Task) (g : Place) (p : Pen) (o q : List ℕ) (x : Filing) → Filed lay t g p o q x
-    → (lay ≡ true → Fits (laidFrom true p o (layAt t g p)) (length o)) → lay ≡ true → Fits (laidFrom true (x .pen) q (layAt t (x .place) (x .pen))) (length q)
+    → (lay ≡ true → EndsWithin (laidFrom true p o (layAt t g p)) (length o)) → lay ≡ true → EndsWithin (laidFrom true (x .pen) q (layAt t (x .place) (x .pen))) (length q)
 fits-on lay t g p o q x m f l =
     let e : laidFrom true (x .pen) q (layAt t (x .place) (x .pen)) ≡ laidFrom true p o (layAt t g p)
     = subst (λ (b : Bool). laidFrom b (x .pen) q (layAt t (x .place) (x .pen)) ≡ laidFrom b p o (layAt t g p)) l (m .same) in
-    subst (Fits (laidFrom true (x .pen) q (layAt t (x .place) (x .pen)))) (sym (m .kept)) (subst (λ (w : Outcome). Fits w (length o)) (sym e) (f l))
+    subst (EndsWithin (laidFrom true (x .pen) q (layAt t (x .place) (x .pen)))) (sym (m .kept)) (subst (λ (w : PassEnd). EndsWithin w (length o)) (sym e) (f l))
 
 module _ (lay : Bool) (t : Task) (g : Place) (p : Pen) (o : List ℕ) where
   along-none : Fileable lay t g p o → g .on ≡ true → Along lay t g p o o (record { place = g; pen = p })
@@ -311,7 +311,7 @@ head-same false o q name room (laid xs) r e =
     λ i. record { out = e i; end = end i; short = false }
 
 -- and it has room
-head-room : (o name : List ℕ) (l : Laid) → Fits (imageFrom true o (put (block (madeVolume name) ∷ []) l)) (length o) → 88 ≤ length o
+head-room : (o name : List ℕ) (l : Laid) → EndsWithin (imageFrom true o (put (block (madeVolume name) ∷ []) l)) (length o) → 88 ≤ length o
 unfolding imageFrom imaged outcome behind put ifB
 head-room o name short f = absurd (false≢true (sym (f .given)))
 head-room o name (laid xs) f =
@@ -337,7 +337,7 @@ module _ (lay : Bool) (t : Task) (g : Place) (o : List ℕ) (y : SetReady lay t 
       (sym (reels-some (t .rooms) (t .names) 0 (y .writable .reels) (omega (arith, y .writable .one))))
 
   pub set-room : lay ≡ true → 88 ≤ length o
-  set-room l = head-room o name (layAt t g (firstPen first)) (subst (λ (k : Laid). Fits (imageFrom true o k) (length o)) (sym set-is) (y .fits l))
+  set-room l = head-room o name (layAt t g (firstPen first)) (subst (λ (k : Laid). EndsWithin (imageFrom true o k) (length o)) (sym set-is) (y .fits l))
 
   module _ (q : List ℕ) (p : Pen) (e : p ≡ firstPen first) (h : q ≡ inkAt lay o 0 (headOf name)) where
     begun-same : laidFrom lay p q (layAt t g p) ≡ imageFrom lay o (setLaid t g)
@@ -349,7 +349,7 @@ module _ (lay : Bool) (t : Task) (g : Place) (o : List ℕ) (y : SetReady lay t 
     set-kept : length q ≡ length o
     set-kept = head-kept lay o name q set-room h
 
-    first-sound : Between (t .rooms) (t .names) 0 (firstPen first)
+    first-sound : BetweenFiles (t .rooms) (t .names) 0 (firstPen first)
     first-sound =
         let r = y .writable .reels in
         let some : 0 < length (t .rooms) = omega (arith, y .writable .one) in
@@ -371,13 +371,13 @@ module _ (lay : Bool) (t : Task) (g : Place) (o : List ℕ) (y : SetReady lay t 
           placed = y .writable .placed;
           more = y .writable .some;
           sound =
-              subst (λ (n : ℕ). Between (t .rooms) (t .names) n p) (sym (y .writable .first)) (subst (Between (t .rooms) (t .names) 0) (sym e) first-sound);
+              subst (λ (n : ℕ). BetweenFiles (t .rooms) (t .names) n p) (sym (y .writable .first)) (subst (BetweenFiles (t .rooms) (t .names) 0) (sym e) first-sound);
           enough = ap (λ (r : Pen). r .short) e;
           fits =
               λ l.
               let s : laidFrom true p q (layAt t g p) ≡ imageFrom true o (setLaid t g)
               = subst (λ (b : Bool). laidFrom b p q (layAt t g p) ≡ imageFrom b o (setLaid t g)) l begun-same in
-              subst (Fits (laidFrom true p q (layAt t g p))) (sym set-kept) (subst (λ (w : Outcome). Fits w (length o)) (sym s) (y .fits l));
+              subst (EndsWithin (laidFrom true p q (layAt t g p))) (sym set-kept) (subst (λ (w : PassEnd). EndsWithin w (length o)) (sym s) (y .fits l));
         }
 
     module _ (u : List ℕ) (x : Filing) (m : AllFiled lay t g p q u x) where
@@ -407,7 +407,7 @@ module _ (lay : Bool) (t : Task) (g : Place) (o : List ℕ) (y : SetReady lay t 
                 let e : laidFrom true (x .pen) u (laid (mark ∷ reelEnd ∷ [])) ≡ imageFrom true o (setLaid t g)
                 = subst (λ (b : Bool). laidFrom b (x .pen) u (laid (mark ∷ reelEnd ∷ [])) ≡ imageFrom b o (setLaid t g)) l last-same in
                 laid-room (x .pen) u (mark ∷ reelEnd ∷ []) (laid []) 6 s length-reel-end
-                (subst (Fits (laidFrom true (x .pen) u (laid (mark ∷ reelEnd ∷ [])))) (sym all-kept) (subst (λ (w : Outcome). Fits w (length o)) (sym e) (y .fits l)));
+                (subst (EndsWithin (laidFrom true (x .pen) u (laid (mark ∷ reelEnd ∷ [])))) (sym all-kept) (subst (λ (w : PassEnd). EndsWithin w (length o)) (sym e) (y .fits l)));
           }
 
       module _ (v : List ℕ) (r : Pen) (z : Closed lay (x .pen) u v r) where

@@ -34,9 +34,9 @@ use Rattle.writer.specs.declared.source.Cursor.{Cursor}
 use Rattle.writer.specs.declared.body.Body.{Body}
 use Rattle.writer.specs.declared.set.Place.{Place}
 use Rattle.writer.specs.Pass.{job}
-use Rattle.writer.specs.Source.{walkOf, recordsOf, endAt, Good}
+use Rattle.writer.specs.Source.{walkOf, recordsOf, endAt, GoodCursor}
 use Rattle.writer.specs.Files.{FileReady, FilePut}
-use Rattle.writer.specs.Sets.{Origin, read, originOf, totalOf, filesAt, Placed, walkAt, passed, followedBy, Task, task, Fileable, OneFiled, sheetAt, Ordered}
+use Rattle.writer.specs.Sets.{Origin, read, originOf, totalOf, filesAt, PlacedAmong, walkAt, passed, followedBy, Task, task, Fileable, OneFiled, sheetAt, Ordered}
 use Rattle.writer.proofs.Filing.{legal-set, legal-others, file-ready, one-filed}
 
 -- ---- the file at a place
@@ -115,7 +115,7 @@ module _ (lay : Bool) (set lengths bytes rooms names : List ℕ) (g : Place) (p 
     unfolding endAt
     ends = if-true _ _ _ image ∙ ap (λ (x : Cursor). endOf bytes (walkOf x)) n
 
-    good : Good lengths bytes c
+    good : GoodCursor lengths bytes c
     good =
         record {
           order = λ z. absurd (false≢true (sym z ∙ image));
@@ -128,7 +128,7 @@ module _ (lay : Bool) (set lengths bytes rooms names : List ℕ) (g : Place) (p 
 
     module _ (q : List ℕ) (x : Body) (m : FilePut lay (job set entry (g .nth + 1) rooms names) lengths bytes c p o q x) where
       -- a place behind this file
-      placed-on : (f : FileAt) (stop : ℕ) (on : Bool) → (g .nth + 1 < length all → Met bytes (At f) (drop (g .nth + 1) all)) → Placed read set lengths bytes (passed g stop (x .end) f on)
+      placed-on : (f : FileAt) (stop : ℕ) (on : Bool) → (g .nth + 1 < length all → Met bytes (At f) (drop (g .nth + 1) all)) → PlacedAmong read set lengths bytes (passed g stop (x .end) f on)
       unfolding totalOf filesAt
       placed-on f stop on w =
           record {

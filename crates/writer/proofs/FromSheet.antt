@@ -29,9 +29,9 @@ use Rattle.writer.specs.declared.source.Cursor.{Cursor}
 use Rattle.writer.specs.declared.body.Body.{Body}
 use Rattle.writer.specs.declared.set.Place.{Place}
 use Rattle.writer.specs.Pass.{job}
-use Rattle.writer.specs.Source.{lengthsAt, recordsOf, endAt, Good}
+use Rattle.writer.specs.Source.{lengthsAt, recordsOf, endAt, GoodCursor}
 use Rattle.writer.specs.Files.{FileReady, FilePut}
-use Rattle.writer.specs.Sets.{Origin, listed, originOf, totalOf, filesAt, Placed, listedAt, passed, Task, task, Fileable, OneFiled, sheetAt, Ordered}
+use Rattle.writer.specs.Sets.{Origin, listed, originOf, totalOf, filesAt, PlacedAmong, listedAt, passed, Task, task, Fileable, OneFiled, sheetAt, Ordered}
 use Rattle.writer.proofs.Filing.{legal-set, legal-others, file-ready, one-filed, no-counts}
 
 abbrev place : FileAt → ℕ → ℕ → ℕ → Bool → Place
@@ -42,7 +42,7 @@ place f nth first byte on = record { nth = nth; first = first; byte = byte; file
 sum-split : (n : ℕ) (ns : List ℕ) → sum ns ≡ sum (take n ns) + sum (drop n ns)
 sum-split n ns = ap sum (sym (take-append-drop n ns)) ∙ sum-append (take n ns) (drop n ns)
 
-module _ (files counts set lengths bytes rooms names : List ℕ) (g : Place) (y : Placed (listed files counts) set lengths bytes g) (h : g .nth < length counts) where
+module _ (files counts set lengths bytes rooms names : List ℕ) (g : Place) (y : PlacedAmong (listed files counts) set lengths bytes g) (h : g .nth < length counts) where
   abbrev t : Task
   t = task (listed files counts) set lengths bytes rooms names
 
@@ -90,7 +90,7 @@ module _ (files counts set lengths bytes rooms names : List ℕ) (g : Place) (y 
       ∙ ap (λ (s : List ℕ). record { fields = take 46 (drop (46 * g .nth) files); records = records } ∷ filesFrom (inParts 46 (drop (46 * (g .nth + 1)) files)) (drop (g .nth + 1) counts) s (drop (sum (take c (drop (g .first) lengths))) (drop (g .byte) bytes))) (drop-drop c (g .first) lengths)
       ∙ ap (λ (s : List ℕ). record { fields = take 46 (drop (46 * g .nth) files); records = records } ∷ filesFrom (inParts 46 (drop (46 * (g .nth + 1)) files)) (drop (g .nth + 1) counts) (drop (g .first + c) lengths) s) (drop-drop (sum (take c (drop (g .first) lengths))) (g .byte) bytes)
 
-  placed-on : (on : Bool) → Placed (listed files counts) set lengths bytes (onward on)
+  placed-on : (on : Bool) → PlacedAmong (listed files counts) set lengths bytes (onward on)
   unfolding totalOf filesAt
   placed-on on =
       record {
@@ -134,7 +134,7 @@ module _ (files counts set lengths bytes rooms names : List ℕ) (g : Place) (y 
         ∙ ap (λ (ls : List ℕ). d .at + sum ls) lengths-are
         ∙ ap (λ (i : ℕ). i + sum (take c (drop (g .first) lengths))) here
 
-    good : Good lengths bytes d
+    good : GoodCursor lengths bytes d
     good =
         record {
           order = λ _. omega (arith, ap (λ (x : Cursor). x .left) n, ap (λ (x : Cursor). x .stop) n);
@@ -164,7 +164,7 @@ module _ (files counts set lengths bytes rooms names : List ℕ) (g : Place) (y 
         subst (λ (h : Place). OneFiled lay t g p o q (record { place = h; pen = x .pen })) (sym e)
         (one-filed t g entry records _ y files-some lay d good begun p o q x _ m refl refl
         (λ z. ap (filesAt (listed files counts) lengths bytes) (sym (place-is x on (m .end) z)) ∙ files-on on)
-        (λ z. subst (Placed (listed files counts) set lengths bytes) (place-is x on (m .end) z) (placed-on on))
+        (λ z. subst (PlacedAmong (listed files counts) set lengths bytes) (place-is x on (m .end) z) (placed-on on))
         (λ z. by-test (x .pen .short) (λ w. absurd (false≢true (sym (if-true (x .pen .short) false (ltb (g .nth + 1) (length counts)) w) ∙ z))) (λ w. w))
         (λ z.
         by-test (x .pen .short) (λ w. absurd (false≢true (sym (if-true (x .pen .short) false (ltb (g .nth + 1) (length counts)) w) ∙ z)))
@@ -173,7 +173,7 @@ module _ (files counts set lengths bytes rooms names : List ℕ) (g : Place) (y 
 
 -- ---- what number 0 says of a sheet
 
-pub record Facts (x : Flat) : Type 0 where
+pub record SheetFacts (x : Flat) : Type 0 where
   pub few : length (x .files) / 46 ≤ 64
   pub reels : length (x .names) / 6 ≤ 16
   pub entries : length (x .files) ≡ 46 * length (x .counts)
@@ -189,13 +189,13 @@ adds-facts x h k =
     (λ a r. both (eqb (sum (x .counts)) (length (x .lengths))) _
     (λ b r. both (eqb (sum (x .lengths)) (length (x .bytes))) _ (λ d r. k (eqb-true _ _ a) (eqb-true _ _ b) (eqb-true _ _ d)) r) r) h
 
-facts : (x : Flat) → sheetNumber x ≡ 0 → Facts x
+facts : (x : Flat) → sheetNumber x ≡ 0 → SheetFacts x
 unfolding sheetNumber
 facts x =
-    if-case (λ (n : ℕ). n ≡ 0 → Facts x) _ 9 _ (λ _ q. absurd (omega arith))
-    (λ a. if-case (λ (n : ℕ). n ≡ 0 → Facts x) _ 9 _ (λ _ q. absurd (omega arith))
-    (λ b. if-case (λ (n : ℕ). n ≡ 0 → Facts x) (addsUp x) _ 11
-    (λ d. if-case (λ (n : ℕ). n ≡ 0 → Facts x) (legalSheet (sheetOf x)) 0 11
+    if-case (λ (n : ℕ). n ≡ 0 → SheetFacts x) _ 9 _ (λ _ q. absurd (omega arith))
+    (λ a. if-case (λ (n : ℕ). n ≡ 0 → SheetFacts x) _ 9 _ (λ _ q. absurd (omega arith))
+    (λ b. if-case (λ (n : ℕ). n ≡ 0 → SheetFacts x) (addsUp x) _ 11
+    (λ d. if-case (λ (n : ℕ). n ≡ 0 → SheetFacts x) (legalSheet (sheetOf x)) 0 11
     (λ e _. adds-facts x d
     (λ entries records inside. record {
       few = ltb-false _ _ a;
@@ -213,7 +213,7 @@ module _ (set files counts lengths bytes : List ℕ) (quota : ℕ) (names : List
   abbrev x : Flat
   x = flat set files counts lengths bytes quota names
 
-  known : Facts x
+  known : SheetFacts x
   known = facts x zero-number
 
   says : LegalSheet (sheetOf x)
@@ -236,7 +236,7 @@ module _ (set files counts lengths bytes : List ℕ) (quota : ℕ) (names : List
   unfolding filesAt
   all-files = refl
 
-  start-placed : Placed (listed files counts) set lengths bytes start
+  start-placed : PlacedAmong (listed files counts) set lengths bytes start
   unfolding sheetOf totalOf
   start-placed =
       record {

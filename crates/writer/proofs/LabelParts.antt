@@ -18,7 +18,7 @@ use Rattle.writer.specs.declared.body.Body.{Body}
 use Rattle.writer.specs.declared.set.Place.{Place}
 use Rattle.writer.specs.Pass.{Job, job, setIn, namesIn, jobOf}
 use Rattle.writer.specs.Files.{FileReady, FilePut}
-use Rattle.writer.specs.Sets.{Enterable, entryAt, Entered}
+use Rattle.writer.specs.Sets.{Enterable, entryAt, LabelsEntered}
 
 -- ---- the fields of a file, from its labels in an image
 
@@ -53,7 +53,7 @@ fields-made labels bytes i j f s a x b y c z l bi bj ef es ea ex eb ey ec ez =
 
 -- ---- the entry and the number of a file
 
-entered-by : (labels e : List ℕ) (n : ℕ) (r : List ℕ) → length labels ≡ 149 → length e ≡ 46 → r ≡ putAt (set labels 46 n) 0 e → Entered labels e n r
+entered-by : (labels e : List ℕ) (n : ℕ) (r : List ℕ) → length labels ≡ 149 → length e ≡ 46 → r ≡ putAt (set labels 46 n) 0 e → LabelsEntered labels e n r
 entered-by labels e n r l k h =
     let old : List ℕ = set labels 46 n in
     let long : length old ≡ 149 = length-set labels 46 n ∙ l in
@@ -88,19 +88,19 @@ module _ (image : Bool) (files bytes : List ℕ) (g : Place) (y : Enterable imag
   module _ (labels r : List ℕ) (l : length labels ≡ 149) where
     pub entered-read : (f s a u b v d : List ℕ) → image ≡ true → f ≡ part (g .file .first) 80 bytes → s ≡ part (g .file .second) 80 bytes → a ≡ part 4 17 f
         → u ≡ putAt (set labels 46 (g .nth + 1)) 0 a → b ≡ part 35 18 f → v ≡ putAt u 17 b → d ≡ part 4 11 s → r ≡ putAt v 35 d
-        → Entered labels (entryAt image files bytes g) (g .nth + 1) r
+        → LabelsEntered labels (entryAt image files bytes g) (g .nth + 1) r
     unfolding entryAt
     entered-read f s a u b v d i ef es ea eu eb ev ed er =
         let h = fields-made (set labels 46 (g .nth + 1)) bytes (g .file .first) (g .file .second) f s a u b v d r (length-set labels 46 (g .nth + 1) ∙ l) (y .first i) (y .second i) ef es ea eu eb ev ed er in
-        subst (λ (e : List ℕ). Entered labels e (g .nth + 1) r) (sym (if-true _ _ _ i))
+        subst (λ (e : List ℕ). LabelsEntered labels e (g .nth + 1) r) (sym (if-true _ _ _ i))
         (entered-by labels _ (g .nth + 1) r l
         (length-entry _ _ (length-part (g .file .first) 80 bytes (y .first i)) (length-part (g .file .second) 80 bytes (y .second i))) h)
 
     pub entered-listed : (e : List ℕ) → image ≡ false → e ≡ part (46 * g .nth) 46 files → r ≡ putAt (set labels 46 (g .nth + 1)) 0 e
-        → Entered labels (entryAt image files bytes g) (g .nth + 1) r
+        → LabelsEntered labels (entryAt image files bytes g) (g .nth + 1) r
     unfolding entryAt
     entered-listed e i k h =
-        subst (λ (d : List ℕ). Entered labels d (g .nth + 1) r) (k ∙ sym (if-false _ _ _ i))
+        subst (λ (d : List ℕ). LabelsEntered labels d (g .nth + 1) r) (k ∙ sym (if-false _ _ _ i))
         (entered-by labels e (g .nth + 1) r l (ap length k ∙ length-part (46 * g .nth) 46 files (y .listed i)) h)
 
   pub entry-room : (e : List ℕ) → image ≡ false → e ≡ part (46 * g .nth) 46 files → 0 + length e ≤ 149
@@ -109,7 +109,7 @@ module _ (image : Bool) (files bytes : List ℕ) (g : Place) (y : Enterable imag
 pub ruleset entering = (first-room, second-room, entry-few, entered-read, entered-listed, entry-room, needs)
 
 -- what the labels of the file are then made of
-module _ (labels e : List ℕ) (n : ℕ) (r rooms : List ℕ) (y : Entered labels e n r) where
+module _ (labels e : List ℕ) (n : ℕ) (r rooms : List ℕ) (y : LabelsEntered labels e n r) where
   same-part : (a w : ℕ) → part (47 + a) w r ≡ part (47 + a) w labels
   same-part a w = sym (part-drop 47 a w r) ∙ ap (part a w) (y .others) ∙ part-drop 47 a w labels
 

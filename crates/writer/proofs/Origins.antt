@@ -21,7 +21,7 @@ use Rattle.writer.specs.declared.body.Body.{Body}
 use Rattle.writer.specs.declared.set.Place.{Place}
 use Rattle.writer.specs.Pass.{Job, job, setIn, namesIn, jobOf}
 use Rattle.writer.specs.Files.{FileReady, FilePut}
-use Rattle.writer.specs.Sets.{Origin, listed, read, originOf, totalOf, listedAt, walkAt, cursorAt, Countable, entryAt, Enterable, Entered, passed, followedBy, behindFile, Task, task, taskOf, Fileable, OneFiled}
+use Rattle.writer.specs.Sets.{Origin, listed, read, originOf, totalOf, listedAt, walkAt, cursorAt, Countable, entryAt, Enterable, LabelsEntered, passed, followedBy, behindFile, Task, task, taskOf, Fileable, OneFiled}
 use Rattle.writer.proofs.Filing.{filesOn, Along, along-fileable, along-more, files-fall}
 use Rattle.writer.proofs.LabelParts.{parts-ready, parts-put}
 use Rattle.writer.proofs.FromSheet.{nth-small, stop-within, entry-within, entry-ready, listed-filed}
@@ -125,7 +125,7 @@ module _ (lay image : Bool) (files counts lengths bytes labels rooms : List ℕ)
         second = λ i. second-within lay (setIn labels) lengths bytes rooms names g p o (from-image i);
       }
 
-  module _ (c : Cursor) (k : c ≡ cursorAt image counts g) (r : List ℕ) (e : Entered labels (entryAt image files bytes g) (g .nth + 1) r) where
+  module _ (c : Cursor) (k : c ≡ cursorAt image counts g) (r : List ℕ) (e : LabelsEntered labels (entryAt image files bytes g) (g .nth + 1) r) where
     abbrev j : Job
     j = job (setIn labels) (entryAt image files bytes g) (g .nth + 1) rooms names
 
@@ -207,7 +207,7 @@ module _ (lay image : Bool) (files counts lengths bytes labels rooms : List ℕ)
   pub turn-enterable : Enterable image (length files) (length bytes) g
   turn-enterable = place-enterable lay image files counts lengths bytes labels rooms g p q here
 
-  module _ (c : Cursor) (k : c ≡ cursorAt image counts g) (r : List ℕ) (e : Entered labels (entryAt image files bytes g) (g .nth + 1) r) where
+  module _ (c : Cursor) (k : c ≡ cursorAt image counts g) (r : List ℕ) (e : LabelsEntered labels (entryAt image files bytes g) (g .nth + 1) r) where
     pub turn-ready : FileReady lay (jobOf r rooms) lengths bytes c p q
     turn-ready = place-ready lay image files counts lengths bytes labels rooms g p q here c k r e
 

@@ -12,14 +12,14 @@ use lib.Seq.{length-take-le}
 use Rattle.base.specs.If.{ifB, if-true, if-false, if-case}
 use Rattle.block.specs.Unit.{wordOf}
 use Rattle.writing.specs.Pack.{going, enters, taken, indicatorOf, controlWord}
-use Rattle.writing.specs.Lay.{Next}
+use Rattle.writing.specs.Lay.{Sequel}
 use Rattle.writing.proofs.Packing.{by-test, entered}
 use Rattle.writing.proofs.Units.{length-control}
 use Rattle.writer.specs.declared.pen.Pen.{Pen}
 use Rattle.writer.specs.declared.pack.Flow.{Flow}
-use Rattle.writer.specs.Pass.{Job, inkAt, Outcome, Fits, between, within, fillDue, leftDue, penned}
+use Rattle.writer.specs.Pass.{Job, inkAt, PassEnd, EndsWithin, between, within, fillDue, leftDue, penned}
 use Rattle.writer.specs.Pens.{Ready, Opens}
-use Rattle.writer.specs.Packs.{entersOn, Wanting, Blocked, more, flowed, Flowing, Goes, Steps, headed, Headable, Headed, manyOf, Partable, Settled, turnsIn, Turns, Packable, Packed}
+use Rattle.writer.specs.Packs.{entersOn, Wanting, Blocked, more, flowed, Flowing, FlowGoes, FlowsOn, headed, Headable, Headed, manyOf, Partable, Settled, turnsIn, Turns, Packable, Packed}
 use Rattle.writer.proofs.Passes.{ink-none, ink-length}
 use Rattle.writer.proofs.Dues.{enter-fill, enter-left, some-fill}
 use Rattle.writer.proofs.Blocks.{room-unit, penned-unit, more-sound, enters-on, entered-on, wanting-ready, blocked-next}
@@ -46,7 +46,7 @@ flowing-wanting lay f b j piece s o w h =
             size = left-length piece (a .bytes) (s .left) (s .from) (w .good .from) (a .size);
             room = a .room;
             fits =
-                subst (λ (u : Outcome). Fits u (length o)) (flowed-out true f b j s o (drop (s .from) piece ++ a .bytes) (a .later) (a .next) h) (a .fits);
+                subst (λ (u : PassEnd). EndsWithin u (length o)) (flowed-out true f b j s o (drop (s .from) piece ++ a .bytes) (a .later) (a .next) h) (a .fits);
           };
     }
 
@@ -99,7 +99,7 @@ flowing-partable lay f b j piece s o w h =
           = room-unit f b j (s .pen) o (take m x) (within (s .seg) x (a .later)) (within (s .seg - m) (drop m x) (a .later)) (a .next) (w .good .on h) (w .given)
           (some-fill f b true (s .pen .used) (s .seg) m x (a .later) (omega arith) (omega (arith, seg, left))
           ∙ ap (λ (n : ℕ). take m x ++ fillDue f b true (s .pen .used + n) (within (s .seg - m) (drop m x) (a .later))) (sym size))
-          (subst (λ (u : Outcome). Fits u (length o)) (flowed-in true f b j s o x (a .later) (a .next) h) (a .fits)) in
+          (subst (λ (u : PassEnd). EndsWithin u (length o)) (flowed-in true f b j s o x (a .later) (a .next) h) (a .fits)) in
           omega arith;
     }
 
@@ -109,7 +109,7 @@ module _ (lay : Bool) (f b : ℕ) (j : Job) (piece : List ℕ) (s : Flow) (o : L
   pub turn-partable : s .inside ≡ true → Partable lay (length piece) s (length o)
   turn-partable h = flowing-partable lay f b j piece s o (k .flowing) h
 
-  pub turn-in : (q : List ℕ) (r : Flow) → s .inside ≡ true → Steps lay piece s o q r → Turns lay f b j piece s o q r
+  pub turn-in : (q : List ℕ) (r : Flow) → s .inside ≡ true → FlowsOn lay piece s o q r → Turns lay f b j piece s o q r
   turn-in q r h y =
       let w = k .flowing in
       let here : length piece ≤ s .left + s .from = w .good .here in
@@ -135,7 +135,7 @@ module _ (lay : Bool) (f b : ℕ) (j : Job) (piece : List ℕ) (s : Flow) (o : L
           (λ t. let e : s .seg ≡ 0 = eqb-true _ _ t in let n = z e in absurd (omega (arith, y .from)))
           (λ t. let e : s .seg ≡ 0 → ⊥ = eqb-false _ _ t in omega (arith, y .from))
 
-  pub turn-in-kept : (q : List ℕ) (r : Flow) → Steps lay piece s o q r → length q ≡ length o
+  pub turn-in-kept : (q : List ℕ) (r : Flow) → FlowsOn lay piece s o q r → length q ≡ length o
   turn-in-kept q r y = y .kept
 
   -- ---- between units
@@ -182,7 +182,7 @@ module _ (lay : Bool) (f b : ℕ) (j : Job) (piece : List ℕ) (s : Flow) (o : L
       abbrev seg : ℕ
       seg = taken f b (p .used) (s .left)
 
-      head-same : (z x : List ℕ) (xs : List (List ℕ)) (next : Next) → z ≡ inkAt lay o (p .at + 3 + p .used) (controlWord f (indicatorOf (s .begun) seg (s .left)) seg)
+      head-same : (z x : List ℕ) (xs : List (List ℕ)) (next : Sequel) → z ≡ inkAt lay o (p .at + 3 + p .used) (controlWord f (indicatorOf (s .begun) seg (s .left)) seg)
           → length x ≡ s .left → flowed lay f b j (headed f b s) z x xs next ≡ flowed lay f b j s o x xs next
       head-same z x xs next l size =
           let n : enters f b (p .used) (length x) ≡ true = ap (enters f b (p .used)) size ∙ goes-in in
@@ -310,7 +310,7 @@ pub ruleset turning = (turn-partable, turn-in, turn-in-kept, turn-headable, turn
 -- ---- the loop
 
 pub record Packing (lay : Bool) (f b : ℕ) (j : Job) (piece : List ℕ) (s : Flow) (o q : List ℕ) (r : Flow) : Type 0 where
-  pub goes : Goes lay f b j piece s o q r
+  pub goes : FlowGoes lay f b j piece s o q r
   pub packable : r .on ≡ true → Packable lay f b j piece r q
   pub settled : r .pen .short ≡ false → Settled r
   pub over : r .on ≡ false → r .pen .short ≡ false → r .from ≡ length piece

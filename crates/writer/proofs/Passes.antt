@@ -14,7 +14,7 @@ use Rattle.image.specs.Item.{Item, block, three, bytesOf, encodeBy, encode}
 use Rattle.image.proofs.RoundTrip.{encode-append}
 use Rattle.writing.specs.Lay.{Laid, laid, short, put}
 use Rattle.writer.proofs.Items.{length-three}
-use Rattle.writer.specs.Pass.{overLong, inkAt, inked, behind, inkedAt, outcome, Fits}
+use Rattle.writer.specs.Pass.{overLong, inkAt, inked, behind, inkedAt, outcome, EndsWithin}
 
 -- ---- two puts apart from each other
 
@@ -134,7 +134,7 @@ outcome-items false at n m o ys (laid xs) h =
 
 -- ---- room: what is to be written has it
 
-pub fits-unit : (lay : Bool) (at u : ℕ) (o v cs : List ℕ) (l : Laid) (size : ℕ) → Fits (outcome lay true at u o (inked u (v ++ cs) l)) size
+pub fits-unit : (lay : Bool) (at u : ℕ) (o v cs : List ℕ) (l : Laid) (size : ℕ) → EndsWithin (outcome lay true at u o (inked u (v ++ cs) l)) size
     → (at + 3 + u + length v ≤ size) × (at + 3 + u + length v < overLong)
 unfolding outcome inked behind ifB
 fits-unit lay at u o v cs short size w = absurd (false≢true (sym (w .given)))
@@ -144,7 +144,7 @@ fits-unit lay at u o v cs (laid xs) size w =
     let most : at + 3 + u + length (v ++ cs ++ encode xs) < overLong = w .most in
     (omega arith, omega arith)
 
-pub fits-items : (lay : Bool) (at n : ℕ) (o : List ℕ) (ys : List Item) (l : Laid) (size : ℕ) → Fits (outcome lay false at n o (inked n [] (put ys l))) size
+pub fits-items : (lay : Bool) (at n : ℕ) (o : List ℕ) (ys : List Item) (l : Laid) (size : ℕ) → EndsWithin (outcome lay false at n o (inked n [] (put ys l))) size
     → (at + length (encode ys) ≤ size) × (at + length (encode ys) < overLong)
 unfolding outcome inked behind ifB put
 fits-items lay at n o ys short size w = absurd (false≢true (sym (w .given)))

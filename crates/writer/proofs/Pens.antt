@@ -6,7 +6,7 @@ use Prim.Native.Nat.{ℕ, suc, pred, _+_, _-_, _*_, _≤_, _<_}
 use native.Mathlib.Omega.{arith}
 use native.Mathlib.Numerals.{add-one}
 use borrow.Author.Needs.{needs}
-use mir.Val.{Fits as FitsIn}
+use mir.Val.{EndsWithin as FitsIn}
 use mir.Syntax.{w64}
 use lib.ListN.{length, take, drop, getD, length-drop, drop-of-length-le}
 use lib.Seq.{drop-drop, drop-cons}
@@ -15,27 +15,27 @@ use Rattle.base.specs.Part.{part}
 use Rattle.base.proofs.Parts.{part-part}
 use Rattle.image.specs.Item.{Item, block, three, encode}
 use Rattle.label.specs.Made.{madeVolume}
-use Rattle.writing.specs.Lay.{Reel, Laid, laid, short, put, headers, volumeEnd, Next, rest}
+use Rattle.writing.specs.Lay.{Reel, Laid, laid, short, put, headers, volumeEnd, Sequel, rest}
 use Rattle.writing.proofs.Packing.{by-test}
 use Rattle.sheet.specs.Flat.{inParts}
 use Rattle.sheet.proofs.Cutting.{parts-some}
 use Rattle.writer.proofs.Items.{length-three, length-block, length-change, puts-kept}
 use Rattle.writer.specs.declared.pen.Pen.{Pen}
-use Rattle.writer.specs.Pass.{overLong, behind, Puts, Reels, reelsFrom, reelsAt, Job, entryIn, sequenceIn, setIn, jobOf, inkAt, lacks, inked, Outcome, outcome, restOf, ends, Fits, Sound}
+use Rattle.writer.specs.Pass.{overLong, behind, Puts, Reels, reelsFrom, reelsAt, Job, entryIn, sequenceIn, setIn, jobOf, inkAt, lacks, inked, PassEnd, outcome, restOf, ends, EndsWithin, Sound}
 use Rattle.writer.specs.Pens.{Ready, Closable, Closes, Changes, Opens, opened}
 use Rattle.writer.proofs.Written.{ink-puts}
 use Rattle.writer.proofs.Passes.{ink-none, ink-length, outcome-close, outcome-open, outcome-items, fits-unit, fits-items}
 
 -- ---- how a pass ends from a pen that is not short
 
-pub ends-given : (lay : Bool) (j : Job) (p : Pen) (o cs : List ℕ) (bs : List (List ℕ)) (next : Next) (t : Bool) → p .short ≡ false → p .on ≡ t
+pub ends-given : (lay : Bool) (j : Job) (p : Pen) (o cs : List ℕ) (bs : List (List ℕ)) (next : Sequel) (t : Bool) → p .short ≡ false → p .on ≡ t
     → ends lay j p o cs bs next ≡ outcome lay t (p .at) (p .used) o (inked (p .used) cs (restOf j p bs next))
 unfolding ends
 ends-given lay j p o cs bs next t e h =
     ap (λ (s : Bool). outcome lay s (p .at) (p .used) o (ifB (p .short) lacks (inked (p .used) cs (restOf j p bs next)))) h
     ∙ ap (outcome lay t (p .at) (p .used) o) (if-false _ _ _ e)
 
-pub ends-short : (lay : Bool) (j : Job) (p : Pen) (o cs : List ℕ) (bs : List (List ℕ)) (next : Next) → p .short ≡ true
+pub ends-short : (lay : Bool) (j : Job) (p : Pen) (o cs : List ℕ) (bs : List (List ℕ)) (next : Sequel) → p .short ≡ true
     → ends lay j p o cs bs next ≡ record { out = []; end = 0; short = true }
 unfolding ends outcome
 ends-short lay j p o cs bs next e = ap (outcome lay (p .on) (p .at) (p .used) o) (if-true _ _ _ e)
@@ -80,7 +80,7 @@ module _ (lay : Bool) (p : Pen) (o : List ℕ) (c : Closable lay p (length o)) w
   closes-kept : (q : List ℕ) → p .on ≡ true → q ≡ inkAt lay o (p .at) (three (p .used)) → length q ≡ length o
   closes-kept q h e = ap length e ∙ ink-length lay o (p .at) (three (p .used)) (word-room h)
 
-  closes-same : (q : List ℕ) → p .on ≡ true → q ≡ inkAt lay o (p .at) (three (p .used)) → (j : Job) (bs : List (List ℕ)) (next : Next)
+  closes-same : (q : List ℕ) → p .on ≡ true → q ≡ inkAt lay o (p .at) (three (p .used)) → (j : Job) (bs : List (List ℕ)) (next : Sequel)
       → ends lay j (closed p) q [] bs next ≡ ends lay j p o [] bs next
   unfolding restOf
   closes-same q h e j bs next =
@@ -169,10 +169,10 @@ abbrev next-reel : Job → Pen → Pen
 next-reel j p =
     record { at = p .at + 430; used = 0; room = roomNext j p; next = p .next + 1; section = p .section + 1; count = 0; on = false; short = false }
 
-abbrev resting : Job → Pen → ℕ → ℕ → List Reel → List (List ℕ) → Next → Laid
+abbrev resting : Job → Pen → ℕ → ℕ → List Reel → List (List ℕ) → Sequel → Laid
 resting j p count room reels bs next = rest (j .set) (j .entry) (j .sequence) (suc (p .section)) count room reels bs next
 
-rest-change : (j : Job) (p : Pen) (y : List ℕ) (ys : List (List ℕ)) (next : Next) → Reels (j .rooms) (j .names) → p .room ≡ 0 → p .next < length (j .rooms)
+rest-change : (j : Job) (p : Pen) (y : List ℕ) (ys : List (List ℕ)) (next : Sequel) → Reels (j .rooms) (j .names) → p .room ≡ 0 → p .next < length (j .rooms)
     → put (changed j p) (restOf j (next-reel j p) (y ∷ ys) next) ≡ restOf j p (y ∷ ys) next
 unfolding restOf rest
 rest-change j p y ys next r none n =
@@ -185,7 +185,7 @@ rest-change j p y ys next r none n =
     ∙ ap (λ (rs : List Reel). rest (j .set) (j .entry) (j .sequence) (p .section) (p .count) 0 rs (y ∷ ys) next) (sym (reels-some (j .rooms) (j .names) (p .next) r n))
     ∙ ap (λ (k : ℕ). rest (j .set) (j .entry) (j .sequence) (p .section) (p .count) k (reelsAt (j .rooms) (j .names) (p .next)) (y ∷ ys) next) (sym none)
 
-rest-short : (j : Job) (p : Pen) (y : List ℕ) (ys : List (List ℕ)) (next : Next) → p .room ≡ 0 → length (j .rooms) ≤ p .next → restOf j p (y ∷ ys) next ≡ short
+rest-short : (j : Job) (p : Pen) (y : List ℕ) (ys : List (List ℕ)) (next : Sequel) → p .room ≡ 0 → length (j .rooms) ≤ p .next → restOf j p (y ∷ ys) next ≡ short
 unfolding restOf rest
 rest-short j p y ys next none n =
     ap (λ (k : ℕ). rest (j .set) (j .entry) (j .sequence) (p .section) (p .count) k (reelsAt (j .rooms) (j .names) (p .next)) (y ∷ ys) next) none
@@ -232,7 +232,7 @@ module _ (lay : Bool) (j : Job) (p : Pen) (o : List ℕ) (ready : Ready lay j p 
     items-room l =
         let a = ready .ahead l in
         fits-items true (p .at) (p .used) o (changed j p) (restOf j (next-reel j p) (a .first ∷ a .later) (a .next)) (length o)
-        (subst (λ (w : Outcome). Fits w (length o))
+        (subst (λ (w : PassEnd). EndsWithin w (length o))
         (ends-given true j p o [] (a .first ∷ a .later) (a .next) false given shut
         ∙ ap (λ (l : Laid). outcome true false (p .at) (p .used) o (inked (p .used) [] l)) (sym (rest-change j p (a .first) (a .later) (a .next) (sound .reels) none n)))
         (a .fits))
@@ -323,8 +323,8 @@ module _ (lay : Bool) (j : Job) (p : Pen) (o : List ℕ) (ready : Ready lay j p 
         room =
             λ l h.
             let a = ready .ahead l in
-            let w : Fits (outcome true true (p .at) (p .used) o (inked (p .used) ([] ++ []) (restOf j p (a .first ∷ a .later) (a .next)))) (length o)
-            = subst (λ (w : Outcome). Fits w (length o)) (ends-given true j p o [] (a .first ∷ a .later) (a .next) true (ready .given) h) (a .fits) in
+            let w : EndsWithin (outcome true true (p .at) (p .used) o (inked (p .used) ([] ++ []) (restOf j p (a .first ∷ a .later) (a .next)))) (length o)
+            = subst (λ (w : PassEnd). EndsWithin w (length o)) (ends-given true j p o [] (a .first ∷ a .later) (a .next) true (ready .given) h) (a .fits) in
             let r = fits-unit true (p .at) (p .used) o [] [] (restOf j p (a .first ∷ a .later) (a .next)) (length o) w in
             omega (arith, r .0);
       }
@@ -343,12 +343,12 @@ module _ (lay : Bool) (j : Job) (p : Pen) (o : List ℕ) (ready : Ready lay j p 
               let a = ready .ahead l in
               let w : ends true j c q [] (a .first ∷ a .later) (a .next) ≡ ends true j p o [] (a .first ∷ a .later) (a .next)
               = subst (λ (t : Bool). ends t j c q [] (a .first ∷ a .later) (a .next) ≡ ends t j p o [] (a .first ∷ a .later) (a .next)) l (x .same j (a .first ∷ a .later) (a .next)) in
-              let f : Fits (ends true j c q [] (a .first ∷ a .later) (a .next)) (length o) = subst (λ (u : Outcome). Fits u (length o)) (sym w) (a .fits) in
+              let f : EndsWithin (ends true j c q [] (a .first ∷ a .later) (a .next)) (length o) = subst (λ (u : PassEnd). EndsWithin u (length o)) (sym w) (a .fits) in
               record {
                 first = a .first;
                 later = a .later;
                 next = a .next;
-                fits = subst (Fits (ends true j c q [] (a .first ∷ a .later) (a .next))) (sym (x .kept)) f;
+                fits = subst (EndsWithin (ends true j c q [] (a .first ∷ a .later) (a .next))) (sym (x .kept)) f;
               };
         }
 
@@ -388,7 +388,7 @@ module _ (lay : Bool) (j : Job) (p : Pen) (o : List ℕ) (ready : Ready lay j p 
     opens-few : d .count < 1000000
     opens-few = omega (arith, y .sound .blocks)
 
-    rest-open : (b : List ℕ) (bs : List (List ℕ)) (next : Next) → d .short ≡ false → put (block b ∷ []) (restOf j (opened d) bs next) ≡ restOf j d (b ∷ bs) next
+    rest-open : (b : List ℕ) (bs : List (List ℕ)) (next : Sequel) → d .short ≡ false → put (block b ∷ []) (restOf j (opened d) bs next) ≡ restOf j d (b ∷ bs) next
     unfolding restOf rest
     rest-open b bs next s =
         let some : 1 ≤ d .room = y .room s in
@@ -397,7 +397,7 @@ module _ (lay : Bool) (j : Job) (p : Pen) (o : List ℕ) (ready : Ready lay j p 
         ∙ ap (λ (k : ℕ). rest (j .set) (j .entry) (j .sequence) (d .section) (d .count) k (reelsAt (j .rooms) (j .names) (d .next)) (b ∷ bs) next) (sym more)
 
     -- how it ends before the block, from a reel with room
-    ends-ahead : (b : List ℕ) (bs : List (List ℕ)) (next : Next) → d .short ≡ false
+    ends-ahead : (b : List ℕ) (bs : List (List ℕ)) (next : Sequel) → d .short ≡ false
         → outcome lay false (d .at) (d .used) z (inked (d .used) [] (put (block b ∷ []) (restOf j (opened d) bs next))) ≡ ends lay j p o [] (b ∷ bs) next
     ends-ahead b bs next s =
         ap (λ (l : Laid). outcome lay false (d .at) (d .used) z (inked (d .used) [] l)) (rest-open b bs next s)
@@ -410,7 +410,7 @@ module _ (lay : Bool) (j : Job) (p : Pen) (o : List ℕ) (ready : Ready lay j p 
         let e : outcome true false (d .at) (d .used) z (inked (d .used) [] (put (block (a .first) ∷ []) (restOf j (opened d) (a .later) (a .next)))) ≡ ends true j p o [] (a .first ∷ a .later) (a .next)
         = subst (λ (t : Bool). outcome t false (d .at) (d .used) z (inked (d .used) [] (put (block (a .first) ∷ []) (restOf j (opened d) (a .later) (a .next)))) ≡ ends t j p o [] (a .first ∷ a .later) (a .next)) l
         (ends-ahead (a .first) (a .later) (a .next) s) in
-        let w = subst (λ (u : Outcome). Fits u (length o)) (sym e) (a .fits) in
+        let w = subst (λ (u : PassEnd). EndsWithin u (length o)) (sym e) (a .fits) in
         let r = fits-items true (d .at) (d .used) z (block (a .first) ∷ []) (restOf j (opened d) (a .later) (a .next)) (length o) w in
         omega (arith, r .0, length-block (a .first) [], opens-kept)
 

@@ -5,11 +5,11 @@ use mathlib.Core.List.{List, _++_}
 use Prim.Native.Nat.{ℕ, _+_, _-_, _≤_}
 use native.Mathlib.Omega.{arith}
 use lib.ListN.{length, drop, length-append, drop-of-length-le}
-use Rattle.writing.specs.Pack.{Room}
-use Rattle.writing.specs.Lay.{Next}
+use Rattle.writing.specs.Pack.{RoomEach}
+use Rattle.writing.specs.Lay.{Sequel}
 use Rattle.writer.specs.declared.pack.Flow.{Flow}
-use Rattle.writer.specs.Pass.{Job, Outcome, Fits, Sound}
-use Rattle.writer.specs.Packs.{flowed, Good, Settled, Packable, Packed}
+use Rattle.writer.specs.Pass.{Job, PassEnd, EndsWithin, Sound}
+use Rattle.writer.specs.Packs.{flowed, GoodFlow, Settled, Packable, Packed}
 
 -- a flow at the beginning of the next piece
 abbrev pub reset : Flow → Flow
@@ -18,21 +18,21 @@ reset r = record { pen = r .pen; left = r .left; seg = r .seg; from = 0; begun =
 -- what follows the record, for which the buffer has room
 pub record Following (f b : ℕ) (j : Job) (zs : List ℕ) (s : Flow) (o : List ℕ) : Type 0 where
   pub later : List (List ℕ)
-  pub next : Next
-  pub room : Room f b later
-  pub fits : Fits (flowed true f b j s o zs later next) (length o)
+  pub next : Sequel
+  pub room : RoomEach f b later
+  pub fits : EndsWithin (flowed true f b j s o zs later next) (length o)
 
 -- zs is left of the record, from a flow at the beginning of a piece on
-pub record Splitting (lay : Bool) (f b : ℕ) (j : Job) (zs : List ℕ) (s : Flow) (o : List ℕ) : Type 0 where
+pub record PiecesLeft (lay : Bool) (f b : ℕ) (j : Job) (zs : List ℕ) (s : Flow) (o : List ℕ) : Type 0 where
   pub sound : Sound j (s .pen)
   pub given : s .pen .short ≡ false
   pub size : s .left ≡ length zs
   pub from : s .from ≡ 0
-  pub good : Good f b 0 s
+  pub good : GoodFlow f b 0 s
   pub settled : Settled s
   pub ahead : lay ≡ true → Following f b j zs s o
 
-module _ (lay : Bool) (f b : ℕ) (j : Job) (piece zs : List ℕ) (s : Flow) (o : List ℕ) (w : Splitting lay f b j (piece ++ zs) s o) where
+module _ (lay : Bool) (f b : ℕ) (j : Job) (piece zs : List ℕ) (s : Flow) (o : List ℕ) (w : PiecesLeft lay f b j (piece ++ zs) s o) where
   all : drop (s .from) piece ++ zs ≡ piece ++ zs
   all = ap (λ (n : ℕ). drop n piece ++ zs) (w .from)
 
@@ -65,7 +65,7 @@ module _ (lay : Bool) (f b : ℕ) (j : Job) (piece zs : List ℕ) (s : Flow) (o 
                     next = a .next;
                     size = omega (arith, w .from, w .size);
                     room = a .room;
-                    fits = subst (λ (x : List ℕ). Fits (flowed true f b j s o x (a .later) (a .next)) (length o)) (sym all) (a .fits);
+                    fits = subst (λ (x : List ℕ). EndsWithin (flowed true f b j s o x (a .later) (a .next)) (length o)) (sym all) (a .fits);
                   };
             };
         settled = w .settled;
@@ -75,7 +75,7 @@ module _ (lay : Bool) (f b : ℕ) (j : Job) (piece zs : List ℕ) (s : Flow) (o 
     rest : drop (r .from) piece ++ zs ≡ zs
     rest = let e : length piece ≤ r .from = omega (arith, x .over h) in ap (λ (l : List ℕ). l ++ zs) (drop-of-length-le piece e)
 
-    pub pieces-same : (xs : List (List ℕ)) (next : Next) → Room f b xs → flowed lay f b j (reset r) q zs xs next ≡ flowed lay f b j s o (piece ++ zs) xs next
+    pub pieces-same : (xs : List (List ℕ)) (next : Sequel) → RoomEach f b xs → flowed lay f b j (reset r) q zs xs next ≡ flowed lay f b j s o (piece ++ zs) xs next
     unfolding flowed
     pieces-same xs next room =
         let long : length (piece ++ zs) ≡ length piece + length zs = length-append piece zs in
@@ -83,7 +83,7 @@ module _ (lay : Bool) (f b : ℕ) (j : Job) (piece zs : List ℕ) (s : Flow) (o 
         ∙ x .goes .same zs xs next (omega (arith, w .from, w .size)) room
         ∙ ap (λ (l : List ℕ). flowed lay f b j s o l xs next) all
 
-    pub pieces-out : Splitting lay f b j zs (reset r) q
+    pub pieces-out : PiecesLeft lay f b j zs (reset r) q
     pieces-out =
         let long : length (piece ++ zs) ≡ length piece + length zs = length-append piece zs in
         let g = x .goes .good h in
@@ -116,7 +116,7 @@ module _ (lay : Bool) (f b : ℕ) (j : Job) (piece zs : List ℕ) (s : Flow) (o 
                 next = a .next;
                 room = a .room;
                 fits =
-                    subst (Fits (flowed true f b j (reset r) q zs (a .later) (a .next))) (sym (x .goes .kept))
-                    (subst (λ (u : Outcome). Fits u (length o)) (sym e) (a .fits));
+                    subst (EndsWithin (flowed true f b j (reset r) q zs (a .later) (a .next))) (sym (x .goes .kept))
+                    (subst (λ (u : PassEnd). EndsWithin u (length o)) (sym e) (a .fits));
               };
         }

@@ -6,7 +6,7 @@ use Prim.Native.Nat.{ℕ, _+_, _-_, _≤_, _<_, min}
 use native.Mathlib.Omega.{arith}
 use borrow.Author.Needs.{needs}
 use borrow.Author.Tests.{eq-eqb, ne-eqb, eqb-true, le-leb, leb-true}
-use mir.Val.{Fits as FitsIn}
+use mir.Val.{EndsWithin as FitsIn}
 use mir.Syntax.{w64}
 use lib.Dec.{eqb, leb}
 use lib.ListN.{length, take, drop, length-append, drop-of-length-le}
@@ -19,17 +19,17 @@ use Rattle.block.specs.Unit.{wordOf}
 use Rattle.block.proofs.Wholes.{word-segmented}
 use Rattle.writing.specs.Pack.{Left, going, startOf, enters, taken, indicatorOf, controlWord, blocksLeft}
 use Rattle.writing.specs.Lay.{rest}
-use Rattle.writing.specs.Lay.{Next}
+use Rattle.writing.specs.Lay.{Sequel}
 use Rattle.writing.proofs.Packing.{by-test, entered}
 use Rattle.writing.proofs.Units.{length-control, indicator-whole}
 use Rattle.writer.proofs.Written.{word-small, most-small, ink-put, ink-not, unit-put, unit-kept}
 use Rattle.writer.specs.declared.pen.Pen.{Pen}
 use Rattle.writer.specs.declared.pack.Flow.{Flow}
 use Rattle.writer.specs.declared.record.Quick.{Quick}
-use Rattle.writer.specs.Pass.{Job, inkAt, inked, Outcome, outcome, restOf, Fits, Due, between, within, fillDue, leftDue, penned}
+use Rattle.writer.specs.Pass.{Job, inkAt, inked, PassEnd, outcome, restOf, EndsWithin, UnitDue, between, within, fillDue, leftDue, penned}
 use Rattle.writer.specs.Pens.{mostOf, wordWith, Ready, Closable, Closes, Opens, opened}
-use Rattle.writer.specs.Packs.{entersOn, Wanting, Blocked, more, flowed, Good, Packable, Packed}
-use Rattle.writer.specs.Records.{GoesIn, GoesNext, Wholable, Wholed, Recordable, Recorded, Somewhere, Whole, QuickBlock}
+use Rattle.writer.specs.Packs.{entersOn, Wanting, Blocked, more, flowed, GoodFlow, Packable, Packed}
+use Rattle.writer.specs.Records.{GoesIn, GoesNext, Wholable, Wholed, Recordable, Recorded, Somewhere, EntersWhole, QuickBlock}
 use Rattle.writer.proofs.Passes.{ink-none, ink-length}
 use Rattle.writer.proofs.Pens.{closable, opens-here}
 use Rattle.writer.proofs.Dues.{enter-fill, enter-left, some-fill, some-left, over-fill, over-left}
@@ -180,7 +180,7 @@ module _ (f b u n : ℕ) (x : List ℕ) (size : length x ≡ n) (e : enters f b 
       ∙ ap (λ (k : ℕ). controlWord f 0 k ++ fillDue f b true (u + wordOf f) (within (length x) x xs)) size
       ∙ ap (λ (l : List ℕ). controlWord f 0 n ++ l)
       (some-fill f b true (u + wordOf f) (length x) (length x) x xs (omega arith) (omega arith)
-      ∙ ap (λ (d : Due). take (length x) x ++ fillDue f b true (u + wordOf f + length x) d) all-within
+      ∙ ap (λ (d : UnitDue). take (length x) x ++ fillDue f b true (u + wordOf f + length x) d) all-within
       ∙ ap (λ (l : List ℕ). l ++ fillDue f b true (u + wordOf f + length x) (within 0 [] xs)) take-x
       ∙ ap (λ (l : List ℕ). x ++ l) (over-fill f b (u + wordOf f + length x) xs ∙ ap (λ (k : ℕ). fillDue f b true k (between (startOf xs))) place))
       ∙ sym (append-assoc (controlWord f 0 n) x _)
@@ -190,7 +190,7 @@ module _ (f b u n : ℕ) (x : List ℕ) (size : length x ≡ n) (e : enters f b 
       enter-left f b u 0 x enters-x xs
       ∙ ap (λ (k : ℕ). leftDue f b true (u + wordOf f) (within k x xs)) taken-x
       ∙ some-left f b true (u + wordOf f) (length x) (length x) x xs (omega arith) (omega arith)
-      ∙ ap (λ (d : Due). leftDue f b true (u + wordOf f + length x) d) all-within
+      ∙ ap (λ (d : UnitDue). leftDue f b true (u + wordOf f + length x) d) all-within
       ∙ over-left f b (u + wordOf f + length x) xs
       ∙ ap (λ (k : ℕ). leftDue f b true k (between (startOf xs))) place
 
@@ -224,8 +224,8 @@ module _ (lay : Bool) (f b : ℕ) (j : Job) (bytes : List ℕ) (from n : ℕ) (p
         let e : penned true f b j r q (between (going 0 x (a .later))) (a .next) ≡ penned true f b j p o (between (going 0 x (a .later))) (a .next)
         = subst (λ (t : Bool). penned t f b j r q (between (going 0 x (a .later))) (a .next) ≡ penned t f b j p o (between (going 0 x (a .later))) (a .next)) l
         (y .same 0 x (a .later) (a .next) size (a .room)) in
-        let g : Fits (penned true f b j r q (between (going 0 x (a .later))) (a .next)) (length q)
-        = subst (Fits (penned true f b j r q (between (going 0 x (a .later))) (a .next))) (sym (y .kept)) (subst (λ (u : Outcome). Fits u (length o)) (sym e) (a .fits)) in
+        let g : EndsWithin (penned true f b j r q (between (going 0 x (a .later))) (a .next)) (length q)
+        = subst (EndsWithin (penned true f b j r q (between (going 0 x (a .later))) (a .next))) (sym (y .kept)) (subst (λ (u : PassEnd). EndsWithin u (length o)) (sym e) (a .fits)) in
         let c : r .at + 3 + r .used + length (controlWord f 0 n ++ x) ≤ length q
         = room-unit f b j r q (controlWord f 0 n ++ x) (between (going 0 x (a .later))) (between (startOf (a .later))) (a .next) (y .on h) h
         (whole-fill f b (r .used) n x size (y .room h) t (a .later)) g in
@@ -278,7 +278,7 @@ module _ (lay : Bool) (f b : ℕ) (j : Job) (n : ℕ) (p : Pen) (o : List ℕ) (
     unfolding entersOn
     in-blocked = blocked-here lay f b j n p o k true (sym (if-true _ _ _ (g .on) ∙ g .enters)) refl
 
-    in-whole : Whole lay f b j n p o o p
+    in-whole : EntersWhole lay f b j n p o o p
     in-whole = record { blocked = in-blocked; given = k .given; whole = g .whole }
 
   -- into the next block of this reel
@@ -308,7 +308,7 @@ module _ (lay : Bool) (f b : ℕ) (j : Job) (n : ℕ) (p : Pen) (o : List ℕ) (
       next-whole : taken f b (r .used) n ≡ n
       next-whole = ap (λ (u : ℕ). taken f b u n) (opens .empty next-given) ∙ g .whole
 
-      in-next : Whole lay f b j n p o q r
+      in-next : EntersWhole lay f b j n p o q r
       in-next = record { blocked = next-blocked; given = next-given; whole = next-whole }
 
 module _ (lay : Bool) (f b n : ℕ) (p : Pen) (o : List ℕ) (k : Somewhere lay f b n p o) where
@@ -344,7 +344,7 @@ pub ruleset quicks = (quick-used, quick-in, quick-closable, quick-room, quick-fe
 
 -- ---- through the packer
 
-penned-over : (lay : Bool) (f b : ℕ) (j : Job) (p : Pen) (o : List ℕ) (xs : List (List ℕ)) (next : Next) → p .on ≡ true → p .short ≡ false
+penned-over : (lay : Bool) (f b : ℕ) (j : Job) (p : Pen) (o : List ℕ) (xs : List (List ℕ)) (next : Sequel) → p .on ≡ true → p .short ≡ false
     → penned lay f b j p o (between (startOf xs)) next ≡ penned lay f b j p o (within 0 [] xs) next
 penned-over lay f b j p o xs next h s =
     penned-on lay f b j p o (between (startOf xs)) next h s
@@ -356,7 +356,7 @@ penned-over lay f b j p o xs next h s =
 
 -- a flow behind the last byte of its record
 module _ (lay : Bool) (f b : ℕ) (j : Job) (s : Flow) (o : List ℕ) where
-  pub flow-over : (xs : List (List ℕ)) (next : Next) (n : ℕ) → Good f b n s → s .pen .short ≡ false → s .left ≡ 0 → (s .inside ≡ false → 0 < s .left)
+  pub flow-over : (xs : List (List ℕ)) (next : Sequel) (n : ℕ) → GoodFlow f b n s → s .pen .short ≡ false → s .left ≡ 0 → (s .inside ≡ false → 0 < s .left)
       → penned lay f b j (s .pen) o (between (startOf xs)) next ≡ flowed lay f b j s o [] xs next
   flow-over xs next n good h left out =
       by-test (s .inside)
@@ -369,7 +369,7 @@ module _ (lay : Bool) (f b : ℕ) (j : Job) (s : Flow) (o : List ℕ) where
       (λ e. let some = out e in absurd (omega arith))
 
   -- a reel is lacking
-  pub flow-short : (x : List ℕ) (xs : List (List ℕ)) (next : Next) → s .pen .short ≡ true
+  pub flow-short : (x : List ℕ) (xs : List (List ℕ)) (next : Sequel) → s .pen .short ≡ true
       → penned lay f b j (s .pen) o (between (startOf xs)) next ≡ flowed lay f b j s o x xs next
   unfolding flowed
   flow-short x xs next h = penned-short lay f b j (s .pen) o _ next h ∙ sym (penned-short lay f b j (s .pen) o _ next h)
@@ -390,7 +390,7 @@ module _ (lay : Bool) (f b : ℕ) (j : Job) (bytes : List ℕ) (from n : ℕ) (p
   all-first : drop 0 piece ++ [] ≡ part from n bytes
   all-first = append-nil piece ∙ is-part
 
-  flowed-first : (lay : Bool) (xs : List (List ℕ)) (next : Next) → flowed lay f b j first o (drop 0 piece ++ []) xs next ≡ penned lay f b j p o (between (going 0 (part from n bytes) xs)) next
+  flowed-first : (lay : Bool) (xs : List (List ℕ)) (next : Sequel) → flowed lay f b j first o (drop 0 piece ++ []) xs next ≡ penned lay f b j p o (between (going 0 (part from n bytes) xs)) next
   flowed-first lay xs next =
       flowed-out lay f b j first o (drop 0 piece ++ []) xs next refl
       ∙ ap (λ (l : List ℕ). penned lay f b j p o (between (going 0 l xs)) next) all-first
@@ -423,7 +423,7 @@ module _ (lay : Bool) (f b : ℕ) (j : Job) (bytes : List ℕ) (from n : ℕ) (p
                     next = a .next;
                     size = omega (arith, piece-length);
                     room = a .room;
-                    fits = subst (λ (u : Outcome). Fits u (length o)) (sym (flowed-first true (a .later) (a .next))) (a .fits);
+                    fits = subst (λ (u : PassEnd). EndsWithin u (length o)) (sym (flowed-first true (a .later) (a .next))) (a .fits);
                   };
             };
         settled = λ e. absurd (false≢true e);
@@ -436,7 +436,7 @@ module _ (lay : Bool) (f b : ℕ) (j : Job) (bytes : List ℕ) (from n : ℕ) (p
     pub slow-kept : length q ≡ length o
     slow-kept = y .goes .kept
 
-    flowed-last : (xs : List (List ℕ)) (next : Next) → s .pen .short ≡ false
+    flowed-last : (xs : List (List ℕ)) (next : Sequel) → s .pen .short ≡ false
         → penned lay f b j (s .pen) q (between (startOf xs)) next ≡ flowed lay f b j s q (drop (s .from) piece ++ []) xs next
     flowed-last xs next h =
         let over : length piece ≤ s .from = omega (arith, y .over h) in

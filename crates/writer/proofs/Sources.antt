@@ -25,7 +25,7 @@ use Rattle.content.proofs.Wholes.{measured-whole as whole-measured, word-least,
 use Rattle.content.proofs.Records.{handed-passes, measured-nothing, measured-whole, measured-split, measured-end-nothing, measured-end-whole, measured-end-split, whole-within}
 use Rattle.writer.specs.declared.source.Cursor.{Cursor}
 use Rattle.writer.specs.declared.source.Found.{Found}
-use Rattle.writer.specs.Source.{walkOf, movedTo, lengthsAt, recordsOf, endAt, stopOf, Good, nothing, splitBytes, SplitHere, foundBytes, Finds}
+use Rattle.writer.specs.Source.{walkOf, movedTo, lengthsAt, recordsOf, endAt, stopOf, GoodCursor, nothing, splitBytes, SplitHere, foundBytes, Finds}
 
 -- ---- what is left, by the source
 
@@ -57,7 +57,7 @@ image-stop c s = if-true _ _ _ s
 
 -- ---- where a file ends
 
-module _ (lengths bytes : List ℕ) (c : Cursor) (g : Good lengths bytes c) (e : stopOf c ≡ endAt lengths bytes c) where
+module _ (lengths bytes : List ℕ) (c : Cursor) (g : GoodCursor lengths bytes c) (e : stopOf c ≡ endAt lengths bytes c) where
   pub stop-fits : c .image ≡ true → length bytes < 18446744073709551616 → Fits w64 (c .at + c .left)
   stop-fits s h = let i = g .inside in let k = image-stop c s in omega arith
 
@@ -71,7 +71,7 @@ pub ruleset stops = (stop-fits, stop-image, stop-sheet, needs)
 
 -- ---- a record found
 
-module _ (lengths bytes : List ℕ) (c : Cursor) (g : Good lengths bytes c) where
+module _ (lengths bytes : List ℕ) (c : Cursor) (g : GoodCursor lengths bytes c) where
   none-found : recordsOf lengths bytes c ≡ [] → stopOf c ≡ endAt lengths bytes c → Finds lengths bytes c nothing
   none-found n o =
       record {
@@ -132,7 +132,7 @@ cut-part : (at n : ℕ) (bytes : List ℕ) → take n (drop at bytes) ≡ part a
 unfolding part
 cut-part at n bytes = refl
 
-module _ (lengths bytes : List ℕ) (c : Cursor) (g : Good lengths bytes c) (s : c .image ≡ false) where
+module _ (lengths bytes : List ℕ) (c : Cursor) (g : GoodCursor lengths bytes c) (s : c .image ≡ false) where
   pub listed-none : (r : Found) → c .left ≡ 0 → r ≡ nothing → Finds lengths bytes c r
   unfolding lengthsAt part cutBy sum
   listed-none r z q =
@@ -216,7 +216,7 @@ same-file s w m e =
 
 -- ---- the next record of an image
 
-module _ (lengths bytes : List ℕ) (c : Cursor) (g : Good lengths bytes c) (s : c .image ≡ true) (w : Walk) (k : w ≡ walkOf c) (m : Measured) (e : m ≡ measuredBy (recordAt bytes w)) where
+module _ (lengths bytes : List ℕ) (c : Cursor) (g : GoodCursor lengths bytes c) (s : c .image ≡ true) (w : Walk) (k : w ≡ walkOf c) (m : Measured) (e : m ≡ measuredBy (recordAt bytes w)) where
   measured-is : m ≡ measuredBy (recordAt bytes (walkOf c))
   measured-is = e ∙ ap (λ (v : Walk). measuredBy (recordAt bytes v)) k
 
@@ -266,7 +266,7 @@ module _ (lengths bytes : List ℕ) (c : Cursor) (g : Good lengths bytes c) (s :
 pub ruleset far = (far-none, far-whole, far-split, needs)
 
 -- where it stands whole in a block
-pub read-whole : (lengths bytes : List ℕ) (c : Cursor) (w v : Walk) (k word : ℕ) → Good lengths bytes c → c .image ≡ true → w ≡ walkOf c → v ≡ atBlock bytes w
+pub read-whole : (lengths bytes : List ℕ) (c : Cursor) (w v : Walk) (k word : ℕ) → GoodCursor lengths bytes c → c .image ≡ true → w ≡ walkOf c → v ≡ atBlock bytes w
     → k ≡ wholeAt bytes v → (k ≡ 0 → ⊥) → word ≡ wordOf (v .format)
     → Finds lengths bytes c (record { from = v .at + word; len = k - word; at = v .at + k; left = v .left - k; kind = 1 })
 read-whole lengths bytes c w v k word g s e h m z q =

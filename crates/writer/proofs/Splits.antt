@@ -6,7 +6,7 @@ use Prim.Native.Nat.{ℕ, _+_, _-_, _≤_, _<_}
 use native.Mathlib.Omega.{arith}
 use borrow.Author.Needs.{needs}
 use borrow.Author.Tests.{eqb-true, eqb-false}
-use mir.Val.{Fits as FitsIn}
+use mir.Val.{EndsWithin as FitsIn}
 use mir.Syntax.{w64}
 use lib.Dec.{eqb}
 use lib.ListN.{length, take, drop, length-append}
@@ -20,44 +20,44 @@ use Rattle.content.specs.declared.unit.Taken.{Taken}
 use Rattle.content.specs.declared.unit.Taken.the-variants.{One, Nothing}
 use Rattle.content.specs.declared.measuring.Measured.the-variants.{Split}
 use Rattle.content.proofs.Units.{inside-true}
-use Rattle.content.proofs.Rests.{Behind, next-behind, from-behind}
-use Rattle.content.proofs.Joins.{Splitting as First, Going}
+use Rattle.content.proofs.Rests.{UnitBehind, next-behind, from-behind}
+use Rattle.content.proofs.Joins.{PiecesLeft as First, JoinGoing}
 use Rattle.content.proofs.Records.{split-long, first-split, first-some, next-going, next-some}
-use Rattle.writing.specs.Pack.{going, Room}
-use Rattle.writing.specs.Lay.{Next}
+use Rattle.writing.specs.Pack.{going, RoomEach}
+use Rattle.writing.specs.Lay.{Sequel}
 use Rattle.writing.proofs.Packing.{by-test}
 use Rattle.writer.specs.declared.pen.Pen.{Pen}
 use Rattle.writer.specs.declared.pack.Flow.{Flow}
 use Rattle.writer.specs.declared.source.Cursor.{Cursor}
 use Rattle.writer.specs.declared.split.Segment.{Segment}
 use Rattle.writer.specs.Source.{walkOf, splitBytes, SplitHere}
-use Rattle.writer.specs.Segments.{behindOf, GoesOn, Segmented}
-use Rattle.writer.specs.Pass.{Job, Outcome, Fits, between, penned}
+use Rattle.writer.specs.Segments.{behindOf, HasRest, Segmented}
+use Rattle.writer.specs.Pass.{Job, PassEnd, EndsWithin, between, penned}
 use Rattle.writer.specs.Packs.{flowed, Packable, Packed}
 use Rattle.writer.specs.Records.{Splittable, Recorded}
 use Rattle.writer.proofs.Steps.{flowed-out}
-use Rattle.writer.proofs.Pieces.{reset, Splitting, pieces-in, pieces-same, pieces-out}
+use Rattle.writer.proofs.Pieces.{reset, PiecesLeft, pieces-in, pieces-same, pieces-out}
 use Rattle.writer.proofs.Records.{flow-over, flow-short}
 
 -- ---- the segments
 
-next-is : (s : List ℕ) (w : Walk) (i start n : ℕ) (v : Walk) → nextSegment s w ≡ One i start n v → Behind s w start n v
+next-is : (s : List ℕ) (w : Walk) (i start n : ℕ) (v : Walk) → nextSegment s w ≡ One i start n v → UnitBehind s w start n v
 unfolding nextSegment
 next-is s w i start n v =
-    if-case (λ (t : Taken). t ≡ One i start n v → Behind s w start n v) (isInside s w) (unitNext s w) Nothing (λ _ e. next-behind s w i start n v e)
+    if-case (λ (t : Taken). t ≡ One i start n v → UnitBehind s w start n v) (isInside s w) (unitNext s w) Nothing (λ _ e. next-behind s w i start n v e)
     (λ _ e. let z : _≡_ {A = ℕ} 0 1 = cc in absurd (omega arith))
 
-first-is : (s : List ℕ) (w : Walk) (i start n : ℕ) (v : Walk) → firstSegment s w ≡ One i start n v → Behind s w start n v
+first-is : (s : List ℕ) (w : Walk) (i start n : ℕ) (v : Walk) → firstSegment s w ≡ One i start n v → UnitBehind s w start n v
 unfolding firstSegment
 first-is s w i start n v =
-    if-case (λ (t : Taken). t ≡ One i start n v → Behind s w start n v) (isInside s w) (unitFrom s w) Nothing
+    if-case (λ (t : Taken). t ≡ One i start n v → UnitBehind s w start n v) (isInside s w) (unitFrom s w) Nothing
     (λ h e. from-behind s w i start n v (inside-true s w true (sym h) refl) e) (λ _ e. let z : _≡_ {A = ℕ} 0 1 = cc in absurd (omega arith))
 
 abbrev segment : ℕ → ℕ → Walk → Segment
 segment from len v = record { from = from; len = len; at = v .at; left = v .left }
 
 -- the walk behind a segment of the file of w is that of its numbers
-module _ (bytes : List ℕ) (c : Cursor) (w : Walk) (from len : ℕ) (v : Walk) (k : w .format ≡ c .format) (l : w .size ≡ c .size) (m : w .offset ≡ c .offset) (b : Behind bytes w from len v) where
+module _ (bytes : List ℕ) (c : Cursor) (w : Walk) (from len : ℕ) (v : Walk) (k : w .format ≡ c .format) (l : w .size ≡ c .size) (m : w .offset ≡ c .offset) (b : UnitBehind bytes w from len v) where
   same-walk : v ≡ behindOf c (segment from len v)
   same-walk = λ i. record { format = (b .format ∙ k) i; size = (b .size ∙ l) i; offset = (b .offset ∙ m) i; at = v .at; left = v .left }
 
@@ -80,7 +80,7 @@ module _ (bytes : List ℕ) (c : Cursor) (w : Walk) (from len : ℕ) (v : Walk) 
         is = e;
         within = b .within;
         inside = let i = b .inside in omega arith;
-        goes = λ _. subst (GoesOn bytes) same-walk (record { inside = b .inside; ended = h });
+        goes = λ _. subst (HasRest bytes) same-walk (record { inside = b .inside; ended = h });
         same = λ _. ap (bytesBehind bytes) same-walk;
       }
 
@@ -100,7 +100,7 @@ module _ (bytes : List ℕ) (c : Cursor) (n : ℕ) (h : SplitHere bytes c n) (w 
 
 pub ruleset firsts = (first-none, first-one, needs)
 
-module _ (bytes : List ℕ) (c : Cursor) (g : Segment) (h : GoesOn bytes (behindOf c g)) (t : Taken) (e : t ≡ nextSegment bytes (behindOf c g)) where
+module _ (bytes : List ℕ) (c : Cursor) (g : Segment) (h : HasRest bytes (behindOf c g)) (t : Taken) (e : t ≡ nextSegment bytes (behindOf c g)) where
   pub next-none : (r : Segment) → t ≡ Nothing → Segmented bytes c (bytesBehind bytes (behindOf c g)) r
   next-none r q = absurd (next-some bytes (behindOf c g) t (h .inside) (h .ended) e q)
 
@@ -108,10 +108,10 @@ module _ (bytes : List ℕ) (c : Cursor) (g : Segment) (h : GoesOn bytes (behind
   next-none-on r q = absurd (next-some bytes (behindOf c g) t (h .inside) (h .ended) e q)
 
   module _ (i from len : ℕ) (v : Walk) (q : t ≡ One i from len v) where
-    goes : Going bytes (behindOf c g) i from len v
+    goes : JoinGoing bytes (behindOf c g) i from len v
     goes = next-going bytes (behindOf c g) i from len v t (h .inside) (h .ended) e q
 
-    behind : Behind bytes (behindOf c g) from len v
+    behind : UnitBehind bytes (behindOf c g) from len v
     behind = next-is bytes (behindOf c g) i from len v (sym e ∙ q)
 
     pub next-one : Segmented bytes c (bytesBehind bytes (behindOf c g)) (record { from = from; len = len; at = v .at; left = v .left })
@@ -132,11 +132,11 @@ pub ruleset nexts = (next-none, next-none-on, next-one, next-one-on, needs)
 pub record Splits (lay : Bool) (f b : ℕ) (j : Job) (bytes : List ℕ) (c : Cursor) (p : Pen) (o : List ℕ) (g : Segment) (s : Flow) (q : List ℕ) : Type 0 where
   pub left : List ℕ
   pub segment : Segmented bytes c left g
-  pub splitting : Splitting lay f b j left s q
+  pub splitting : PiecesLeft lay f b j left s q
   pub on : s .on ≡ true
   pub kept : length q ≡ length o
   pub untouched : lay ≡ false → q ≡ o
-  pub same : (xs : List (List ℕ)) (next : Next) → Room f b xs
+  pub same : (xs : List (List ℕ)) (next : Sequel) → RoomEach f b xs
       → flowed lay f b j s q left xs next ≡ penned lay f b j p o (between (going 0 (splitBytes bytes c) xs)) next
 
 module _ (lay : Bool) (f b : ℕ) (j : Job) (bytes : List ℕ) (c : Cursor) (n : ℕ) (p : Pen) (o : List ℕ) (k : Splittable lay f b j bytes c n p o) where
@@ -150,7 +150,7 @@ module _ (lay : Bool) (f b : ℕ) (j : Job) (bytes : List ℕ) (c : Cursor) (n :
   unfolding splitBytes
   size = sym (split-long bytes (walkOf c) n (k .split .behind) (Split n (k .split .behind)) (k .split .is) refl)
 
-  flowed-first : (lay : Bool) (xs : List (List ℕ)) (next : Next)
+  flowed-first : (lay : Bool) (xs : List (List ℕ)) (next : Sequel)
       → flowed lay f b j first o (splitBytes bytes c) xs next ≡ penned lay f b j p o (between (going 0 (splitBytes bytes c) xs)) next
   flowed-first lay xs next = flowed-out lay f b j first o (splitBytes bytes c) xs next refl
 
@@ -185,7 +185,7 @@ module _ (lay : Bool) (f b : ℕ) (j : Job) (bytes : List ℕ) (c : Cursor) (n :
                     later = a .later;
                     next = a .next;
                     room = a .room;
-                    fits = subst (λ (u : Outcome). Fits u (length o)) (sym (flowed-first true (a .later) (a .next))) (a .fits);
+                    fits = subst (λ (u : PassEnd). EndsWithin u (length o)) (sym (flowed-first true (a .later) (a .next))) (a .fits);
                   };
             };
         on = refl;
@@ -216,8 +216,8 @@ module _ (lay : Bool) (f b : ℕ) (j : Job) (bytes : List ℕ) (c : Cursor) (p :
   all : x .left ≡ piece ++ rest
   all = x .segment .is ∙ ap (λ (l : List ℕ). l ++ rest) (sym (part-within (g .from) (g .len) bytes))
 
-  splitting : Splitting lay f b j (piece ++ rest) s q
-  splitting = subst (λ (l : List ℕ). Splitting lay f b j l s q) all (x .splitting)
+  splitting : PiecesLeft lay f b j (piece ++ rest) s q
+  splitting = subst (λ (l : List ℕ). PiecesLeft lay f b j l s q) all (x .splitting)
 
   pub splits-packable : Packable lay f b j piece s q
   splits-packable = pieces-in lay f b j piece rest s q splitting
@@ -247,10 +247,10 @@ module _ (lay : Bool) (f b : ℕ) (j : Job) (bytes : List ℕ) (c : Cursor) (p :
         }
 
     module _ (h : t .pen .short ≡ false) where
-      after : Splitting lay f b j rest (reset t) z
+      after : PiecesLeft lay f b j rest (reset t) z
       after = pieces-out lay f b j piece rest s q splitting z t y h
 
-      same-on : (xs : List (List ℕ)) (next : Next) → Room f b xs
+      same-on : (xs : List (List ℕ)) (next : Sequel) → RoomEach f b xs
           → flowed lay f b j (reset t) z rest xs next ≡ penned lay f b j p o (between (going 0 (splitBytes bytes c) xs)) next
       same-on xs next room =
           pieces-same lay f b j piece rest s q splitting z t y h xs next room
@@ -280,7 +280,7 @@ module _ (lay : Bool) (f b : ℕ) (j : Job) (bytes : List ℕ) (c : Cursor) (p :
         some : 0 < length rest
         some = let m : t .left ≡ length rest = after .size in omega arith
 
-        pub splits-goes : GoesOn bytes (behindOf c g)
+        pub splits-goes : HasRest bytes (behindOf c g)
         splits-goes = x .segment .goes some
 
         pub splits-more : (r : Segment) → Segmented bytes c (bytesBehind bytes (behindOf c g)) r → Splits lay f b j bytes c p o r (reset t) z
@@ -289,7 +289,7 @@ module _ (lay : Bool) (f b : ℕ) (j : Job) (bytes : List ℕ) (c : Cursor) (p :
             record {
               left = bytesBehind bytes (behindOf c g);
               segment = k;
-              splitting = subst (λ (l : List ℕ). Splitting lay f b j l (reset t) z) is after;
+              splitting = subst (λ (l : List ℕ). PiecesLeft lay f b j l (reset t) z) is after;
               on = refl;
               kept = splits-kept-on;
               untouched = untouched;

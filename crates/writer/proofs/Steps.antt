@@ -12,13 +12,13 @@ use Rattle.base.specs.If.{ifB, if-true, if-false}
 use Rattle.base.specs.Part.{part}
 use Rattle.base.proofs.Parts.{length-part}
 use Rattle.writing.specs.Pack.{Left, going, blocksLeft}
-use Rattle.writing.specs.Lay.{Next}
+use Rattle.writing.specs.Lay.{Sequel}
 use Rattle.writing.proofs.Packing.{segment-enters}
 use Rattle.writer.specs.declared.pen.Pen.{Pen}
 use Rattle.writer.specs.declared.pack.Flow.{Flow}
-use Rattle.writer.specs.Pass.{Job, inkAt, Outcome, ends, Fits, Due, between, within, fillDue, leftDue, penned}
+use Rattle.writer.specs.Pass.{Job, inkAt, PassEnd, ends, EndsWithin, UnitDue, between, within, fillDue, leftDue, penned}
 use Rattle.writer.specs.Pens.{Closable, Closes}
-use Rattle.writer.specs.Packs.{more, dueOf, flowed, Flowing, Goes, Steps, manyOf, spelled, Partable, Spelled, Settled}
+use Rattle.writer.specs.Packs.{more, dueOf, flowed, Flowing, FlowGoes, FlowsOn, manyOf, spelled, Partable, Spelled, Settled}
 use Rattle.writer.proofs.Passes.{ink-none, ink-length}
 use Rattle.writer.proofs.Dues.{some-fill, some-left, broken-fill, broken-left}
 use Rattle.writer.proofs.Blocks.{penned-unit, more-sound}
@@ -26,7 +26,7 @@ use Rattle.writer.proofs.Blocks.{penned-unit, more-sound}
 -- ---- steps, one after the other
 
 pub goes-goes : (lay : Bool) (f b : ℕ) (j : Job) (piece : List ℕ) (s : Flow) (o q : List ℕ) (r : Flow) (z : List ℕ) (v : Flow)
-    → Goes lay f b j piece s o q r → Goes lay f b j piece r q z v → Goes lay f b j piece s o z v
+    → FlowGoes lay f b j piece s o q r → FlowGoes lay f b j piece r q z v → FlowGoes lay f b j piece s o z v
 goes-goes lay f b j piece s o q r z v x y =
     record {
       sound = y .sound;
@@ -38,7 +38,7 @@ goes-goes lay f b j piece s o q r z v x y =
     }
 
 pub flowing-on : (lay : Bool) (f b : ℕ) (j : Job) (piece : List ℕ) (s : Flow) (o q : List ℕ) (r : Flow)
-    → Flowing lay f b j piece s o → Goes lay f b j piece s o q r → r .pen .short ≡ false → Flowing lay f b j piece r q
+    → Flowing lay f b j piece s o → FlowGoes lay f b j piece s o q r → r .pen .short ≡ false → Flowing lay f b j piece r q
 flowing-on lay f b j piece s o q r w x h =
     record {
       sound = x .sound;
@@ -50,14 +50,14 @@ flowing-on lay f b j piece s o q r w x h =
           let e : flowed true f b j r q (drop (r .from) piece ++ a .bytes) (a .later) (a .next) ≡ flowed true f b j s o (drop (s .from) piece ++ a .bytes) (a .later) (a .next)
           = subst (λ (t : Bool). flowed t f b j r q (drop (r .from) piece ++ a .bytes) (a .later) (a .next) ≡ flowed t f b j s o (drop (s .from) piece ++ a .bytes) (a .later) (a .next)) l
           (x .same (a .bytes) (a .later) (a .next) (a .size) (a .room)) in
-          let g : Fits (flowed true f b j r q (drop (r .from) piece ++ a .bytes) (a .later) (a .next)) (length o) = subst (λ (u : Outcome). Fits u (length o)) (sym e) (a .fits) in
+          let g : EndsWithin (flowed true f b j r q (drop (r .from) piece ++ a .bytes) (a .later) (a .next)) (length o) = subst (λ (u : PassEnd). EndsWithin u (length o)) (sym e) (a .fits) in
           record {
             bytes = a .bytes;
             later = a .later;
             next = a .next;
             size = x .total ∙ a .size;
             room = a .room;
-            fits = subst (Fits (flowed true f b j r q (drop (r .from) piece ++ a .bytes) (a .later) (a .next))) (sym (x .kept)) g;
+            fits = subst (EndsWithin (flowed true f b j r q (drop (r .from) piece ++ a .bytes) (a .later) (a .next))) (sym (x .kept)) g;
           };
     }
 
@@ -65,15 +65,15 @@ flowing-on lay f b j piece s o q r w x h =
 pub left-length : (piece zs : List ℕ) (left from : ℕ) → from ≤ length piece → left + from ≡ length piece + length zs → length (drop from piece ++ zs) ≡ left
 left-length piece zs left from h e = length-append (drop from piece) zs ∙ omega (arith, length-drop from piece)
 
-pub flowed-in : (lay : Bool) (f b : ℕ) (j : Job) (s : Flow) (o x : List ℕ) (xs : List (List ℕ)) (next : Next) → s .inside ≡ true
+pub flowed-in : (lay : Bool) (f b : ℕ) (j : Job) (s : Flow) (o x : List ℕ) (xs : List (List ℕ)) (next : Sequel) → s .inside ≡ true
     → flowed lay f b j s o x xs next ≡ penned lay f b j (s .pen) o (within (s .seg) x xs) next
 unfolding flowed dueOf
-flowed-in lay f b j s o x xs next h = ap (λ (d : Due). penned lay f b j (s .pen) o d next) (if-true _ _ _ h)
+flowed-in lay f b j s o x xs next h = ap (λ (d : UnitDue). penned lay f b j (s .pen) o d next) (if-true _ _ _ h)
 
-pub flowed-out : (lay : Bool) (f b : ℕ) (j : Job) (s : Flow) (o x : List ℕ) (xs : List (List ℕ)) (next : Next) → s .inside ≡ false
+pub flowed-out : (lay : Bool) (f b : ℕ) (j : Job) (s : Flow) (o x : List ℕ) (xs : List (List ℕ)) (next : Sequel) → s .inside ≡ false
     → flowed lay f b j s o x xs next ≡ penned lay f b j (s .pen) o (between (going (s .begun) x xs)) next
 unfolding flowed dueOf
-flowed-out lay f b j s o x xs next h = ap (λ (d : Due). penned lay f b j (s .pen) o d next) (if-false _ _ _ h)
+flowed-out lay f b j s o x xs next h = ap (λ (d : UnitDue). penned lay f b j (s .pen) o d next) (if-false _ _ _ h)
 
 -- ---- the end of a unit
 
@@ -85,14 +85,14 @@ record Ended (lay : Bool) (s : Flow) (o q : List ℕ) (r : Flow) : Type 0 where
   short : r .pen .short ≡ s .pen .short
   settled : Settled r
   out : r .inside ≡ false → 0 < r .left
-  goes : (f b : ℕ) (j : Job) (piece : List ℕ) → Flowing lay f b j piece s o → Goes lay f b j piece s o q r
+  goes : (f b : ℕ) (j : Job) (piece : List ℕ) → Flowing lay f b j piece s o → FlowGoes lay f b j piece s o q r
 
 -- s between units, with its block closed
 abbrev parted : Flow → Pen → Flow
 parted s p = record { pen = p; left = s .left; seg = 0; from = s .from; begun = 1; inside = false; on = s .on }
 
 module _ (lay : Bool) (s : Flow) (o : List ℕ) (inside : s .inside ≡ true) where
-  goes-none : (f b : ℕ) (j : Job) (piece : List ℕ) → Flowing lay f b j piece s o → Goes lay f b j piece s o o s
+  goes-none : (f b : ℕ) (j : Job) (piece : List ℕ) → Flowing lay f b j piece s o → FlowGoes lay f b j piece s o o s
   goes-none f b j piece w =
       record { sound = w .sound; kept = refl; untouched = λ _. refl; good = λ _. w .good; total = refl; same = λ zs xs next size room. refl }
 
@@ -103,7 +103,7 @@ module _ (lay : Bool) (s : Flow) (o : List ℕ) (inside : s .inside ≡ true) wh
   ended-in h = record { kept = refl; from = refl; on = refl; short = refl; settled = λ _ e. absurd (h e); out = λ e. absurd (false≢true (sym e ∙ inside)); goes = goes-none }
 
   module _ (none : s .seg ≡ 0) (some : 0 < s .left) (q : List ℕ) (p : Pen) (c : Closes lay (s .pen) o q p) where
-    part-same : (f b : ℕ) (j : Job) (x : List ℕ) (xs : List (List ℕ)) (next : Next) → length x ≡ s .left
+    part-same : (f b : ℕ) (j : Job) (x : List ℕ) (xs : List (List ℕ)) (next : Sequel) → length x ≡ s .left
         → flowed lay f b j (parted s p) q x xs next ≡ flowed lay f b j s o x xs next
     unfolding penned
     part-same f b j x xs next size =
@@ -117,7 +117,7 @@ module _ (lay : Bool) (s : Flow) (o : List ℕ) (inside : s .inside ≡ true) wh
         ∙ ap (λ (k : ℕ). penned lay f b j (s .pen) o (within k x xs) next) (sym none)
         ∙ sym (flowed-in lay f b j s o x xs next (inside))
       where
-        shut-due : (f b : ℕ) (j : Job) (x : List ℕ) (xs : List (List ℕ)) (next : Next)
+        shut-due : (f b : ℕ) (j : Job) (x : List ℕ) (xs : List (List ℕ)) (next : Sequel)
             → ends lay j p q (fillDue f b false (p .used) (between (going 1 x xs))) (blocksLeft f b (leftDue f b false (p .used) (between (going 1 x xs)))) next
             ≡ ends lay j p q [] (blocksLeft f b (going 1 x xs)) next
         shut-due f b j x xs next = unfold fillDue in unfold leftDue in unfold ifB in refl
@@ -158,7 +158,7 @@ module _ (lay : Bool) (s : Flow) (o : List ℕ) (inside : s .inside ≡ true) wh
 
 -- ---- bytes of the piece
 
-spelled-same : (lay : Bool) (f b : ℕ) (j : Job) (p : Pen) (o piece : List ℕ) (from k m : ℕ) (zs : List ℕ) (xs : List (List ℕ)) (next : Next)
+spelled-same : (lay : Bool) (f b : ℕ) (j : Job) (p : Pen) (o piece : List ℕ) (from k m : ℕ) (zs : List ℕ) (xs : List (List ℕ)) (next : Sequel)
     → p .on ≡ true → p .short ≡ false → m ≤ k → from + m ≤ length piece → k ≤ length (drop from piece ++ zs) → (lay ≡ true → p .at + 3 + p .used + m ≤ length o)
     → penned lay f b j (more p m) (inkAt lay o (p .at + 3 + p .used) (part from m piece)) (within (k - m) (drop (from + m) piece ++ zs) xs) next
     ≡ penned lay f b j p o (within k (drop from piece ++ zs) xs) next
@@ -208,10 +208,10 @@ module _ (lay : Bool) (piece : List ℕ) (s : Flow) (o : List ℕ) (y : Partable
         subst (λ (v : Flow). Closable lay (v .pen) (length q)) (sym (x .is))
         (record { used = omega (arith, y .fits); place = y .place; room = λ l _. let r = y .room l in omega (arith, spelled-kept) })
 
-    spelled-goes : (f b : ℕ) (j : Job) → Flowing lay f b j piece s o → Goes lay f b j piece s o q t
+    spelled-goes : (f b : ℕ) (j : Job) → Flowing lay f b j piece s o → FlowGoes lay f b j piece s o q t
     spelled-goes f b j w =
         let least : s .pen .used + s .seg ≤ b = w .good .fits (y .inside) in
-        subst (Goes lay f b j piece s o q) (sym (x .is))
+        subst (FlowGoes lay f b j piece s o q) (sym (x .is))
         (record {
           sound = more-sound j (s .pen) m (w .sound) (y .on) (omega (arith, y .fits));
           kept = spelled-kept;
@@ -243,7 +243,7 @@ module _ (lay : Bool) (piece : List ℕ) (s : Flow) (o : List ℕ) (y : Partable
     short-not : t .pen .short ≡ false
     short-not = ap (λ (u : Flow). u .pen .short) (x .is)
 
-    part-steps : (z : List ℕ) (r : Flow) → Ended lay t q z r → Steps lay piece s o z r
+    part-steps : (z : List ℕ) (r : Flow) → Ended lay t q z r → FlowsOn lay piece s o z r
     part-steps z r v =
         let from : r .from ≡ s .from + m = v .from ∙ ap (λ (u : Flow). u .from) (x .is) in
         record {
@@ -259,17 +259,17 @@ module _ (lay : Bool) (piece : List ℕ) (s : Flow) (o : List ℕ) (y : Partable
               (v .goes f b j piece (flowing-on lay f b j piece s o q t w (spelled-goes f b j w) short-not));
         }
 
-    pub part-over : t .left ≤ 0 → Steps lay piece s o q t
+    pub part-over : t .left ≤ 0 → FlowsOn lay piece s o q t
     part-over h = part-steps q t (ended-over lay t q spelled-inside h)
 
-    pub part-in : (t .seg ≡ 0 → ⊥) → Steps lay piece s o q t
+    pub part-in : (t .seg ≡ 0 → ⊥) → FlowsOn lay piece s o q t
     part-in h = part-steps q t (ended-in lay t q spelled-inside h)
 
     module _ (z : List ℕ) (p : Pen) (c : Closes lay (t .pen) q z p) where
       pub part-kept : length z ≡ length o
       part-kept = c .kept ∙ spelled-kept
 
-      pub part-closed : t .seg ≡ 0 → 0 < t .left → Steps lay piece s o z (parted t p)
+      pub part-closed : t .seg ≡ 0 → 0 < t .left → FlowsOn lay piece s o z (parted t p)
       part-closed none some = part-steps z (parted t p) (ended-part lay t q spelled-inside none some z p c)
 
 pub ruleset parting = (part-closable, spelled-kept, part-over, part-in, part-kept, part-closed, needs)

@@ -6,14 +6,14 @@ use Prim.Native.Nat.{ℕ, _+_, _≤_}
 use lib.ListN.{length}
 use Rattle.image.specs.Item.{encode}
 use Rattle.reading.specs.Legal.{formatFrom, blockLengthFrom}
-use Rattle.writing.specs.Pack.{finished, blocksOf, Room}
-use Rattle.writing.specs.Lay.{Reel, Laid, put, headers, Next, rest}
+use Rattle.writing.specs.Pack.{finished, blocksOf, RoomEach}
+use Rattle.writing.specs.Lay.{Reel, Laid, put, headers, Sequel, rest}
 use Rattle.writer.specs.declared.pen.Pen.{Pen}
 use Rattle.writer.specs.declared.source.Cursor.{Cursor}
 use Rattle.writer.specs.declared.body.Body.{Body}
-use Rattle.writer.specs.Pass.{Job, job, reelsAt, inkAt, Outcome, behind, laidFrom, Fits, Between, Sound, between, penned}
+use Rattle.writer.specs.Pass.{Job, job, reelsAt, inkAt, PassEnd, behind, laidFrom, EndsWithin, BetweenFiles, Sound, between, penned}
 use Rattle.writer.specs.Pens.{Closable}
-use Rattle.writer.specs.Source.{recordsOf, endAt, Good}
+use Rattle.writer.specs.Source.{recordsOf, endAt, GoodCursor}
 
 -- ---- the beginning
 
@@ -38,12 +38,12 @@ pub record Endable (lay : Bool) (p : Pen) (size : ℕ) : Type 0 where
 
 -- pen r is p behind the trailer labels of the file
 pub record Ends (lay : Bool) (set e : List ℕ) (sequence : ℕ) (p : Pen) (o q : List ℕ) (r : Pen) : Type 0 where
-  pub sound : (rooms names : List ℕ) → Sound (job set e sequence rooms names) p → sequence ≤ 64 → Between rooms names sequence r
+  pub sound : (rooms names : List ℕ) → Sound (job set e sequence rooms names) p → sequence ≤ 64 → BetweenFiles rooms names sequence r
   pub kept : length q ≡ length o
   pub untouched : lay ≡ false → q ≡ o
   pub shut : r .on ≡ false
   pub given : r .short ≡ false
-  pub same : (f b : ℕ) (rooms names : List ℕ) (next : Next) → p .short ≡ false
+  pub same : (f b : ℕ) (rooms names : List ℕ) (next : Sequel) → p .short ≡ false
       → laidFrom lay r q (next (r .room) (reelsAt rooms names (r .next))) ≡ penned lay f b (job set e sequence rooms names) p o (between finished) next
 
 -- the same behind the body of a file, unless a reel is lacking
@@ -59,40 +59,40 @@ pub record Tailed (lay : Bool) (set e : List ℕ) (sequence : ℕ) (x : Body) (o
 -- ---- the whole file
 
 -- a file with its labels, and then what follows
-unfoldable pub fileLaid : Job → ℕ → List Reel → List (List ℕ) → Next → Laid
+unfoldable pub fileLaid : Job → ℕ → List Reel → List (List ℕ) → Sequel → Laid
 fileLaid j room reels xs next =
     put (headers (j .set) (j .entry) 1 (j .sequence))
     (rest (j .set) (j .entry) (j .sequence) 1 0 room reels (blocksOf (formatFrom (j .entry)) (blockLengthFrom (j .entry)) xs) next)
 
 -- how the pass ends from a pen before the file on, with these records and then what follows
-unfoldable pub filedFrom : Bool → Job → Pen → List ℕ → List (List ℕ) → Next → Outcome
+unfoldable pub filedFrom : Bool → Job → Pen → List ℕ → List (List ℕ) → Sequel → PassEnd
 filedFrom lay j p o xs next = laidFrom lay p o (fileLaid j (p .room) (reelsAt (j .rooms) (j .names) (p .next)) xs next)
 
 -- how it ends from a pen behind the file on
-unfoldable pub nextFrom : Bool → List ℕ → List ℕ → Pen → List ℕ → Next → Outcome
+unfoldable pub nextFrom : Bool → List ℕ → List ℕ → Pen → List ℕ → Sequel → PassEnd
 nextFrom lay rooms names p o next = laidFrom lay p o (next (p .room) (reelsAt rooms names (p .next)))
 
 -- what follows the file, for which the buffer has room behind these records
-pub record Ahead (j : Job) (xs : List (List ℕ)) (p : Pen) (o : List ℕ) : Type 0 where
-  pub next : Next
-  pub fits : Fits (filedFrom true j p o xs next) (length o)
+pub record RoomForFile (j : Job) (xs : List (List ℕ)) (p : Pen) (o : List ℕ) : Type 0 where
+  pub next : Sequel
+  pub fits : EndsWithin (filedFrom true j p o xs next) (length o)
 
 -- a file can be laid, of which n are before it
 pub record FileReady (lay : Bool) (j : Job) (lengths bytes : List ℕ) (c : Cursor) (p : Pen) (o : List ℕ) : Type 0 where
   pub before : ℕ
   pub turn : before + 1 ≡ j .sequence
   pub few : j .sequence ≤ 64
-  pub sound : Between (j .rooms) (j .names) before p
+  pub sound : BetweenFiles (j .rooms) (j .names) before p
   pub given : p .short ≡ false
   pub most : blockLengthFrom (j .entry) ≤ 99999
-  pub good : Good lengths bytes c
-  pub room : Room (formatFrom (j .entry)) (blockLengthFrom (j .entry)) (recordsOf lengths bytes c)
-  pub ahead : lay ≡ true → Ahead j (recordsOf lengths bytes c) p o
+  pub good : GoodCursor lengths bytes c
+  pub room : RoomEach (formatFrom (j .entry)) (blockLengthFrom (j .entry)) (recordsOf lengths bytes c)
+  pub ahead : lay ≡ true → RoomForFile j (recordsOf lengths bytes c) p o
 
 -- it was laid; or a reel is lacking
 pub record FilePut (lay : Bool) (j : Job) (lengths bytes : List ℕ) (c : Cursor) (p : Pen) (o q : List ℕ) (r : Body) : Type 0 where
-  pub sound : r .pen .short ≡ false → Between (j .rooms) (j .names) (j .sequence) (r .pen)
+  pub sound : r .pen .short ≡ false → BetweenFiles (j .rooms) (j .names) (j .sequence) (r .pen)
   pub kept : length q ≡ length o
   pub untouched : lay ≡ false → q ≡ o
   pub end : r .pen .short ≡ false → r .end ≡ endAt lengths bytes c
-  pub same : (next : Next) → nextFrom lay (j .rooms) (j .names) (r .pen) q next ≡ filedFrom lay j p o (recordsOf lengths bytes c) next
+  pub same : (next : Sequel) → nextFrom lay (j .rooms) (j .names) (r .pen) q next ≡ filedFrom lay j p o (recordsOf lengths bytes c) next

@@ -8,11 +8,11 @@ use lib.ListN.{length, drop}
 use Rattle.base.specs.If.{ifB}
 use Rattle.base.specs.Part.{part}
 use Rattle.block.specs.Unit.{wordOf}
-use Rattle.writing.specs.Pack.{going, enters, taken, indicatorOf, controlWord, Room}
-use Rattle.writing.specs.Lay.{Next}
+use Rattle.writing.specs.Pack.{going, enters, taken, indicatorOf, controlWord, RoomEach}
+use Rattle.writing.specs.Lay.{Sequel}
 use Rattle.writer.specs.declared.pen.Pen.{Pen}
 use Rattle.writer.specs.declared.pack.Flow.{Flow}
-use Rattle.writer.specs.Pass.{Job, Outcome, Fits, Sound, inkAt, Due, between, within, penned}
+use Rattle.writer.specs.Pass.{Job, PassEnd, EndsWithin, Sound, inkAt, UnitDue, between, within, penned}
 
 -- ---- a block for a record
 
@@ -25,10 +25,10 @@ pub record Wanted (f b : ℕ) (j : Job) (n : ℕ) (p : Pen) (o : List ℕ) : Typ
   pub begun : ℕ
   pub first : List ℕ
   pub later : List (List ℕ)
-  pub next : Next
+  pub next : Sequel
   pub size : length first ≡ n
-  pub room : Room f b later
-  pub fits : Fits (penned true f b j p o (between (going begun first later)) next) (length o)
+  pub room : RoomEach f b later
+  pub fits : EndsWithin (penned true f b j p o (between (going begun first later)) next) (length o)
 
 pub record Wanting (lay : Bool) (f b : ℕ) (j : Job) (n : ℕ) (p : Pen) (o : List ℕ) : Type 0 where
   pub sound : Sound j p
@@ -44,7 +44,7 @@ pub record Blocked (lay : Bool) (f b : ℕ) (j : Job) (n : ℕ) (p : Pen) (o q :
   pub untouched : lay ≡ false → q ≡ o
   pub on : r .short ≡ false → r .on ≡ true
   pub room : r .short ≡ false → enters f b (r .used) n ≡ true
-  pub same : (t : ℕ) (x : List ℕ) (xs : List (List ℕ)) (next : Next) → length x ≡ n → Room f b xs
+  pub same : (t : ℕ) (x : List ℕ) (xs : List (List ℕ)) (next : Sequel) → length x ≡ n → RoomEach f b xs
       → penned lay f b j r q (between (going t x xs)) next ≡ penned lay f b j p o (between (going t x xs)) next
 
 -- pen p with n bytes more in its block
@@ -55,11 +55,11 @@ more p n =
 -- ---- a record, or pieces of one
 
 -- what is due: within a unit, of which k bytes are still to come, or between units; t is 1 where the record has a unit already
-unfoldable pub dueOf : Bool → ℕ → ℕ → List ℕ → List (List ℕ) → Due
+unfoldable pub dueOf : Bool → ℕ → ℕ → List ℕ → List (List ℕ) → UnitDue
 dueOf isIn k t x xs = ifB isIn (within k x xs) (between (going t x xs))
 
 -- how the pass ends where x is left of the record
-unfoldable pub flowed : Bool → ℕ → ℕ → Job → Flow → List ℕ → List ℕ → List (List ℕ) → Next → Outcome
+unfoldable pub flowed : Bool → ℕ → ℕ → Job → Flow → List ℕ → List ℕ → List (List ℕ) → Sequel → PassEnd
 flowed lay f b j s o x xs next = penned lay f b j (s .pen) o (dueOf (s .inside) (s .seg) (s .begun) x xs) next
 
 -- a unit that is over is the last of its record
@@ -67,7 +67,7 @@ abbrev pub Settled : Flow → Type 0
 Settled s = s .inside ≡ true → s .seg ≡ 0 → s .left ≡ 0
 
 -- the numbers of a flow in a piece of n bytes
-pub record Good (f b n : ℕ) (s : Flow) : Type 0 where
+pub record GoodFlow (f b n : ℕ) (s : Flow) : Type 0 where
   pub most : b ≤ 99999
   pub from : s .from ≤ n
   pub here : n ≤ s .left + s .from
@@ -82,36 +82,36 @@ pub record Good (f b n : ℕ) (s : Flow) : Type 0 where
 pub record Coming (f b : ℕ) (j : Job) (piece : List ℕ) (s : Flow) (o : List ℕ) : Type 0 where
   pub bytes : List ℕ
   pub later : List (List ℕ)
-  pub next : Next
+  pub next : Sequel
   pub size : s .left + s .from ≡ length piece + length bytes
-  pub room : Room f b later
-  pub fits : Fits (flowed true f b j s o (drop (s .from) piece ++ bytes) later next) (length o)
+  pub room : RoomEach f b later
+  pub fits : EndsWithin (flowed true f b j s o (drop (s .from) piece ++ bytes) later next) (length o)
 
 pub record Flowing (lay : Bool) (f b : ℕ) (j : Job) (piece : List ℕ) (s : Flow) (o : List ℕ) : Type 0 where
   pub sound : Sound j (s .pen)
   pub given : s .pen .short ≡ false
-  pub good : Good f b (length piece) s
+  pub good : GoodFlow f b (length piece) s
   pub ahead : lay ≡ true → Coming f b j piece s o
 
 -- from flow s and buffer o to flow r and buffer q, nothing is lost
-pub record Goes (lay : Bool) (f b : ℕ) (j : Job) (piece : List ℕ) (s : Flow) (o q : List ℕ) (r : Flow) : Type 0 where
+pub record FlowGoes (lay : Bool) (f b : ℕ) (j : Job) (piece : List ℕ) (s : Flow) (o q : List ℕ) (r : Flow) : Type 0 where
   pub sound : Sound j (r .pen)
   pub kept : length q ≡ length o
   pub untouched : lay ≡ false → q ≡ o
-  pub good : r .pen .short ≡ false → Good f b (length piece) r
+  pub good : r .pen .short ≡ false → GoodFlow f b (length piece) r
   pub total : r .left + r .from ≡ s .left + s .from
-  pub same : (zs : List ℕ) (xs : List (List ℕ)) (next : Next) → s .left + s .from ≡ length piece + length zs → Room f b xs
+  pub same : (zs : List ℕ) (xs : List (List ℕ)) (next : Sequel) → s .left + s .from ≡ length piece + length zs → RoomEach f b xs
       → flowed lay f b j r q (drop (r .from) piece ++ zs) xs next ≡ flowed lay f b j s o (drop (s .from) piece ++ zs) xs next
 
 -- a step whose code does not know the file: it goes, for whatever file
-pub record Steps (lay : Bool) (piece : List ℕ) (s : Flow) (o q : List ℕ) (r : Flow) : Type 0 where
+pub record FlowsOn (lay : Bool) (piece : List ℕ) (s : Flow) (o q : List ℕ) (r : Flow) : Type 0 where
   pub kept : length q ≡ length o
   pub from : r .from ≡ s .from + min (s .seg) (length piece - s .from)
   pub told : r .on ≡ ltb (r .from) (length piece)
   pub given : r .pen .short ≡ false
   pub settled : Settled r
   pub out : r .inside ≡ false → 0 < r .left
-  pub goes : (f b : ℕ) (j : Job) → Flowing lay f b j piece s o → Goes lay f b j piece s o q r
+  pub goes : (f b : ℕ) (j : Job) → Flowing lay f b j piece s o → FlowGoes lay f b j piece s o q r
 
 -- ---- a unit is begun
 
@@ -176,7 +176,7 @@ turnsIn f b n s = 3 * (n - s .from) + ifB (s .inside) 0 (ifB (entersOn f b (s .p
 
 -- a turn; the piece is over where r is off
 pub record Turns (lay : Bool) (f b : ℕ) (j : Job) (piece : List ℕ) (s : Flow) (o q : List ℕ) (r : Flow) : Type 0 where
-  pub goes : Goes lay f b j piece s o q r
+  pub goes : FlowGoes lay f b j piece s o q r
   pub given : r .on ≡ true → r .pen .short ≡ false
   pub settled : r .pen .short ≡ false → Settled r
   pub falls : r .on ≡ true → turnsIn f b (length piece) r < turnsIn f b (length piece) s
@@ -189,7 +189,7 @@ pub record Packable (lay : Bool) (f b : ℕ) (j : Job) (piece : List ℕ) (s : F
 
 -- all of the piece is packed, or a reel is lacking
 pub record Packed (lay : Bool) (f b : ℕ) (j : Job) (piece : List ℕ) (s : Flow) (o q : List ℕ) (r : Flow) : Type 0 where
-  pub goes : Goes lay f b j piece s o q r
+  pub goes : FlowGoes lay f b j piece s o q r
   pub settled : r .pen .short ≡ false → Settled r
   pub over : r .pen .short ≡ false → r .from ≡ length piece
   pub out : r .pen .short ≡ false → r .inside ≡ false → 0 < r .left

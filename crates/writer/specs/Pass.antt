@@ -14,7 +14,7 @@ use Rattle.image.specs.Framing.{head}
 use Rattle.label.specs.Made.{madeFirst, madeSecond}
 use Rattle.sheet.specs.Flat.{inParts}
 use Rattle.writing.specs.Pack.{Left, finished, going, startOf, fill, after, blocksLeft}
-use Rattle.writing.specs.Lay.{Reel, Laid, laid, short, Next, rest}
+use Rattle.writing.specs.Lay.{Reel, Laid, laid, short, Sequel, rest}
 use Rattle.writer.specs.declared.pen.Pen.{Pen}
 
 -- one more than the longest image
@@ -94,7 +94,7 @@ inked u cs (laid xs) = ink (u + length cs) (cs ++ encode xs)
 inked u cs short = lacks
 
 -- how a pass ends; where a reel is lacking, nothing is said of the buffer
-pub record Outcome : Type 0 where
+pub record PassEnd : Type 0 where
   pub out : List ℕ
   pub end : ℕ
   pub short : Bool
@@ -107,22 +107,22 @@ behind isOpen at u = ifB isOpen (at + 3 + u) at
 unfoldable pub inkedAt : Bool → ℕ → ℕ → List ℕ → ℕ → List ℕ → List ℕ
 inkedAt isOpen at u o n ys = ifB isOpen (putAt (putAt o (at + 3 + u) ys) at (three n)) (putAt o at ys)
 
-unfoldable pub outcome : Bool → Bool → ℕ → ℕ → List ℕ → Ink → Outcome
+unfoldable pub outcome : Bool → Bool → ℕ → ℕ → List ℕ → Ink → PassEnd
 outcome lay isOpen at u o (ink n ys) = record { out = ifB lay (inkedAt isOpen at u o n ys) o; end = behind isOpen at u + length ys; short = false }
 outcome lay isOpen at u o lacks = record { out = []; end = 0; short = true }
 
 -- ---- a pen
 
 -- the blocks bs from a pen between blocks on
-unfoldable pub restOf : Job → Pen → List (List ℕ) → Next → Laid
+unfoldable pub restOf : Job → Pen → List (List ℕ) → Sequel → Laid
 restOf j p bs next = rest (j .set) (j .entry) (j .sequence) (p .section) (p .count) (p .room) (reelsAt (j .rooms) (j .names) (p .next)) bs next
 
 -- how the pass ends if the open block still gets cs, and the blocks bs follow
-unfoldable pub ends : Bool → Job → Pen → List ℕ → List ℕ → List (List ℕ) → Next → Outcome
+unfoldable pub ends : Bool → Job → Pen → List ℕ → List ℕ → List (List ℕ) → Sequel → PassEnd
 ends lay j p o cs bs next = outcome lay (p .on) (p .at) (p .used) o (ifB (p .short) lacks (inked (p .used) cs (restOf j p bs next)))
 
 -- how the pass ends from a pen between files on, if l is still to be laid
-unfoldable pub laidFrom : Bool → Pen → List ℕ → Laid → Outcome
+unfoldable pub laidFrom : Bool → Pen → List ℕ → Laid → PassEnd
 laidFrom lay p o l = outcome lay false (p .at) 0 o (ifB (p .short) lacks (inked 0 [] l))
 
 -- how it ends from the very beginning on
@@ -130,15 +130,15 @@ unfoldable pub imaged : Laid → Ink
 imaged (laid xs) = ink 0 (head ++ encode xs)
 imaged short = lacks
 
-unfoldable pub imageFrom : Bool → List ℕ → Laid → Outcome
+unfoldable pub imageFrom : Bool → List ℕ → Laid → PassEnd
 imageFrom lay o l = outcome lay false 0 0 o (imaged l)
 
 -- ---- what is due of a file
 
 -- between units, what is left of the file; or within a unit, of which k bytes of x are still to come, and the records behind x
-pub data Due : Type 0 where
-  between : Left → Due
-  within : ℕ → List ℕ → List (List ℕ) → Due
+pub data UnitDue : Type 0 where
+  between : Left → UnitDue
+  within : ℕ → List ℕ → List (List ℕ) → UnitDue
 
 unfoldable pub fillOf : ℕ → ℕ → ℕ → Left → List ℕ
 fillOf f b u finished = []
@@ -149,23 +149,23 @@ afterOf f b u finished = finished
 afterOf f b u (going t x xs) = after f b u t x xs
 
 -- what the open block still gets, if one is open, and what is left behind it
-unfoldable pub fillDue : ℕ → ℕ → Bool → ℕ → Due → List ℕ
+unfoldable pub fillDue : ℕ → ℕ → Bool → ℕ → UnitDue → List ℕ
 fillDue f b isOpen u (between l) = ifB isOpen (fillOf f b u l) []
 fillDue f b isOpen u (within k x xs) = take k x ++ ifB (eqb k (length x)) (fillOf f b (u + k) (startOf xs)) []
 
-unfoldable pub leftDue : ℕ → ℕ → Bool → ℕ → Due → Left
+unfoldable pub leftDue : ℕ → ℕ → Bool → ℕ → UnitDue → Left
 leftDue f b isOpen u (between l) = ifB isOpen (afterOf f b u l) l
 leftDue f b isOpen u (within k x xs) = ifB (eqb k (length x)) (afterOf f b (u + k) (startOf xs)) (going 1 (drop k x) xs)
 
 -- how the pass ends from a pen on, with that due and then whatever follows the file
-unfoldable pub penned : Bool → ℕ → ℕ → Job → Pen → List ℕ → Due → Next → Outcome
+unfoldable pub penned : Bool → ℕ → ℕ → Job → Pen → List ℕ → UnitDue → Sequel → PassEnd
 penned lay f b j p o d next =
     ends lay j p o (fillDue f b (p .on) (p .used) d) (blocksLeft f b (leftDue f b (p .on) (p .used) d)) next
 
 -- ---- bounds
 
 -- a pass that lays has measured: it ends within the buffer
-pub record Fits (w : Outcome) (size : ℕ) : Type 0 where
+pub record EndsWithin (w : PassEnd) (size : ℕ) : Type 0 where
   pub given : w .short ≡ false
   pub within : w .end ≤ size
   pub most : w .end < overLong
@@ -184,8 +184,8 @@ pub record SoundAt (rooms names : List ℕ) (labels : ℕ) (p : Pen) : Type 0 wh
   pub on : p .on ≡ true → p .at + 100002 + 100002 * p .room ≤ 200000000000 * p .next + 1000 * labels
 
 -- those of a pen between files, of which n are laid, and of one in a file: each has a group before it and a group behind it
-abbrev pub Between : List ℕ → List ℕ → ℕ → Pen → Type 0
-Between rooms names n p = SoundAt rooms names (2 * n + 1) p
+abbrev pub BetweenFiles : List ℕ → List ℕ → ℕ → Pen → Type 0
+BetweenFiles rooms names n p = SoundAt rooms names (2 * n + 1) p
 
 abbrev pub Sound : Job → Pen → Type 0
 Sound j p = SoundAt (j .rooms) (j .names) (2 * j .sequence) p

@@ -6,12 +6,12 @@ use Prim.Native.Nat.{ℕ, _+_, _≤_}
 use lib.ListN.{length}
 use Rattle.base.specs.Part.{part}
 use Rattle.block.specs.Unit.{wordOf}
-use Rattle.writing.specs.Pack.{going, startOf, enters, taken, controlWord, Room}
-use Rattle.writing.specs.Lay.{Next}
+use Rattle.writing.specs.Pack.{going, startOf, enters, taken, controlWord, RoomEach}
+use Rattle.writing.specs.Lay.{Sequel}
 use Rattle.writer.specs.declared.pen.Pen.{Pen}
 use Rattle.writer.specs.declared.source.Cursor.{Cursor}
 use Rattle.writer.specs.Pens.{mostOf}
-use Rattle.writer.specs.Pass.{Job, Fits, Sound, inkAt, between, penned}
+use Rattle.writer.specs.Pass.{Job, EndsWithin, Sound, inkAt, between, penned}
 use Rattle.writer.specs.declared.record.Quick.{Quick}
 use Rattle.writer.specs.Packs.{entersOn, more, Wanting, Blocked}
 use Rattle.writer.specs.Source.{splitBytes, SplitHere}
@@ -44,11 +44,11 @@ pub record Wholed (lay : Bool) (f : ℕ) (bytes : List ℕ) (from n : ℕ) (p : 
   pub laid : q ≡ inkAt lay o (p .at + 3 + p .used) (controlWord f 0 n ++ part from n bytes)
 
 -- records and whatever follows the file, for which the buffer has room
-pub record Behind (f b : ℕ) (j : Job) (x : List ℕ) (p : Pen) (o : List ℕ) : Type 0 where
+pub record RoomBehind (f b : ℕ) (j : Job) (x : List ℕ) (p : Pen) (o : List ℕ) : Type 0 where
   pub later : List (List ℕ)
-  pub next : Next
-  pub room : Room f b later
-  pub fits : Fits (penned true f b j p o (between (going 0 x later)) next) (length o)
+  pub next : Sequel
+  pub room : RoomEach f b later
+  pub fits : EndsWithin (penned true f b j p o (between (going 0 x later)) next) (length o)
 
 pub record Recordable (lay : Bool) (f b : ℕ) (j : Job) (bytes : List ℕ) (from n : ℕ) (p : Pen) (o : List ℕ) : Type 0 where
   pub sound : Sound j p
@@ -56,14 +56,14 @@ pub record Recordable (lay : Bool) (f b : ℕ) (j : Job) (bytes : List ℕ) (fro
   pub most : b ≤ 99999
   pub inside : from + n ≤ length bytes
   pub enough : enters f b 0 n ≡ true
-  pub ahead : lay ≡ true → Behind f b j (part from n bytes) p o
+  pub ahead : lay ≡ true → RoomBehind f b j (part from n bytes) p o
 
 -- a record was packed; or a reel is lacking
 pub record Recorded (lay : Bool) (f b : ℕ) (j : Job) (x : List ℕ) (p : Pen) (o q : List ℕ) (r : Pen) : Type 0 where
   pub sound : Sound j r
   pub kept : length q ≡ length o
   pub untouched : lay ≡ false → q ≡ o
-  pub same : (xs : List (List ℕ)) (next : Next) → Room f b xs
+  pub same : (xs : List (List ℕ)) (next : Sequel) → RoomEach f b xs
       → penned lay f b j r q (between (startOf xs)) next ≡ penned lay f b j p o (between (going 0 x xs)) next
 
 -- a record of n bytes of some file
@@ -72,7 +72,7 @@ pub record Somewhere (lay : Bool) (f b n : ℕ) (p : Pen) (o : List ℕ) : Type 
   pub can : Wanting lay f b file n p o
 
 -- pen r is in a block which the record enters whole
-pub record Whole (lay : Bool) (f b : ℕ) (j : Job) (n : ℕ) (p : Pen) (o q : List ℕ) (r : Pen) : Type 0 where
+pub record EntersWhole (lay : Bool) (f b : ℕ) (j : Job) (n : ℕ) (p : Pen) (o q : List ℕ) (r : Pen) : Type 0 where
   pub blocked : Blocked lay f b j n p o q r
   pub given : r .short ≡ false
   pub whole : taken f b (r .used) n ≡ n
@@ -81,7 +81,7 @@ pub record Whole (lay : Bool) (f b : ℕ) (j : Job) (n : ℕ) (p : Pen) (o q : L
 pub record QuickBlock (lay : Bool) (f b n : ℕ) (p : Pen) (o q : List ℕ) (r : Quick) : Type 0 where
   pub kept : length q ≡ length o
   pub small : r .ok ≡ true → n ≤ mostOf f
-  pub yes : r .ok ≡ true → (j : Job) → Wanting lay f b j n p o → Whole lay f b j n p o q (r .pen)
+  pub yes : r .ok ≡ true → (j : Job) → Wanting lay f b j n p o → EntersWhole lay f b j n p o q (r .pen)
   pub no : r .ok ≡ false → q ≡ o
 
 -- ---- a record in several segments
@@ -93,4 +93,4 @@ pub record Splittable (lay : Bool) (f b : ℕ) (j : Job) (bytes : List ℕ) (c :
   pub most : b ≤ 99999
   pub split : SplitHere bytes c n
   pub enough : enters f b 0 n ≡ true
-  pub ahead : lay ≡ true → Behind f b j (splitBytes bytes c) p o
+  pub ahead : lay ≡ true → RoomBehind f b j (splitBytes bytes c) p o

@@ -17,7 +17,7 @@ abbrev pub behindOf : Cursor → Segment → Walk
 behindOf c g = walkOf (movedTo c (g .at) (g .left))
 
 -- a record goes on behind a walk, to its end
-pub record GoesOn (bytes : List ℕ) (w : Walk) : Type 0 where
+pub record HasRest (bytes : List ℕ) (w : Walk) : Type 0 where
   pub inside : Inside bytes w
   pub ended : isEnded (restAt bytes (w .size) w) ≡ true
 
@@ -27,5 +27,5 @@ pub record Segmented (bytes : List ℕ) (c : Cursor) (x : List ℕ) (g : Segment
   pub is : x ≡ part (g .from) (g .len) bytes ++ rest
   pub within : g .from + g .len ≤ length bytes
   pub inside : g .at ≤ length bytes
-  pub goes : 0 < length rest → GoesOn bytes (behindOf c g)
+  pub goes : 0 < length rest → HasRest bytes (behindOf c g)
   pub same : 0 < length rest → rest ≡ bytesBehind bytes (behindOf c g)

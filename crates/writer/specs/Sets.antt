@@ -25,7 +25,7 @@ use Rattle.writing.specs.Lay.{Laid, laid, layFiles, layOn}
 use Rattle.writer.specs.declared.pen.Pen.{Pen}
 use Rattle.writer.specs.declared.source.Cursor.{Cursor}
 use Rattle.writer.specs.declared.set.Place.{Place}
-use Rattle.writer.specs.Pass.{entryIn, sequenceIn, setIn, namesIn, reelsAt, Reels, laidFrom, imageFrom, Fits, Between}
+use Rattle.writer.specs.Pass.{entryIn, sequenceIn, setIn, namesIn, reelsAt, Reels, laidFrom, imageFrom, EndsWithin, BetweenFiles}
 
 -- where files come from: the entries and counts of a sheet, or an image
 pub data Origin : Type 0 where
@@ -53,15 +53,15 @@ pub record Listed (files counts lengths bytes : List ℕ) (g : Place) : Type 0 w
   pub inside : g .byte + sum (drop (g .first) lengths) ≡ length bytes
 
 -- a place is one among these files: in an image, the next file stands there, where there is one
-abbrev pub Stands : Origin → List ℕ → List ℕ → Place → Type 0
-Stands (listed files counts) lengths bytes g = Listed files counts lengths bytes g
-Stands read lengths bytes g = g .nth < length (content bytes .files) → Met bytes (At (g .file)) (drop (g .nth) (content bytes .files))
+abbrev pub StandsAmong : Origin → List ℕ → List ℕ → Place → Type 0
+StandsAmong (listed files counts) lengths bytes g = Listed files counts lengths bytes g
+StandsAmong read lengths bytes g = g .nth < length (content bytes .files) → Met bytes (At (g .file)) (drop (g .nth) (content bytes .files))
 
 -- a place among the files, from which on all of them are legal
-pub record Placed (from : Origin) (set lengths bytes : List ℕ) (g : Place) : Type 0 where
+pub record PlacedAmong (from : Origin) (set lengths bytes : List ℕ) (g : Place) : Type 0 where
   pub few : totalOf from bytes ≤ 64
   pub within : g .nth ≤ totalOf from bytes
-  pub stands : Stands from lengths bytes g
+  pub stands : StandsAmong from lengths bytes g
   pub legal : legalFiles set (filesAt from lengths bytes g) ≡ true
 
 -- ---- one file
@@ -92,7 +92,7 @@ pub record Enterable (image : Bool) (entries size : ℕ) (g : Place) : Type 0 wh
   pub second : image ≡ true → g .file .second + 80 ≤ size
 
 -- label parts with that entry and number, and otherwise as before
-pub record Entered (labels e : List ℕ) (n : ℕ) (r : List ℕ) : Type 0 where
+pub record LabelsEntered (labels e : List ℕ) (n : ℕ) (r : List ℕ) : Type 0 where
   pub entry : entryIn r ≡ e
   pub sequence : sequenceIn r ≡ n
   pub others : drop 47 r ≡ drop 47 labels
@@ -131,7 +131,7 @@ taskOf image files counts lengths bytes labels rooms =
     task (originOf image files counts) (setIn labels) lengths bytes rooms (namesIn (length rooms) labels)
 
 abbrev pub PlacedIn : Task → Place → Type 0
-PlacedIn t g = Placed (t .from) (t .set) (t .lengths) (t .bytes) g
+PlacedIn t g = PlacedAmong (t .from) (t .set) (t .lengths) (t .bytes) g
 
 -- the files from a place and a pen on
 unfoldable pub layAt : Task → Place → Pen → Laid
@@ -145,7 +145,7 @@ pub record Filing : Type 0 where
 -- files were laid from place g and pen p on, up to where x stands; or a reel is lacking
 pub record Filed (lay : Bool) (t : Task) (g : Place) (p : Pen) (o q : List ℕ) (x : Filing) : Type 0 where
   pub placed : x .pen .short ≡ false → PlacedIn t (x .place)
-  pub sound : x .pen .short ≡ false → Between (t .rooms) (t .names) (x .place .nth) (x .pen)
+  pub sound : x .pen .short ≡ false → BetweenFiles (t .rooms) (t .names) (x .place .nth) (x .pen)
   pub kept : length q ≡ length o
   pub untouched : lay ≡ false → q ≡ o
   pub enough : x .place .on ≡ true → x .pen .short ≡ false
@@ -157,9 +157,9 @@ pub record Filed (lay : Bool) (t : Task) (g : Place) (p : Pen) (o q : List ℕ) 
 pub record Fileable (lay : Bool) (t : Task) (g : Place) (p : Pen) (o : List ℕ) : Type 0 where
   pub placed : PlacedIn t g
   pub more : g .nth < totalOf (t .from) (t .bytes)
-  pub sound : Between (t .rooms) (t .names) (g .nth) p
+  pub sound : BetweenFiles (t .rooms) (t .names) (g .nth) p
   pub enough : p .short ≡ false
-  pub fits : lay ≡ true → Fits (laidFrom true p o (layAt t g p)) (length o)
+  pub fits : lay ≡ true → EndsWithin (laidFrom true p o (layAt t g p)) (length o)
 
 -- one file was laid
 pub record OneFiled (lay : Bool) (t : Task) (g : Place) (p : Pen) (o q : List ℕ) (x : Filing) : Type 0 where
@@ -217,7 +217,7 @@ setLaid t g = layOn (meaningAt t g) (reelsAt (t .rooms) (t .names) 0)
 -- the same, and where the pass lays, it ends within the buffer
 pub record SetReady (lay : Bool) (t : Task) (g : Place) (o : List ℕ) : Type 0 where
   pub writable : Writable t g
-  pub fits : lay ≡ true → Fits (imageFrom true o (setLaid t g)) (length o)
+  pub fits : lay ≡ true → EndsWithin (imageFrom true o (setLaid t g)) (length o)
 
 -- ---- a quota
 
@@ -228,7 +228,7 @@ sheetAt from set lengths bytes g quota names =
 
 -- what the writer asks of the files from the first on, the quota and the names
 pub record Ordered (from : Origin) (set lengths bytes : List ℕ) (g : Place) (quota : ℕ) (names : List ℕ) : Type 0 where
-  pub placed : Placed from set lengths bytes g
+  pub placed : PlacedAmong from set lengths bytes g
   pub first : g .nth ≡ 0
   pub on : g .on ≡ true
   pub some : g .nth < totalOf from bytes

@@ -43,7 +43,7 @@ unfoldable pub stopOf : Cursor → ℕ
 stopOf c = ifB (c .image) (c .at + c .left) (c .at)
 
 -- a cursor within its source
-pub record Good (lengths bytes : List ℕ) (c : Cursor) : Type 0 where
+pub record GoodCursor (lengths bytes : List ℕ) (c : Cursor) : Type 0 where
   pub order : c .image ≡ false → c .left ≤ c .stop
   pub within : c .image ≡ false → c .stop ≤ length lengths
   pub inside : endAt lengths bytes c ≤ length bytes
@@ -71,7 +71,7 @@ pub record Finds (lengths bytes : List ℕ) (c : Cursor) (r : Found) : Type 0 wh
   pub none : r .kind ≡ 0 → recordsOf lengths bytes c ≡ []
   pub over : r .kind ≡ 0 → stopOf c ≡ endAt lengths bytes c
   pub one : (r .kind ≡ 0 → ⊥) → recordsOf lengths bytes c ≡ foundBytes bytes c r ∷ recordsOf lengths bytes (movedTo c (r .at) (r .left))
-  pub good : (r .kind ≡ 0 → ⊥) → Good lengths bytes (movedTo c (r .at) (r .left))
+  pub good : (r .kind ≡ 0 → ⊥) → GoodCursor lengths bytes (movedTo c (r .at) (r .left))
   pub end : (r .kind ≡ 0 → ⊥) → endAt lengths bytes (movedTo c (r .at) (r .left)) ≡ endAt lengths bytes c
   pub inside : (r .kind ≡ 0 → ⊥) → (r .kind ≡ 2 → ⊥) → r .from + r .len ≤ length bytes
   pub split : r .kind ≡ 2 → SplitHere bytes c (r .len)

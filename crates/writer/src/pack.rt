@@ -4,7 +4,7 @@ ghost use mathlib.Core.Bool.{true};
 ghost use Prim.Native.Nat.{_+_, _≤_};
 ghost use lib.ListN.{length};
 ghost use Rattle.writer.specs.Pass.{jobOf};
-ghost use Rattle.writer.specs.Packs.{entersOn, more, Steps, Headable, Headed, Partable, Spelled, Turns, Packable, Packed};
+ghost use Rattle.writer.specs.Packs.{entersOn, more, FlowsOn, Headable, Headed, Partable, Spelled, Turns, Packable, Packed};
 use crate::item::Labels;
 use crate::lay::WORD;
 use crate::lay::put_digits;
@@ -112,7 +112,7 @@ fn spell(piece: &[u8], s: Flow, out: &mut [u8], lay: bool) -> Flow
 // Writes the bytes of the piece that belong to the open unit; where the unit is over and the record goes on, the block is closed.
 fn put_part(piece: &[u8], s: Flow, out: &mut [u8], lay: bool) -> Flow
     requires { ⌜ Partable lay (length (now piece)) s (length (now out)) ⌝ }
-    ensures { λ r. ⌜ Steps lay (now (piece .entry)) s (now (out .entry)) (now (out .exit)) r ⌝ }
+    ensures { λ r. ⌜ FlowsOn lay (now (piece .entry)) s (now (out .entry)) (now (out .exit)) r ⌝ }
 {
     let t = spell(piece, s, out, lay);
     if t.seg == 0 {

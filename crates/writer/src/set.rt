@@ -6,7 +6,7 @@ ghost use Prim.Native.Nat.{_+_, _≤_, _<_};
 ghost use lib.ListN.{length, getD};
 ghost use Rattle.base.specs.Part.{part};
 ghost use Rattle.writer.specs.Pass.{inkAt};
-ghost use Rattle.writer.specs.Sets.{Countable, cursorAt, Enterable, entryAt, Entered, behindFile, taskOf, Closing, Closed, headOf, firstPen, Sheeted, setLaid, SetReady};
+ghost use Rattle.writer.specs.Sets.{Countable, cursorAt, Enterable, entryAt, LabelsEntered, behindFile, taskOf, Closing, Closed, headOf, firstPen, Sheeted, setLaid, SetReady};
 use crate::file::put_file;
 use crate::item::ENTRY;
 use crate::item::Labels;
@@ -77,7 +77,7 @@ fn cursor_at(counts: &[u64], lengths: &[u64], image: bool, g: Place) -> Cursor
 // The label parts with the number and the entry of the file at a place: of an image, the fields of its first HDR1 and HDR2.
 fn entered(labels: Labels, files: &[u8], bytes: &[u8], image: bool, g: Place) -> Labels
     requires { ⌜ Enterable image (length (now files)) (length (now bytes)) g ⌝ }
-    ensures { λ r. ⌜ Entered labels (entryAt image (now (files .entry)) (now (bytes .entry)) g) (g .nth + 1) r ⌝ }
+    ensures { λ r. ⌜ LabelsEntered labels (entryAt image (now (files .entry)) (now (bytes .entry)) g) (g .nth + 1) r ⌝ }
 {
     let i = g.nth;
     let mut numbered = labels;

@@ -2,7 +2,7 @@
 // them holds a record, and nothing of blocks that are written.
 ghost use mathlib.Core.Path.{_≡_};
 ghost use mathlib.Core.Bool.{true};
-ghost use Rattle.writer.specs.Source.{walkOf, Good, stopOf, endAt, nothing, Finds};
+ghost use Rattle.writer.specs.Source.{walkOf, GoodCursor, stopOf, endAt, nothing, Finds};
 use crate::unit::wide;
 use block::word_of;
 use content::Measured;
@@ -67,7 +67,7 @@ fn nothing() -> Found
 
 // The next record of an image's file, behind padding or a change of reel, or in several segments.
 fn next_far(lengths: &[u64], bytes: &[u8], c: Cursor) -> Found
-    requires { ⌜ Good (now lengths) (now bytes) c ⌝ }
+    requires { ⌜ GoodCursor (now lengths) (now bytes) c ⌝ }
     requires { ⌜ c .image ≡ true ⌝ }
     ensures { λ r. ⌜ Finds (now (lengths .entry)) (now (bytes .entry)) c r ⌝ }
 {
@@ -92,7 +92,7 @@ fn next_far(lengths: &[u64], bytes: &[u8], c: Cursor) -> Found
 
 // The next record of an image's file, which most often stands whole in a block and then is told by one number.
 fn next_read(lengths: &[u64], bytes: &[u8], c: Cursor) -> Found
-    requires { ⌜ Good (now lengths) (now bytes) c ⌝ }
+    requires { ⌜ GoodCursor (now lengths) (now bytes) c ⌝ }
     requires { ⌜ c .image ≡ true ⌝ }
     ensures { λ r. ⌜ Finds (now (lengths .entry)) (now (bytes .entry)) c r ⌝ }
 {
@@ -113,7 +113,7 @@ fn next_read(lengths: &[u64], bytes: &[u8], c: Cursor) -> Found
 
 // The next record of a file: of an image, or of a sheet, whose lengths say where it ends.
 pub(crate) fn next(lengths: &[u64], bytes: &[u8], c: Cursor) -> Found
-    requires { ⌜ Good (now lengths) (now bytes) c ⌝ }
+    requires { ⌜ GoodCursor (now lengths) (now bytes) c ⌝ }
     ensures { λ r. ⌜ Finds (now (lengths .entry)) (now (bytes .entry)) c r ⌝ }
 {
     if c.image {
@@ -136,7 +136,7 @@ pub(crate) fn next(lengths: &[u64], bytes: &[u8], c: Cursor) -> Found
 
 // The place at which a file ends whose records are all found.
 pub(crate) fn stop_of(lengths: &[u64], bytes: &[u8], c: Cursor) -> usize
-    requires { ⌜ Good (now lengths) (now bytes) c ⌝ }
+    requires { ⌜ GoodCursor (now lengths) (now bytes) c ⌝ }
     requires { ⌜ stopOf c ≡ endAt (now lengths) (now bytes) c ⌝ }
     ensures { λ r. ⌜ r ≡ endAt (now (lengths .entry)) (now (bytes .entry)) c ⌝ }
 {

@@ -4,7 +4,7 @@ ghost use Rattle.content.specs.Measure.{bytesBehind};
 ghost use Rattle.writer.specs.Pass.{jobOf};
 ghost use Rattle.writer.specs.Records.{Splittable, Recorded};
 ghost use Rattle.writer.specs.Source.{splitBytes, SplitHere};
-ghost use Rattle.writer.specs.Segments.{behindOf, GoesOn, Segmented};
+ghost use Rattle.writer.specs.Segments.{behindOf, HasRest, Segmented};
 use crate::item::Labels;
 use crate::pack::Flow;
 use crate::pack::put_pieces;
@@ -47,7 +47,7 @@ fn first_of(bytes: &[u8], c: Cursor, n: usize) -> Segment
 
 // The segment behind another, where the record goes on.
 fn next_of(bytes: &[u8], c: Cursor, g: Segment) -> Segment
-    requires { ⌜ GoesOn (now bytes) (behindOf c g) ⌝ }
+    requires { ⌜ HasRest (now bytes) (behindOf c g) ⌝ }
     ensures { λ r. ⌜ Segmented (now (bytes .entry)) c (bytesBehind (now (bytes .entry)) (behindOf c g)) r ⌝ }
     ensures { λ r. ⌜ g .at < r .at ⌝ }
 {

@@ -41,7 +41,7 @@ use Rattle.writing.proofs.Acts.{at, OneSet, act-mark, act-reel-end, act
 -- ---- read to the end
 
 -- reading from s, with r reels ended, over these items ends and hands out these events; every item can stand in an image, and the framing is good
-pub record Read (s : State) (r : ℕ) (xs : List Item) (es : List Event) : Type 0 where
+pub record ReadTo (s : State) (r : ℕ) (xs : List Item) (es : List Event) : Type 0 where
   pub ends : runs s xs ≡ ended es
   pub whole : allItems xs ≡ true
   pub framed : (n : ℕ) (closed : Bool) → framedFrom n r closed xs ≡ verdict 0 0 0
@@ -54,7 +54,7 @@ not-full : (r : ℕ) → r < 16 → eqb r 16 ≡ false
 not-full r h = let other : r ≡ 16 → ⊥ = λ q. omega arith in ne-eqb r 16 other
 
 read-block : (s t : State) (r : ℕ) (c : List ℕ) (xs : List Item) (fs es : List Event) → step s (block c) ≡ go t fs → isItem (block c) ≡ true → r < 16
-    → Read t r xs es → Read s r (block c ∷ xs) (fs ++ es)
+    → ReadTo t r xs es → ReadTo s r (block c ∷ xs) (fs ++ es)
 unfolding allItems framedFrom
 read-block s t r c xs fs es e i h d =
     record {
@@ -63,7 +63,7 @@ read-block s t r c xs fs es e i h d =
       framed = λ n closed. if-false _ _ _ (not-full r h) ∙ d .framed (n + 1) false;
     }
 
-read-mark : (s t : State) (r : ℕ) (xs : List Item) (es : List Event) → step s mark ≡ go t [] → r < 16 → Read t r xs es → Read s r (mark ∷ xs) es
+read-mark : (s t : State) (r : ℕ) (xs : List Item) (es : List Event) → step s mark ≡ go t [] → r < 16 → ReadTo t r xs es → ReadTo s r (mark ∷ xs) es
 unfolding allItems isItem framedFrom
 read-mark s t r xs es e h d =
     record {
@@ -72,7 +72,7 @@ read-mark s t r xs es e h d =
       framed = λ n closed. if-false _ _ _ (not-full r h) ∙ d .framed (n + 1) false;
     }
 
-read-end : (s t : State) (r : ℕ) (xs : List Item) (es : List Event) → step s reelEnd ≡ go t [] → r < 16 → Read t (r + 1) xs es → Read s r (reelEnd ∷ xs) es
+read-end : (s t : State) (r : ℕ) (xs : List Item) (es : List Event) → step s reelEnd ≡ go t [] → r < 16 → ReadTo t (r + 1) xs es → ReadTo s r (reelEnd ∷ xs) es
 unfolding allItems isItem framedFrom
 read-end s t r xs es e h d =
     record {
@@ -87,14 +87,14 @@ label-item l h = and-true _ _ (le-leb 1 (length l) (omega arith)) (le-leb (lengt
 
 -- a label hands out nothing, or what it says
 pub read-label : (s t : State) (r : ℕ) (l : List ℕ) (xs : List Item) (fs es : List Event) → step s (block l) ≡ go t fs → length l ≡ 80 → r < 16
-    → Read t r xs es → Read s r (block l ∷ xs) (fs ++ es)
+    → ReadTo t r xs es → ReadTo s r (block l ∷ xs) (fs ++ es)
 read-label s t r l xs fs es e h m d = read-block s t r l xs fs es e (label-item l h) m d
 
 -- ---- what is laid
 
 -- whatever is laid from here is read to its end, and P holds of what it hands out
-abbrev pub Ends : State → ℕ → Laid → (List Event → Type 0) → Type 0
-Ends s r l P = (xs : List Item) → l ≡ laid xs → (es : List Event) × Read s r xs es × P es
+abbrev pub ReadToEnd : State → ℕ → Laid → (List Event → Type 0) → Type 0
+ReadToEnd s r l P = (xs : List Item) → l ≡ laid xs → (es : List Event) × ReadTo s r xs es × P es
 
 abbrev pub IsLaid : Laid → Type 0
 IsLaid (laid xs) = Unit {0}
@@ -106,19 +106,19 @@ itemsOf short = []
 
 -- a piece before the rest, which hands out `more` of what the rest hands out
 pub ends-put : (s t : State) (r q : ℕ) (ys : List Item) (l : Laid) (P Q : List Event → Type 0) (more : List Event → List Event)
-    → ((zs : List Item) (es : List Event) → Read t q zs es → Read s r (ys ++ zs) (more es)) → ((es : List Event) → Q es → P (more es))
-    → Ends t q l Q → Ends s r (put ys l) P
+    → ((zs : List Item) (es : List Event) → ReadTo t q zs es → ReadTo s r (ys ++ zs) (more es)) → ((es : List Event) → Q es → P (more es))
+    → ReadToEnd t q l Q → ReadToEnd s r (put ys l) P
 unfolding put
 ends-put s t r q ys (laid zs) P Q more k m h xs e =
     let (es, d, z) = h zs refl in
-    (more es, subst (λ (l : List Item). Read s r l (more es)) (ap itemsOf e) (k zs es d), m es z)
+    (more es, subst (λ (l : List Item). ReadTo s r l (more es)) (ap itemsOf e) (k zs es d), m es z)
 ends-put s t r q ys short P Q more k m h xs e = absurd (subst IsLaid (sym e) tt)
 
 -- the headers of a file's first section
 read-headers : (p : Phase) (names : List (List ℕ)) (files : ℕ) (f s : List ℕ) (c r : ℕ) (set e : List ℕ) (xs : List Item) (es : List Event)
     → isDue (dueAfter p dataBlock) ≡ false → dueAfter p (hdr 1) ≡ To FirstHeader → GoodFirst set e → GoodSecond e → OneSet files set f → files < 64 → r < 16
-    → Read (at Data names (suc files) false (madeFirst HDR1 set e 1 (suc files) 0) (madeSecond HDR2 e) 0 0) r xs es
-    → Read (at p names files false f s c 0) r (headers set e 1 (suc files) ++ xs) (begins (madeFirst HDR1 set e 1 (suc files) 0) (madeSecond HDR2 e) ∷ es)
+    → ReadTo (at Data names (suc files) false (madeFirst HDR1 set e 1 (suc files) 0) (madeSecond HDR2 e) 0 0) r xs es
+    → ReadTo (at p names files false f s c 0) r (headers set e 1 (suc files) ++ xs) (begins (madeFirst HDR1 set e 1 (suc files) 0) (madeSecond HDR2 e) ∷ es)
 unfolding headers dueAfter dues choose upToNine isKind ifB
 read-headers p names files f s c r set e xs es d h g k one few m z =
     let l : List ℕ = madeFirst HDR1 set e 1 (suc files) 0 in
@@ -130,8 +130,8 @@ read-headers p names files f s c r set e xs es d h g k one few m z =
 -- the end of a file
 read-file-end : (names : List (List ℕ)) (files : ℕ) (on : Bool) (set e : List ℕ) (a q c r : ℕ) (xs : List Item) (es : List Event)
     → GoodFirst set e → GoodSecond e → c < 1000000 → r < 16
-    → Read (at FileEnd names files false (madeFirst HDR1 set e a q 0) (madeSecond HDR2 e) c 0) r xs es
-    → Read (at Data names files on (madeFirst HDR1 set e a q 0) (madeSecond HDR2 e) c 0) r (fileEnd set e a q c ++ xs) es
+    → ReadTo (at FileEnd names files false (madeFirst HDR1 set e a q 0) (madeSecond HDR2 e) c 0) r xs es
+    → ReadTo (at Data names files on (madeFirst HDR1 set e a q 0) (madeSecond HDR2 e) c 0) r (fileEnd set e a q c ++ xs) es
 unfolding fileEnd dueAfter dues choose upToNine isKind ifB
 read-file-end names files on set e a q c r xs es g k h m z =
     let f : List ℕ = madeFirst HDR1 set e a q 0 in
@@ -145,8 +145,8 @@ read-file-end names files on set e a q c r xs es g k h m z =
 read-change : (names : List (List ℕ)) (files : ℕ) (on : Bool) (set e : List ℕ) (a q c o r : ℕ) (n : List ℕ) (xs : List Item) (es : List Event)
     → GoodFirst set e → GoodSecond e → c < 1000000 → a < 9999 → r + 1 < 16 → length names < 16
     → length n ≡ 6 → labelFault (vol 1) (madeVolume n) .number ≡ 0 → isAmong n names ≡ false
-    → Read (at Data (names ++ (n ∷ [])) files true (madeFirst HDR1 set e (suc a) q 0) (madeSecond HDR2 e) 0 o) (r + 1) xs es
-    → Read (at Data names files on (madeFirst HDR1 set e a q 0) (madeSecond HDR2 e) c o) r
+    → ReadTo (at Data (names ++ (n ∷ [])) files true (madeFirst HDR1 set e (suc a) q 0) (madeSecond HDR2 e) 0 o) (r + 1) xs es
+    → ReadTo (at Data names files on (madeFirst HDR1 set e a q 0) (madeSecond HDR2 e) c o) r
     (volumeEnd set e a q c ++ (block (madeVolume n) ∷ headers set e (suc a) q) ++ xs) (continues (madeFirst HDR1 set e (suc a) q 0) (madeSecond HDR2 e) ∷ es)
 unfolding volumeEnd headers dueAfter dues choose upToNine isKind ifB
 read-change names files on set e a q c o r n xs es g k h b m w i v u z =
@@ -182,11 +182,11 @@ pub record Usable (used : List (List ℕ)) (reels : List Reel) : Type 0 where
   pub rooms : Rooms reels
 
 -- the reels: r are ended, one is begun, and those that are left can be written
-pub record Reels (r : ℕ) (used : List (List ℕ)) (reels : List Reel) : Type 0 where
+pub record ReelsRead (r : ℕ) (used : List (List ℕ)) (reels : List Reel) : Type 0 where
   pub begun : suc r ≡ length used
   pub left : Usable used reels
 
-reel-few : (r : ℕ) (used : List (List ℕ)) (left : List Reel) → Reels r used left → r < 16
+reel-few : (r : ℕ) (used : List (List ℕ)) (left : List Reel) → ReelsRead r used left → r < 16
 reel-few r used left h = omega (arith, h .begun, h .left .few)
 
 -- a reel that is left
@@ -209,8 +209,8 @@ read-change-block : (names : List (List ℕ)) (files : ℕ) (on : Bool) (set e :
     (es : List Event) → GoodFirst set e → GoodSecond e → c < 1000000 → a < 9999 → r + 1 < 16 → length names < 16
     → length n ≡ 6 → labelFault (vol 1) (madeVolume n) .number ≡ 0 → isAmong n names ≡ false
     → Block (formatFrom e) (blockLengthFrom e) (recordLengthFrom e) o p b g
-    → Read (at Data (names ++ (n ∷ [])) files true (madeFirst HDR1 set e (suc a) q 0) (madeSecond HDR2 e) 1 p) (r + 1) xs es
-    → Read (at Data names files on (madeFirst HDR1 set e a q 0) (madeSecond HDR2 e) c o) r
+    → ReadTo (at Data (names ++ (n ∷ [])) files true (madeFirst HDR1 set e (suc a) q 0) (madeSecond HDR2 e) 1 p) (r + 1) xs es
+    → ReadTo (at Data names files on (madeFirst HDR1 set e a q 0) (madeSecond HDR2 e) c o) r
     (volumeEnd set e a q c ++ (block (madeVolume n) ∷ headers set e (suc a) q) ++ (block b ∷ []) ++ xs)
     (continues (madeFirst HDR1 set e (suc a) q 0) (madeSecond HDR2 e) ∷ holds b g ∷ es)
 unfolding volumeEnd headers
@@ -233,16 +233,16 @@ collects-block b g gs c es h =
     ap (onto g) h ∙ ap (λ (l : List Segment). record { segments = l; files = c .files }) (sym (append-assoc g (flat gs) (c .segments)))
 
 module _ (set e : List ℕ) (q : ℕ) (later : ℕ → List Reel → Laid) (d : Collected) (g : GoodFirst set e) (k : GoodSecond e)
-    (ends : (room r a c : ℕ) (used : List (List ℕ)) (left : List Reel) → Reels r used left → room ≤ 999999
-    → Ends (at FileEnd used q false (madeFirst HDR1 set e a q 0) (madeSecond HDR2 e) c 0) r (later room left) (Collects d)) where
+    (ends : (room r a c : ℕ) (used : List (List ℕ)) (left : List Reel) → ReelsRead r used left → room ≤ 999999
+    → ReadToEnd (at FileEnd used q false (madeFirst HDR1 set e a q 0) (madeSecond HDR2 e) c 0) r (later room left) (Collects d)) where
   -- whatever is laid behind the file, its blocks are read to its end
   rest-ends : (bs : List (List ℕ)) (gs : List (List Segment)) (a c room o r : ℕ) (on : Bool) (used : List (List ℕ)) (left : List Reel)
-      → Blocks (formatFrom e) (blockLengthFrom e) (recordLengthFrom e) o bs gs → Reels r used left → a ≤ length used → c + room ≤ 999999
-      → Ends (at Data used q on (madeFirst HDR1 set e a q 0) (madeSecond HDR2 e) c o) r (rest set e q a c room left bs later) (Collects (onto (flat gs) d))
+      → Blocks (formatFrom e) (blockLengthFrom e) (recordLengthFrom e) o bs gs → ReelsRead r used left → a ≤ length used → c + room ≤ 999999
+      → ReadToEnd (at Data used q on (madeFirst HDR1 set e a q 0) (madeSecond HDR2 e) c o) r (rest set e q a c room left bs later) (Collects (onto (flat gs) d))
   unfolding rest flat collect
   rest-ends [] [] a c room o r on used left h reels m w =
       let here : r < 16 = reel-few r used left reels in
-      subst (λ (n : ℕ). Ends (at Data used q on (madeFirst HDR1 set e a q 0) (madeSecond HDR2 e) c n) r (put (fileEnd set e a q c) (later room left)) (Collects d)) (sym h)
+      subst (λ (n : ℕ). ReadToEnd (at Data used q on (madeFirst HDR1 set e a q 0) (madeSecond HDR2 e) c n) r (put (fileEnd set e a q c) (later room left)) (Collects d)) (sym h)
       (ends-put _ _ r r (fileEnd set e a q c) (later room left) (Collects d) (Collects d) (λ es. es)
       (λ zs es z. read-file-end used q on set e a q c r zs es g k (omega arith) here z) (λ es z. z) (ends room r a c used left reels (omega arith)))
   rest-ends [] (x ∷ gs) a c room o r on used left h reels m w = absurd h
@@ -273,7 +273,7 @@ abbrev pub Files : List File → List Event → Type 0
 Files ds = Collects (record { segments = []; files = ds })
 
 -- the second mark and the end of the last reel
-read-last : (names : List (List ℕ)) (files : ℕ) (f s : List ℕ) (c r : ℕ) → r < 16 → Read (at FileEnd names files false f s c 0) r (mark ∷ reelEnd ∷ []) []
+read-last : (names : List (List ℕ)) (files : ℕ) (f s : List ℕ) (c r : ℕ) → r < 16 → ReadTo (at FileEnd names files false f s c 0) r (mark ∷ reelEnd ∷ []) []
 unfolding dueAfter dues choose upToNine isKind ifB
 read-last names files f s c r h =
     read-mark _ _ r (reelEnd ∷ []) [] (act-mark FileEnd SetClosed names files false f s c 0 refl) h
@@ -282,7 +282,7 @@ read-last names files f s c r h =
     over : (t : State) → t .phase ≡ Over → runs t [] ≡ ended []
     over t p = unfold runs isDue in if-true _ _ _ (ap (λ (z : Phase). isDue (dueAfter z endOfImage)) p)
 
-    closing : (s t : State) (r : ℕ) → t .phase ≡ Over → step s reelEnd ≡ go t [] → r < 16 → Read s r (reelEnd ∷ []) []
+    closing : (s t : State) (r : ℕ) → t .phase ≡ Over → step s reelEnd ≡ go t [] → r < 16 → ReadTo s r (reelEnd ∷ []) []
     closing s t r p e h = unfold framedFrom allItems isItem in record {
       ends = run-on s t reelEnd [] [] [] e (over t p);
       whole = refl;
@@ -324,11 +324,11 @@ module _ (set : List ℕ) where
   pub file-ends : (d : File) (ds : List File) (p : Phase) (files room r c : ℕ) (used : List (List ℕ)) (left : List Reel) (f s : List ℕ)
       → isDue (dueAfter p dataBlock) ≡ false → dueAfter p (hdr 1) ≡ To FirstHeader → OneSet files set f → files < 64
       → legalEntry set (d .fields) ≡ true → legalRecords (formatFrom (d .fields)) (recordLengthFrom (d .fields)) (d .records) ≡ true
-      → Reels r used left → room ≤ 999999
-      → ((room r a c : ℕ) (used : List (List ℕ)) (left : List Reel) → Reels r used left → room ≤ 999999
-      → Ends (at FileEnd used (suc files) false (madeFirst HDR1 set (d .fields) a (suc files) 0) (madeSecond HDR2 (d .fields)) c 0) r
+      → ReelsRead r used left → room ≤ 999999
+      → ((room r a c : ℕ) (used : List (List ℕ)) (left : List Reel) → ReelsRead r used left → room ≤ 999999
+      → ReadToEnd (at FileEnd used (suc files) false (madeFirst HDR1 set (d .fields) a (suc files) 0) (madeSecond HDR2 (d .fields)) c 0) r
       (layFiles set (suc (suc files)) room left ds) (Files ds))
-      → Ends (at p used files false f s c 0) r (layFiles set (suc files) room left (d ∷ ds)) (λ es. Files (d ∷ ds) es × (setFrom es ≡ set))
+      → ReadToEnd (at p used files false f s c 0) r (layFiles set (suc files) room left (d ∷ ds)) (λ es. Files (d ∷ ds) es × (setFrom es ≡ set))
   unfolding layFiles setFrom
   file-ends d ds p files room r c used left f s due first one few legal records reels h later =
       let e : List ℕ = d .fields in
@@ -347,12 +347,12 @@ module _ (set : List ℕ) where
 
   -- the files behind one that is ended
   pub files-end : (ds : List File) (files room r c : ℕ) (used : List (List ℕ)) (left : List Reel) (f s : List ℕ) → OneSet files set f → files + length ds ≤ 64
-      → legalFiles set ds ≡ true → Reels r used left → room ≤ 999999
-      → Ends (at FileEnd used files false f s c 0) r (layFiles set (suc files) room left ds) (Files ds)
+      → legalFiles set ds ≡ true → ReelsRead r used left → room ≤ 999999
+      → ReadToEnd (at FileEnd used files false f s c 0) r (layFiles set (suc files) room left ds) (Files ds)
   unfolding layFiles collect dueAfter dues choose isDue isKind ifB
   files-end [] files room r c used left f s one few legal reels h = λ xs z. (
     [],
-    subst (λ (l : List Item). Read (at FileEnd used files false f s c 0) r l []) (ap itemsOf z) (read-last used files f s c r (reel-few r used left reels)),
+    subst (λ (l : List Item). ReadTo (at FileEnd used files false f s c 0) r l []) (ap itemsOf z) (read-last used files f s c r (reel-few r used left reels)),
     refl,
   )
   files-end (d ∷ ds) files room r c used left f s one few legal reels h =

@@ -22,10 +22,10 @@ use Rattle.block.proofs.Units.{unit-stands}
 use Rattle.block.proofs.Cuts.{cut-end}
 use Rattle.volume.specs.Meaning.{onFirst, joined}
 use Rattle.reading.specs.Legal.{legalRecord, legalRecords}
-use Rattle.writing.specs.Pack.{enters, taken, indicatorOf, Left, finished, going, startOf, unitIn, fill, after, weights, weight, blocksF, blocksLeft, blocksOf, Room, RoomLeft}
-use Rattle.writing.proofs.Packing.{by-test, Entered, entered, segment-enters, whole-enters, segmentIn, segmentsFrom, Said, Ways, by-ways, after-lighter}
+use Rattle.writing.specs.Pack.{enters, taken, indicatorOf, Left, finished, going, startOf, unitIn, fill, after, weights, weight, blocksF, blocksLeft, blocksOf, RoomEach, RoomEachLeft}
+use Rattle.writing.proofs.Packing.{by-test, Entered, entered, segment-enters, whole-enters, segmentIn, segmentsFrom, UnitSaid, Ways, by-ways, after-lighter}
 use Rattle.block.proofs.Wholes.{word-fixed, word-variable}
-use Rattle.writing.proofs.Units.{Format, isF, isD, isS, Ready, fresh, begun, both, legal-F, legal-D, legal-S, length-taken, length-unit, cut-back}
+use Rattle.writing.proofs.Units.{Format, isF, isD, isS, UnitReady, fresh, begun, both, legal-F, legal-D, legal-S, length-taken, length-unit, cut-back}
 
 -- ---- turns
 
@@ -88,7 +88,7 @@ unfolding indicatorOf
 indicator-3 t k n e h = let one : t ≡ 0 → ⊥ = λ q. omega arith in sym (if-true _ _ _ (eq-eqb k n h) ∙ if-false _ _ _ (ne-eqb t 0 one))
 
 -- a record that ends in this block
-ends-here : (f r t o k : ℕ) (head : Bool) (x : List ℕ) → Format f → Ready f r t o head x → k ≡ length x
+ends-here : (f r t o k : ℕ) (head : Bool) (x : List ℕ) → Format f → UnitReady f r t o head x → k ≡ length x
     → Turned r o 0 head (indicatorOf t k (length x)) k
 ends-here f r t o k head x form (fresh z q h) e =
     let most : length x ≤ r = legal-most f r x form h in
@@ -101,11 +101,11 @@ ends-here f r t o k head x form (begun z _ s m q) e =
 -- what is left, with o open
 abbrev pub Open : ℕ → ℕ → ℕ → Left → Type 0
 Open f r o finished = o ≡ 0
-Open f r o (going t x xs) = Ready f r t o true x × (legalRecords f r xs ≡ true)
+Open f r o (going t x xs) = UnitReady f r t o true x × (legalRecords f r xs ≡ true)
 
 -- a record that goes on in the next block
-goes-on : (f r t o k : ℕ) (head : Bool) (x : List ℕ) → Format f → Ready f r t o head x → f ≡ 83 → k ≤ length x → (k ≡ length x → ⊥)
-    → (p : ℕ) × Turned r o p head (indicatorOf t k (length x)) k × Ready f r 1 p true (drop k x)
+goes-on : (f r t o k : ℕ) (head : Bool) (x : List ℕ) → Format f → UnitReady f r t o head x → f ≡ 83 → k ≤ length x → (k ≡ length x → ⊥)
+    → (p : ℕ) × Turned r o p head (indicatorOf t k (length x)) k × UnitReady f r 1 p true (drop k x)
 goes-on f r t o k head x form (fresh z q h) e m d =
     let most : length x ≤ r = legal-most f r x form h in
     let rest : k + 1 - 1 + length (drop k x) ≤ r = simp length-drop (omega arith) in (
@@ -130,7 +130,7 @@ cut-nothing f r = cut-end f r [] (no-unit (unitOf f r []) refl) ∙ all
     no-unit (Of i w n) e = let c = unit-stands f r [] i w n e in absurd (omega arith)
     no-unit None e = e
 
-ready-first : (f r t o : ℕ) (head : Bool) (x : List ℕ) → Ready f r t o head x → Ready f r t o true x
+ready-first : (f r t o : ℕ) (head : Bool) (x : List ℕ) → UnitReady f r t o head x → UnitReady f r t o true x
 ready-first f r t o head x (fresh z q h) = fresh z q h
 ready-first f r t o head x (begun z e s m q) = begun z e s m refl
 
@@ -142,11 +142,11 @@ record Filled (f b r u o : ℕ) (head : Bool) (c : List ℕ) (l : Left) (g : Lis
   turns : turnsFrom r o head g ≡ outcome 0 opens
   left : Open f r opens l
 
-abbrev Fills : ℕ → ℕ → ℕ → Said
-Fills f b r u t x xs c l g = (o : ℕ) (head : Bool) → Ready f r t o head x → legalRecords f r xs ≡ true → u ≤ b → Filled f b r u o head c l g
+abbrev Fills : ℕ → ℕ → ℕ → UnitSaid
+Fills f b r u t x xs c l g = (o : ℕ) (head : Bool) → UnitReady f r t o head x → legalRecords f r xs ≡ true → u ≤ b → Filled f b r u o head c l g
 
 -- the one segment of a unit that closes the block
-cut-one : (f b r u t o : ℕ) (head : Bool) (x : List ℕ) → Format f → Ready f r t o head x → enters f b u (length x) ≡ true
+cut-one : (f b r u t o : ℕ) (head : Bool) (x : List ℕ) → Format f → UnitReady f r t o head x → enters f b u (length x) ≡ true
     → cut f r (unitIn f b u t x) ≡ some (segmentIn f b u t x ∷ [])
 unfolding onto
 cut-one f b r u t o head x form ready e =
@@ -243,7 +243,7 @@ joined-on t k n bs more d =
     ap (λ (j : ℕ). joined (segmentOf j bs ∷ more)) i
     ∙ by-test (eqb t 0) (λ z. ap (λ (j : ℕ). joined (segmentOf j bs ∷ more)) (if-true _ _ _ z)) (λ z. ap (λ (j : ℕ). joined (segmentOf j bs ∷ more)) (if-false _ _ _ z))
 
-abbrev Joins : Said
+abbrev Joins : UnitSaid
 Joins u t x xs c l g = (more : List Segment) → joined more ≡ remaining l → joined (g ++ more) ≡ x ∷ xs
 
 joins : (f b : ℕ) → Ways f b Joins
@@ -265,7 +265,7 @@ joins f b =
     whole f b u x k = let long : length x ≤ taken f b u (length x) = omega arith in take-all (taken f b u (length x)) x long
 
 -- a block that a unit enters has a unit
-abbrev Some : ℕ → ℕ → Said
+abbrev Some : ℕ → ℕ → UnitSaid
 Some f b u t x xs c l g = enters f b u (length x) ≡ true → someUnits (some g) ≡ some g
 
 somes : (f b : ℕ) → Ways f b (Some f b)
@@ -307,12 +307,12 @@ legal-enters f b r x (isD e) s h =
     whole-enters f b (length x) (ne-eqb f 83 other) (omega (arith, word-variable f e))
 legal-enters f b r x (isS e) s h = segment-enters f b (length x) e (suited-S f b r e s)
 
-ready-enters : (f b r t o : ℕ) (head : Bool) (x : List ℕ) → Suited f b r → Ready f r t o head x → enters f b 0 (length x) ≡ true
+ready-enters : (f b r t o : ℕ) (head : Bool) (x : List ℕ) → Suited f b r → UnitReady f r t o head x → enters f b 0 (length x) ≡ true
 ready-enters f b r t o head x s (fresh _ _ h) = legal-enters f b r x (s .format) (s .lengths) h
 ready-enters f b r t o head x s (begun _ e _ _ _) = segment-enters f b (length x) e (suited-S f b r e (s .lengths))
 
 -- legal records have room
-pub legal-room : (f b r : ℕ) (xs : List (List ℕ)) → Suited f b r → legalRecords f r xs ≡ true → Room f b xs
+pub legal-room : (f b r : ℕ) (xs : List (List ℕ)) → Suited f b r → legalRecords f r xs ≡ true → RoomEach f b xs
 legal-room f b r [] s h = tt
 legal-room f b r (x ∷ xs) s h =
     legal-next f r x xs h (λ here rest. (legal-enters f b r x (s .format) (s .lengths) here, legal-room f b r xs s rest))
@@ -346,7 +346,7 @@ Absent (some g) = ⊥
 unequal : (g : List Segment) → none ≡ some g → ⊥
 unequal g e = subst Absent e tt
 
-first-block : (f b r t o : ℕ) (x : List ℕ) (xs : List (List ℕ)) → Suited f b r → Ready f r t o true x → legalRecords f r xs ≡ true
+first-block : (f b r t o : ℕ) (x : List ℕ) (xs : List (List ℕ)) → Suited f b r → UnitReady f r t o true x → legalRecords f r xs ≡ true
     → (p : ℕ) × Block f b r o p (fill f b 0 t x xs) (segmentsFrom f b 0 t x xs) × Open f r p (after f b 0 t x xs)
 unfolding units isItem
 first-block f b r t o x xs s ready legal =
@@ -372,7 +372,7 @@ first-block f b r t o x xs s ready legal =
         nothing = unfold someUnits in refl
     some-bytes f r (y ∷ c) g e q = omega arith
 
-open-room : (f b r o : ℕ) (l : Left) → Suited f b r → Open f r o l → RoomLeft f b l
+open-room : (f b r o : ℕ) (l : Left) → Suited f b r → Open f r o l → RoomEachLeft f b l
 open-room f b r o finished s h = tt
 open-room f b r o (going t x xs) s h = (ready-enters f b r t o true x s (h .0), legal-room f b r xs s (h .1))
 

@@ -12,7 +12,7 @@ use Rattle.base.specs.If.{ifB, if-true, if-false}
 use Rattle.block.specs.Cut.{Segment, segmentOf}
 use Rattle.block.specs.Unit.{wordOf}
 use Rattle.block.proofs.Wholes.{word-segmented}
-use Rattle.writing.specs.Pack.{enters, taken, indicatorOf, Left, finished, going, unitIn, fill, after, weights, weight, blocksF, blocksLeft, Room, RoomLeft}
+use Rattle.writing.specs.Pack.{enters, taken, indicatorOf, Left, finished, going, unitIn, fill, after, weights, weight, blocksF, blocksLeft, RoomEach, RoomEachLeft}
 
 -- a proof by the two values of a test
 pub by-test {ℓ} : {A : Type ℓ} (t : Bool) → (t ≡ true → A) → (t ≡ false → A) → A
@@ -108,11 +108,11 @@ segmentsFrom f b u t x (y ∷ ys) =
     []
 
 -- what is said of the bytes that the open block still gets, of what is left behind it, and of its segments
-abbrev pub Said : Type 1
-Said = ℕ → ℕ → List ℕ → List (List ℕ) → List ℕ → Left → List Segment → Type 0
+abbrev pub UnitSaid : Type 1
+UnitSaid = ℕ → ℕ → List ℕ → List (List ℕ) → List ℕ → Left → List Segment → Type 0
 
 -- the four ways: the record does not enter; its segment closes the block; it was the last; the next record follows
-pub record Ways (f b : ℕ) (P : Said) : Type 0 where
+pub record Ways (f b : ℕ) (P : UnitSaid) : Type 0 where
   pub full : (u t : ℕ) (x : List ℕ) (xs : List (List ℕ)) → enters f b u (length x) ≡ false → P u t x xs [] (going t x xs) []
   pub broken : (u t : ℕ) (x : List ℕ) (xs : List (List ℕ)) → enters f b u (length x) ≡ true → (taken f b u (length x) ≡ length x → ⊥)
       → P u t x xs (unitIn f b u t x) (going 1 (drop (taken f b u (length x)) x) xs) (segmentIn f b u t x ∷ [])
@@ -123,12 +123,12 @@ pub record Ways (f b : ℕ) (P : Said) : Type 0 where
       → P (u + length (unitIn f b u t x)) 0 y ys c l g → P u t x (y ∷ ys) (unitIn f b u t x ++ c) l (segmentIn f b u t x ∷ g)
 
 -- three equations carry what is said over
-over : (P : Said) (u t : ℕ) (x : List ℕ) (xs : List (List ℕ)) {c d : List ℕ} {l m : Left} {g h : List Segment}
+over : (P : UnitSaid) (u t : ℕ) (x : List ℕ) (xs : List (List ℕ)) {c d : List ℕ} {l m : Left} {g h : List Segment}
     → c ≡ d → l ≡ m → g ≡ h → P u t x xs d m h → P u t x xs c l g
 over P u t x xs {c} {d} {l} {m} {g} {h} p q r z =
     subst (λ (e : List ℕ). P u t x xs e l g) (sym p) (subst (λ (e : Left). P u t x xs d e g) (sym q) (subst (P u t x xs d m) (sym r) z))
 
-pub by-ways : (f b : ℕ) (P : Said) → Ways f b P → (u t : ℕ) (x : List ℕ) (xs : List (List ℕ))
+pub by-ways : (f b : ℕ) (P : UnitSaid) → Ways f b P → (u t : ℕ) (x : List ℕ) (xs : List (List ℕ))
     → P u t x xs (fill f b u t x xs) (after f b u t x xs) (segmentsFrom f b u t x xs)
 unfolding fill after segmentsFrom
 by-ways f b P w u t x [] =
@@ -149,9 +149,9 @@ by-ways f b P w u t x (y ∷ ys) =
 -- ---- the weight falls
 
 -- less is left behind a block that a unit enters, and it has room again
-abbrev Lighter : ℕ → ℕ → Said
+abbrev Lighter : ℕ → ℕ → UnitSaid
 Lighter f b u t x xs c l g =
-    (weight l ≤ weights (x ∷ xs)) × (enters f b u (length x) ≡ true → weight l < weights (x ∷ xs)) × (Room f b (x ∷ xs) → RoomLeft f b l)
+    (weight l ≤ weights (x ∷ xs)) × (enters f b u (length x) ≡ true → weight l < weights (x ∷ xs)) × (RoomEach f b (x ∷ xs) → RoomEachLeft f b l)
 
 lighter : (f b : ℕ) → Ways f b (Lighter f b)
 unfolding weight weights
@@ -168,16 +168,16 @@ lighter f b =
       more = λ u t x y ys c l g e k (w, s, r). (omega arith, (λ _. omega arith), (λ q. r (q .1)));
     }
 
-pub after-lighter : (f b t : ℕ) (x : List ℕ) (xs : List (List ℕ)) → Room f b (x ∷ xs) → weight (after f b 0 t x xs) < weights (x ∷ xs)
+pub after-lighter : (f b t : ℕ) (x : List ℕ) (xs : List (List ℕ)) → RoomEach f b (x ∷ xs) → weight (after f b 0 t x xs) < weights (x ∷ xs)
 after-lighter f b t x xs r = by-ways f b (Lighter f b) (lighter f b) 0 t x xs .1 (r .0)
 
-pub after-room : (f b t : ℕ) (x : List ℕ) (xs : List (List ℕ)) → Room f b (x ∷ xs) → RoomLeft f b (after f b 0 t x xs)
+pub after-room : (f b t : ℕ) (x : List ℕ) (xs : List (List ℕ)) → RoomEach f b (x ∷ xs) → RoomEachLeft f b (after f b 0 t x xs)
 after-room f b t x xs = by-ways f b (Lighter f b) (lighter f b) 0 t x xs .2
 
 -- ---- the equations of `blocksLeft`
 
 -- any number that is large enough gives the same blocks
-enough : (k j f b : ℕ) (l : Left) → RoomLeft f b l → weight l ≤ k → weight l ≤ j → blocksF k f b l ≡ blocksF j f b l
+enough : (k j f b : ℕ) (l : Left) → RoomEachLeft f b l → weight l ≤ k → weight l ≤ j → blocksF k f b l ≡ blocksF j f b l
 unfolding blocksF weight weights
 enough zero zero f b l r h m = refl
 enough zero (suc j) f b finished r h m = refl
@@ -193,7 +193,7 @@ pub blocks-finished : (f b : ℕ) → blocksLeft f b finished ≡ []
 unfolding blocksLeft blocksF weight
 blocks-finished f b = refl
 
-pub blocks-going : (f b t : ℕ) (x : List ℕ) (xs : List (List ℕ)) → Room f b (x ∷ xs)
+pub blocks-going : (f b t : ℕ) (x : List ℕ) (xs : List (List ℕ)) → RoomEach f b (x ∷ xs)
     → blocksLeft f b (going t x xs) ≡ fill f b 0 t x xs ∷ blocksLeft f b (after f b 0 t x xs)
 unfolding blocksLeft blocksF weight weights
 blocks-going f b t x xs r =

@@ -34,7 +34,7 @@ use Rattle.writing.proofs.Units.{both}
 use Rattle.label.proofs.Read.{length-volume}
 use Rattle.writing.proofs.Entry.{legal-first}
 use Rattle.writing.proofs.Acts.{at, act-volume}
-use Rattle.writing.proofs.Laying.{read-label, Ends, IsLaid, ends-put, namesOf, Rooms, Usable, usable-next, Reels, Files, legal-file, one-set, file-ends, files-end}
+use Rattle.writing.proofs.Laying.{read-label, ReadToEnd, IsLaid, ends-put, namesOf, Rooms, Usable, usable-next, ReelsRead, Files, legal-file, one-set, file-ends, files-end}
 
 -- ---- what a legal sheet says
 
@@ -111,8 +111,8 @@ sheet-reels s h =
 -- ---- the whole set is read to its end
 
 first-files : (set : List ℕ) (ds : List File) (n : List ℕ) (room : ℕ) (left : List Reel) → 1 ≤ length ds → length ds ≤ 64
-    → legalFiles set ds ≡ true → Reels 0 (n ∷ []) left → room ≤ 999999
-    → Ends (at (Volume 1) (n ∷ []) 0 false [] [] 0 0) 0 (layFiles set 1 room left ds) (λ es. Files ds es × (setFrom es ≡ set))
+    → legalFiles set ds ≡ true → ReelsRead 0 (n ∷ []) left → room ≤ 999999
+    → ReadToEnd (at (Volume 1) (n ∷ []) 0 false [] [] 0 0) 0 (layFiles set 1 room left ds) (λ es. Files ds es × (setFrom es ≡ set))
 unfolding dueAfter dues choose upToNine isDue isKind ifB
 first-files set [] n room left one few legal reels h = absurd (omega arith)
 first-files set (d ∷ ds) n room left one few legal reels h =
@@ -123,7 +123,7 @@ first-files set (d ∷ ds) n room left one few legal reels h =
     files-end set ds 1 room r c used left _ _ (one-set 0 set (d .fields) a 1 (legal-first set (d .fields) entry)) (omega arith) others reels h))
 
 -- a legal meaning on reels that can be written: what is laid is read to its end, and has this meaning
-pub set-ends : (m : Meaning) (reels : List Reel) → legalMeaning m ≡ true → Usable [] reels → Ends start 0 (layOn m reels) (λ es. meaningOf es ≡ m)
+pub set-ends : (m : Meaning) (reels : List Reel) → legalMeaning m ≡ true → Usable [] reels → ReadToEnd start 0 (layOn m reels) (λ es. meaningOf es ≡ m)
 unfolding layOn start meaningOf
 set-ends m [] legal h = λ xs z. absurd (subst IsLaid (sym z) tt)
 set-ends m (t ∷ reels) legal h =

@@ -84,9 +84,9 @@ pub data Format (f : ℕ) : Type 0 where
   isS : f ≡ 83 → Format f
 
 -- what may be written next, with o open: a legal record from its beginning (t 0), or at the head of a block what remains of one (t 1)
-pub data Ready (f r t o : ℕ) (head : Bool) (x : List ℕ) : Type 0 where
-  fresh : t ≡ 0 → o ≡ 0 → legalRecord f r x ≡ true → Ready f r t o head x
-  begun : t ≡ 1 → f ≡ 83 → 1 ≤ o → o - 1 + length x ≤ r → head ≡ true → Ready f r t o head x
+pub data UnitReady (f r t o : ℕ) (head : Bool) (x : List ℕ) : Type 0 where
+  fresh : t ≡ 0 → o ≡ 0 → legalRecord f r x ≡ true → UnitReady f r t o head x
+  begun : t ≡ 1 → f ≡ 83 → 1 ≤ o → o - 1 + length x ≤ r → head ≡ true → UnitReady f r t o head x
 
 -- both halves of a choice whose other branch is false
 pub both : {A : Type 0} (a b : Bool) → (a ≡ true → b ≡ true → A) → ifB a b false ≡ true → A
@@ -212,7 +212,7 @@ unit-S f b r u t x s e h =
     ∙ segment-back i k (take k x) s (indicator-small t k (length x)) (length-taken f b u x h) (n .short e)
     ∙ of {i = i} refl (sym (word-segmented f e)) refl
 
-unit-back : (f b r u t o : ℕ) (head : Bool) (x s : List ℕ) → Format f → Ready f r t o head x → enters f b u (length x) ≡ true
+unit-back : (f b r u t o : ℕ) (head : Bool) (x s : List ℕ) → Format f → UnitReady f r t o head x → enters f b u (length x) ≡ true
     → unitOf f r (unitIn f b u t x ++ s) ≡ Of (indicatorOf t (taken f b u (length x)) (length x)) (wordOf f) (taken f b u (length x))
 unit-back f b r u t o head x s (isF e) (fresh z _ h) _ = unit-F f b r u t x s e z h
 unit-back f b r u t o head x s (isF e) (begun _ q _ _ _) _ = absurd (omega arith)
@@ -222,7 +222,7 @@ unit-back f b r u t o head x s (isS e) (fresh _ _ _) m = unit-S f b r u t x s e 
 unit-back f b r u t o head x s (isS e) (begun _ _ _ _ _) m = unit-S f b r u t x s e m
 
 -- the unit is cut off as its segment, and what follows it is cut on
-pub cut-back : (f b r u t o : ℕ) (head : Bool) (x s : List ℕ) → Format f → Ready f r t o head x → enters f b u (length x) ≡ true
+pub cut-back : (f b r u t o : ℕ) (head : Bool) (x s : List ℕ) → Format f → UnitReady f r t o head x → enters f b u (length x) ≡ true
     → cut f r (unitIn f b u t x ++ s) ≡ onto (segmentIn f b u t x) (cut f r s)
 unfolding segmentIn unitIn part
 cut-back f b r u t o head x s form ready h =

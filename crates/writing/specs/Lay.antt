@@ -48,11 +48,11 @@ volumeEnd set e section sequence count = mark ∷ block (madeFirst EOV1 set e se
 -- ---- the blocks of a file, from a section with `count` blocks on, on a reel with room for `room` more
 
 -- what follows a file, by the room on its last reel and the reels that are left
-abbrev pub Next : Type 0
-Next = ℕ → List Reel → Laid
+abbrev pub Sequel : Type 0
+Sequel = ℕ → List Reel → Laid
 
 -- `reels` are those not begun yet; `next` lays what follows the file
-unfoldable pub rest : List ℕ → List ℕ → ℕ → ℕ → ℕ → ℕ → List Reel → List (List ℕ) → Next → Laid
+unfoldable pub rest : List ℕ → List ℕ → ℕ → ℕ → ℕ → ℕ → List Reel → List (List ℕ) → Sequel → Laid
 rest set e sequence section count room reels [] next = put (fileEnd set e section sequence count) (next room reels)
 rest set e sequence section count (suc room) reels (b ∷ bs) next =
     put (block b ∷ []) (rest set e sequence section (suc count) room reels bs next)

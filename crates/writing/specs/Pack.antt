@@ -89,10 +89,10 @@ blocksOf f b xs = blocksLeft f b (startOf xs)
 -- ---- which records can be packed
 
 -- every record has room in an empty block
-abbrev pub Room : ℕ → ℕ → List (List ℕ) → Type 0
-Room f b [] = Unit {0}
-Room f b (x ∷ xs) = (enters f b 0 (length x) ≡ true) × Room f b xs
+abbrev pub RoomEach : ℕ → ℕ → List (List ℕ) → Type 0
+RoomEach f b [] = Unit {0}
+RoomEach f b (x ∷ xs) = (enters f b 0 (length x) ≡ true) × RoomEach f b xs
 
-abbrev pub RoomLeft : ℕ → ℕ → Left → Type 0
-RoomLeft f b finished = Unit {0}
-RoomLeft f b (going t x xs) = Room f b (x ∷ xs)
+abbrev pub RoomEachLeft : ℕ → ℕ → Left → Type 0
+RoomEachLeft f b finished = Unit {0}
+RoomEachLeft f b (going t x xs) = RoomEach f b (x ∷ xs)

@@ -1,12 +1,12 @@
 use Prim.Native.Nat.{_-_}
 use lib.ListN.{length}
 use Rattle.charset.specs.Class.{isA, allA}
-use Rattle.charset.proofs.Passed.{Passed, passed-other, passed-all, passing}
+use Rattle.charset.proofs.Passed.{PassedUpTo, passed-other, passed-all, passing}
 use Rattle.charset.proofs.all_characters_by.Statement.{statement}
 use Rattle.charset.proofs.all_characters_by.Tie as tie
 
 abbrev Inv-loop : tie.InvT-loop
-Inv-loop table s i₀ i = Passed allA s i
+Inv-loop table s i₀ i = PassedUpTo allA s i
 
 abbrev μ-loop : tie.MeasureT-loop
 μ-loop table s i₀ i = length s - i

@@ -1,12 +1,12 @@
 use Prim.Native.Nat.{_-_}
 use lib.ListN.{length}
 use Rattle.base.specs.Digits.{isDigit, allDigits}
-use Rattle.charset.proofs.Passed.{Passed, passed-other, passed-all, passing}
+use Rattle.charset.proofs.Passed.{PassedUpTo, passed-other, passed-all, passing}
 use Rattle.charset.proofs.all_digits.Statement.{statement}
 use Rattle.charset.proofs.all_digits.Tie as tie
 
 abbrev Inv-loop : tie.InvT-loop
-Inv-loop s i₀ i = Passed allDigits s i
+Inv-loop s i₀ i = PassedUpTo allDigits s i
 
 abbrev μ-loop : tie.MeasureT-loop
 μ-loop s i₀ i = length s - i

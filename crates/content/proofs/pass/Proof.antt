@@ -1,9 +1,9 @@
-use Rattle.content.proofs.Founds.{Passed, passes}
+use Rattle.content.proofs.Founds.{RecordsBehind, passes}
 use Rattle.content.proofs.pass.Statement.{statement}
 use Rattle.content.proofs.pass.Tie as tie
 
 abbrev Inv-loop : tie.InvT-loop
-Inv-loop image records left₀ w₀ left w = Passed image w₀ records left w
+Inv-loop image records left₀ w₀ left w = RecordsBehind image w₀ records left w
 
 abbrev μ-loop : tie.MeasureT-loop
 μ-loop image records left₀ w₀ left w = left

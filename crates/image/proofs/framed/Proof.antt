@@ -2,12 +2,12 @@ use Prim.Native.Nat.{_-_}
 use lib.ListN.{length, drop}
 use Rattle.image.specs.Item.{decode}
 use Rattle.image.specs.Framing.{framedFrom}
-use Rattle.image.proofs.Frames.{Walked, walks}
+use Rattle.image.proofs.Frames.{FramedUpTo, walks}
 use Rattle.image.proofs.framed.Statement.{statement}
 use Rattle.image.proofs.framed.Tie as tie
 
 abbrev Inv-loop : tie.InvT-loop
-Inv-loop s at₀ item₀ reels₀ closed₀ at item reels closed = Walked s (framedFrom item₀ reels₀ closed₀ (decode (drop at₀ s))) at item reels closed
+Inv-loop s at₀ item₀ reels₀ closed₀ at item reels closed = FramedUpTo s (framedFrom item₀ reels₀ closed₀ (decode (drop at₀ s))) at item reels closed
 
 abbrev μ-loop : tie.MeasureT-loop
 μ-loop s at₀ item₀ reels₀ closed₀ at item reels closed = length s - at

@@ -1,11 +1,11 @@
 use Prim.Native.Nat.{_-_}
 use borrow.Author.Needs.{needs}
-use Rattle.records.proofs.Turns.{Turn}
+use Rattle.records.proofs.Turns.{TurnsTaken}
 use Rattle.records.proofs.write_files.Statement.{statement}
 use Rattle.records.proofs.write_files.Tie as tie
 
 abbrev Inv-loop : tie.InvT-loop
-Inv-loop image join₀ file₀ join file = Turn file 65 join join₀
+Inv-loop image join₀ file₀ join file = TurnsTaken file 65 join join₀
 
 abbrev μ-loop : tie.MeasureT-loop
 μ-loop image join₀ file₀ join file = 65 - file

@@ -1,11 +1,11 @@
 use Prim.Native.Nat.{_-_}
 use borrow.Author.Needs.{needs}
-use Rattle.records.proofs.Turns.{Turn}
+use Rattle.records.proofs.Turns.{TurnsTaken}
 use Rattle.records.proofs.write_records.Statement.{statement}
 use Rattle.records.proofs.write_records.Tie as tie
 
 abbrev Inv-loop : tie.InvT-loop
-Inv-loop image records join₀ walk₀ counter₀ join walk counter = Turn counter records join join₀
+Inv-loop image records join₀ walk₀ counter₀ join walk counter = TurnsTaken counter records join join₀
 
 abbrev μ-loop : tie.MeasureT-loop
 μ-loop image records join₀ walk₀ counter₀ join walk counter = records - counter

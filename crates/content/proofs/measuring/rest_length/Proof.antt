@@ -1,11 +1,11 @@
 use Prim.Native.Nat.{_-_}
 use lib.ListN.{length}
-use Rattle.content.proofs.Measures.{Resting, restings}
+use Rattle.content.proofs.Measures.{RestMeasured, restings}
 use Rattle.content.proofs.measuring.rest_length.Statement.{statement}
 use Rattle.content.proofs.measuring.rest_length.Tie as tie
 
 abbrev Inv-loop : tie.InvT-loop
-Inv-loop image most room₀ total₀ w₀ room total w = Resting image most w₀ room total w
+Inv-loop image most room₀ total₀ w₀ room total w = RestMeasured image most w₀ room total w
 
 abbrev μ-loop : tie.MeasureT-loop
 μ-loop image most room₀ total₀ w₀ room total w = length image - w .at

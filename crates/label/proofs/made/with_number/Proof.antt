@@ -1,9 +1,9 @@
-use Rattle.label.proofs.Setting.{Counting, counting}
+use Rattle.label.proofs.Setting.{DigitsSet, counting}
 use Rattle.label.proofs.made.with_number.Statement.{statement}
 use Rattle.label.proofs.made.with_number.Tie as tie
 
 abbrev Inv-loop : tie.InvT-loop
-Inv-loop at w n made₀ left₀ i₀ made left i = Counting made₀ at w n made left i
+Inv-loop at w n made₀ left₀ i₀ made left i = DigitsSet made₀ at w n made left i
 
 abbrev μ-loop : tie.MeasureT-loop
 μ-loop at w n made₀ left₀ i₀ made left i = i

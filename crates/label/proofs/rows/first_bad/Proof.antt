@@ -1,13 +1,13 @@
 use Prim.Native.Nat.{_-_}
 use lib.ListN.{length}
 use Rattle.label.specs.Asked.{asked}
-use Rattle.label.proofs.Walk.{Walked, walked-more, pieces}
+use Rattle.label.proofs.Walk.{RowsPassed, walked-more, pieces}
 use borrow.Author.Needs.{needs}
 use Rattle.label.proofs.rows.first_bad.Statement.{statement}
 use Rattle.label.proofs.rows.first_bad.Tie as tie
 
 abbrev Inv-loop : tie.InvT-loop
-Inv-loop table ask l m at₀ i₀ at i = Walked (asked ask l m) table at i
+Inv-loop table ask l m at₀ i₀ at i = RowsPassed (asked ask l m) table at i
 
 abbrev μ-loop : tie.MeasureT-loop
 μ-loop table ask l m at₀ i₀ at i = length table - i

@@ -1,9 +1,9 @@
-use Rattle.listing.proofs.Decimals.{Spelled, spelling}
+use Rattle.listing.proofs.Decimals.{DigitsSpelled, spelling}
 use Rattle.listing.proofs.page.put_decimal.Statement.{statement}
 use Rattle.listing.proofs.page.put_decimal.Tie as tie
 
 abbrev Inv-loop : tie.InvT-loop
-Inv-loop out at n digits₀ i₀ rest₀ digits i rest = Spelled n digits i rest
+Inv-loop out at n digits₀ i₀ rest₀ digits i rest = DigitsSpelled n digits i rest
 
 abbrev μ-loop : tie.MeasureT-loop
 μ-loop out at n digits₀ i₀ rest₀ digits i rest = rest
