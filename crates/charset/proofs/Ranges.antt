@@ -1,17 +1,21 @@
 -- The class of a byte, told by its range or by a table that is right elsewhere. Assumes nothing.
-use mathlib.Core.Path.{_≡_, refl, sym, _∙_}
+use mathlib.Core.Path.{_≡_, refl, sym, ap, _∙_}
 use mathlib.Core.Bool.{Bool, true, false}
 use mathlib.Core.List.{List}
-use Prim.Native.Nat.{ℕ, _≤_, _<_}
+use Prim.Native.Nat.{ℕ, _+_, _-_, _≤_, _<_}
+use native.Mathlib.Omega.{arith}
 use borrow.Author.Tests.{le-leb, lt-leb, eqb-true}
 use borrow.Author.Needs.{needs}
 use lib.Dec.{leb}
-use lib.ListN.{getD}
+use lib.ListN.{length, take, drop, getD}
 use Rattle.base.specs.If.{ifB, if-true, if-false, if-case}
+use Rattle.base.specs.Part.{part}
 use Rattle.base.specs.Digits.{isDigit}
-use Rattle.charset.specs.Class.{between, isA, classOf, inRanges, Right, RightElsewhere}
+use Rattle.base.proofs.Parts.{part-to-end}
+use Rattle.charset.specs.Class.{between, isA, classOf, inRanges, Right, RightElsewhere, allA}
 use Rattle.charset.proofs.Table.{entries, look-up}
 use Rattle.charset.proofs.Digits.{between-low, between-high}
+use Rattle.charset.proofs.Passed.{Passed, each-character, each-more}
 use Rattle.charset.proofs.Characters.{digit-character, capital-character, space-character}
 
 pub right-elsewhere : (table : List ℕ) → Right table → RightElsewhere table
@@ -54,5 +58,16 @@ told-character b p q e f g h = sym (if-false _ _ _ (sym e ∙ f) ∙ if-true _ _
 
 pub looked-up : (table : List ℕ) (b : ℕ) (q : Bool) → RightElsewhere table → b < 256 → q ≡ inRanges b → q ≡ false → getD table b 0 ≡ classOf b
 looked-up table b q t s e h = t .entry b s (sym e ∙ h)
+
+-- ---- a field by its ranges
+
+pub passed-ranges : (s : List ℕ) (i : ℕ) (p : Bool) → Passed allA s i → i < length s → p ≡ inRanges (getD s i 0) → p ≡ true → Passed allA s (i + 1)
+passed-ranges s i p c h e t =
+    record { within = omega arith; left = sym (each-more isA allA each-character s i h (ranges-character (getD s i 0) (sym e ∙ t))) ∙ c .left }
+
+-- from the first byte outside them on, what is left is judged as the whole
+pub passed-rest : (s : List ℕ) (i : ℕ) (r : Bool) → Passed allA s i → r ≡ allA (take (length s - i) (drop i s)) → r ≡ allA s
+unfolding part
+passed-rest s i r c e = e ∙ ap allA (part-to-end i s) ∙ c .left
 
 pub ruleset telling = (right-elsewhere, not-below, below, between-digits, told-digit, told-character, looked-up, needs)

@@ -102,12 +102,27 @@ fn all_characters_by(table: &[u8; 256], s: &[u8]) -> bool
     true
 }
 
-// Whether every byte is an a-character. The table is laid out once for all of them: a constant is copied wherever it is read.
-pub fn all_characters(s: &[u8]) -> bool
+// The same by the table of this crate, which is laid out once for all of them: a constant is copied wherever it is read.
+fn all_by_table(s: &[u8]) -> bool
     ensures { λ r. ⌜ r ≡ allA (now (s .entry)) ⌝ }
 {
     let table = class_table();
     all_characters_by(&table, s)
+}
+
+// Whether every byte is an a-character. Most fields lie in the ranges whole, and want no table.
+pub fn all_characters(s: &[u8]) -> bool
+    ensures { λ r. ⌜ r ≡ allA (now (s .entry)) ⌝ }
+{
+    let mut i = 0;
+    while i < s.len() {
+        if in_ranges(s[i]) {
+            i += 1;
+        } else {
+            return all_by_table(&s[i..]);
+        }
+    }
+    true
 }
 
 // Whether every byte is a digit.

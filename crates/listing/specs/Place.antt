@@ -3,12 +3,13 @@ use mathlib.Core.List.{List, _++_}
 use Prim.Native.Nat.{ℕ}
 use Rattle.base.specs.Part.{part}
 use Rattle.base.specs.Digits.{digits}
+use Rattle.label.specs.Table.{field, hdr1, hdr2, identifierRow, formatRow}
 use Rattle.block.specs.declared.Held.{Held}
 use Rattle.content.specs.declared.FileAt.{FileAt}
 use Rattle.listing.specs.Text.{named, counted}
 
 unfoldable pub describedAt : List ℕ → FileAt → Held → List ℕ
-describedAt s f x = named (part 4 17 (part (f .first) 80 s)) (part 4 1 (part (f .second) 80 s)) ++ counted (x .records) (x .bytes)
+describedAt s f x = named (field hdr1 identifierRow (part (f .first) 80 s)) (field hdr2 formatRow (part (f .second) 80 s)) ++ counted (x .records) (x .bytes)
 
 unfoldable pub lineAt : List ℕ → ℕ → FileAt → Held → List ℕ
 lineAt s n f x = digits 4 n ++ describedAt s f x

@@ -7,11 +7,11 @@ use Prim.Native.String.{String}
 use lib.Dec.{eqb}
 use lib.ListN.{length}
 use Rattle.base.specs.If.{ifB}
-use Rattle.base.specs.Part.{part}
 use Rattle.base.specs.Digits.{digits}
 use Rattle.base.specs.declared.Verdict.{Verdict}
 use Rattle.base.specs.Sum.{sum}
 use Rattle.output.specs.Text.{bytes}
+use Rattle.label.specs.Made.{identifierIn, formatIn}
 use Rattle.volume.specs.Run.{imageVerdict}
 use Rattle.volume.specs.Meaning.{File, Meaning, content}
 use Rattle.listing.specs.Decimal.{decimal}
@@ -37,7 +37,7 @@ unfoldable pub counted : ℕ → ℕ → List ℕ
 counted records size = said " " records ++ said " " size ++ newline
 
 unfoldable pub described : File → List ℕ
-described d = named (part 0 17 (d .fields)) (part 35 1 (d .fields)) ++ counted (length (d .records)) (sum (map length (d .records)))
+described d = named (identifierIn (d .fields)) (formatIn (d .fields)) ++ counted (length (d .records)) (sum (map length (d .records)))
 
 -- file n, from 1
 unfoldable pub line : ℕ → File → List ℕ
