@@ -10,7 +10,8 @@ use borrow.Author.Needs.{needs}
 use lib.Dec.{eqb}
 use lib.ListN.{length, drop, getD, drop-of-length-le}
 use lib.Seq.{drop-cons}
-use Rattle.base.specs.If.{ifB, if-true, if-false, if-case}
+use Rattle.base.specs.If.{ifB}
+use Rattle.base.proofs.Ifs.{if-true, if-false, if-case}
 use Rattle.base.specs.Part.{same, allAre}
 
 pub all-more : (b : ℕ) (s : List ℕ) (i : ℕ) → i < length s → getD s i 0 ≡ b → allAre b (drop i s) ≡ allAre b (drop (i + 1) s)

@@ -10,9 +10,10 @@ use borrow.Author.Tests.{le-leb, lt-leb, leb-true, leb-false}
 use lib.Dec.{leb}
 use lib.ListN.{length, take, drop, getD, set, length-take, length-drop, length-set, take-append-drop, drop-of-length-le}
 use lib.Seq.{drop-cons, drop-drop, getD-drop, length-take-le, take-add, take-all, take-take}
-use Rattle.base.specs.If.{ifB, if-true, if-false, if-case}
+use Rattle.base.specs.If.{ifB}
+use Rattle.base.proofs.Ifs.{if-true, if-false, if-case}
 use Rattle.base.specs.Part.{part, putAt, putIn}
-use Rattle.base.specs.Copy.{Short, Chunked}
+use Rattle.base.specs.code.Copy.{Short, Chunked}
 use Rattle.base.proofs.Parts.{drop-take, length-part, length-put, put-none, put-put, put-again}
 use Rattle.base.proofs.Put.{put-first}
 

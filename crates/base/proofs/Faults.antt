@@ -3,7 +3,7 @@ use mathlib.Core.Path.{_≡_}
 use Prim.Native.Nat.{ℕ}
 use borrow.Author.Tests.{eqb-true, eqb-false}
 use lib.Dec.{eqb}
-use Rattle.base.specs.If.{if-case}
+use Rattle.base.proofs.Ifs.{if-case}
 use Rattle.base.specs.Answer.{orElse}
 use Rattle.base.specs.declared.Fault.{Fault}
 

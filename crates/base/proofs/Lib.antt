@@ -6,3 +6,4 @@ pub mod Sums
 pub mod Numbers
 pub mod Faults
 pub mod Rules
+pub mod Ifs

@@ -5,7 +5,7 @@ ghost use Prim.Native.Nat.{_+_, _≤_, _<_};
 ghost use lib.ListN.{length};
 ghost use lib.Dec.{leb};
 ghost use Rattle.base.specs.Part.{part, putAt, putIn};
-ghost use Rattle.base.specs.Copy.{Short, Chunked};
+ghost use Rattle.base.specs.code.Copy.{Short, Chunked};
 
 // ---- some bytes, at a place where they have room
 

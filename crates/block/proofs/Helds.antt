@@ -13,13 +13,15 @@ use mir.Syntax.{w64}
 use lib.Dec.{eqb}
 use lib.ListN.{length, drop, getD, length-drop}
 use lib.Seq.{drop-drop}
-use Rattle.base.specs.If.{ifB, if-true, if-false, if-case}
+use Rattle.base.specs.If.{ifB}
+use Rattle.base.proofs.Ifs.{if-true, if-false, if-case}
 use Rattle.base.specs.Part.{part, allAre}
 use Rattle.base.specs.Sum.{sum}
 use Rattle.base.proofs.Parts.{length-part}
 use Rattle.block.specs.Unit.{fixed, variable, segment, unitOf, lengthOf, wordOf}
-use Rattle.block.specs.Cut.{Segment, segmentOf, onto, cutOne, cutF, cut, someUnits, isCut, dueAt}
-use Rattle.block.specs.Held.{endsWith, recordsEnding, segmentBytes, empty, holding, heldBy, heldIn, total, Reached, heldUpTo}
+use Rattle.block.specs.Cut.{Segment, segmentOf, onto, cutOne, cutF, cut, someUnits, isCut}
+use Rattle.block.specs.code.Loops.{dueAt, heldUpTo}
+use Rattle.block.specs.Held.{endsWith, recordsEnding, segmentBytes, empty, holding, heldBy, heldIn, total, Reached}
 use Rattle.block.specs.declared.Unit.{Unit}
 use Rattle.block.specs.declared.Unit.the-variants.{Of, None}
 use Rattle.block.specs.declared.Held.{Held}

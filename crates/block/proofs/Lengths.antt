@@ -9,7 +9,7 @@ use mir.Val.{Fits}
 use mir.Syntax.{w32}
 use lib.Dec.{leb, eqb}
 use lib.ListN.{length, take, drop, getD, length-drop}
-use Rattle.base.specs.If.{if-true, if-false, if-case}
+use Rattle.base.proofs.Ifs.{if-true, if-false, if-case}
 use Rattle.base.specs.Part.{part, allAre}
 use Rattle.charset.specs.Number.{numberIn}
 use Rattle.block.specs.Unit.{fixed, variable, segment, unitOf, lengthOf}

@@ -12,10 +12,12 @@ use mir.Syntax.{w64}
 use lib.Dec.{eqb}
 use lib.ListN.{length, drop, length-drop, drop-of-length-le}
 use lib.Seq.{drop-drop}
-use Rattle.base.specs.If.{ifB, if-true, if-false, if-case, if-same}
+use Rattle.base.specs.If.{ifB}
+use Rattle.base.proofs.Ifs.{if-true, if-false, if-case, if-same}
 use Rattle.base.specs.Part.{part, allAre}
 use Rattle.block.specs.Unit.{fixed, variable, segment, unitOf, lengthOf}
-use Rattle.block.specs.Cut.{Segment, segmentOf, onto, cut, someUnits, isCut, dueAt}
+use Rattle.block.specs.Cut.{Segment, segmentOf, onto, cut, someUnits, isCut}
+use Rattle.block.specs.code.Loops.{dueAt}
 use Rattle.block.specs.declared.Unit.{Unit}
 use Rattle.block.specs.declared.Unit.the-variants.{Of, None}
 use Rattle.block.proofs.Units.{unit-stands}

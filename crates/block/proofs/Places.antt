@@ -9,7 +9,8 @@ use borrow.Author.Tests.{le-leb, lt-leb, eq-eqb, ne-eqb, leb-true}
 use lib.Dec.{leb}
 use lib.ListN.{length, take, drop, getD, length-drop}
 use lib.Seq.{drop-cons, getD-drop}
-use Rattle.base.specs.If.{ifB, if-true, if-false, if-case, ap-if, and-left, and-first, and-second, so-true}
+use Rattle.base.specs.If.{ifB}
+use Rattle.base.proofs.Ifs.{if-true, if-false, if-case, ap-if, and-left, and-first, and-second, so-true}
 use Rattle.base.specs.Part.{part, allAre}
 use Rattle.base.specs.Digits.{isDigit, allDigits, value}
 use Rattle.base.proofs.Parts.{part-drop}

@@ -12,12 +12,14 @@ use mir.Syntax.{w64}
 use lib.Dec.{leb, eqb}
 use lib.ListN.{length, drop, length-drop, drop-of-length-le}
 use lib.Seq.{drop-drop}
-use Rattle.base.specs.If.{ifB, if-true, if-false, if-case, if-same}
+use Rattle.base.specs.If.{ifB}
+use Rattle.base.proofs.Ifs.{if-true, if-false, if-case, if-same}
 use Rattle.base.specs.Part.{part, allAre}
 use Rattle.base.proofs.Parts.{length-part}
 use Rattle.block.specs.Unit.{segment, unitOf}
-use Rattle.block.specs.Cut.{Segment, segmentOf, onto, cut, someUnits, isCut, dueAt}
-use Rattle.block.specs.Turn.{outcome, isTurn, openAfter, turnsFrom, turned, Turning}
+use Rattle.block.specs.Cut.{Segment, segmentOf, onto, cut, someUnits, isCut}
+use Rattle.block.specs.code.Loops.{dueAt, Turning}
+use Rattle.block.specs.Turn.{outcome, isTurn, openAfter, turnsFrom, turned}
 use Rattle.block.specs.declared.Unit.{Unit}
 use Rattle.block.specs.declared.Unit.the-variants.{Of, None}
 use Rattle.block.specs.declared.Outcome.{Outcome}

@@ -45,10 +45,6 @@ someUnits none = none
 someUnits (some []) = none
 someUnits (some (x ∷ xs)) = some (x ∷ xs)
 
--- at the head of the block there must be a unit, and later there need be none
-unfoldable pub dueAt : Bool → Option (List Segment) → Option (List Segment)
-dueAt head c = ifB head (someUnits c) c
-
 -- whether the bytes could be cut
 unfoldable pub isCut : Option (List Segment) → Bool
 isCut none = false

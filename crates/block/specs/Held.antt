@@ -8,9 +8,8 @@ use Prim.Native.Nat.{ℕ, _+_, _-_, _*_, _≤_}
 use lib.Dec.{eqb}
 use lib.ListN.{length, drop}
 use Rattle.base.specs.If.{ifB}
-use Rattle.base.specs.Part.{allAre}
 use Rattle.base.specs.Sum.{sum}
-use Rattle.block.specs.Unit.{pad, wordOf}
+use Rattle.block.specs.Unit.{wordOf}
 use Rattle.block.specs.Cut.{Segment, cut, someUnits}
 use Rattle.block.specs.declared.Held.{Held}
 
@@ -49,7 +48,3 @@ total h = h .bytes + h .words + h .padding + h .offset
 pub record Reached (s : List ℕ) (o at w u : ℕ) : Type 0 where
   pub words : o + u * w ≤ at
   pub within : (u ≡ 0 → ⊥) → at ≤ length s
-
--- what the block holds where no unit follows
-unfoldable pub heldUpTo : List ℕ → ℕ → ℕ → ℕ → ℕ → ℕ → Held
-heldUpTo s o at w u n = ifB (eqb u 0) empty (ifB (allAre pad (drop at s)) (holding w o (length s) u n (at - o - u * w)) empty)

@@ -2,3 +2,4 @@ pub mod Unit
 pub mod Cut
 pub mod Turn
 pub mod Held
+pub mod code

@@ -5,15 +5,14 @@
 -- What is open is 0, or one more than the bytes of the open record so far. A 2 or a 3 stands only at the head of a block and only where
 -- something is open; a 0 or a 1 only where nothing is. So no unit can follow a 1 or a 2 in its block.
 -- Units of F and D have indicator 0 and at most R bytes, so the same turns hold of them.
-use mathlib.Core.Path.{_≡_}
 use mathlib.Core.Bool.{Bool, true, false}
 use mathlib.Core.List.{List, [], _∷_}
 use mathlib.Core.Option.{Option, none, some}
-use Prim.Native.Nat.{ℕ, _+_, _-_, _≤_, _<_}
+use Prim.Native.Nat.{ℕ, _+_, _-_}
 use lib.Dec.{leb, eqb}
-use lib.ListN.{length, drop}
+use lib.ListN.{length}
 use Rattle.base.specs.If.{ifB}
-use Rattle.block.specs.Cut.{Segment, cut, someUnits, isCut, dueAt, units}
+use Rattle.block.specs.Cut.{Segment, units}
 use Rattle.block.specs.declared.Outcome.{Outcome}
 
 unfoldable pub outcome : ℕ → ℕ → Outcome
@@ -43,12 +42,3 @@ turned r o head (some xs) = turnsFrom r o head xs
 -- the answer on a block, in a file of format f, block length b, record length r and offset length o, with q open
 unfoldable pub blockOutcome : ℕ → ℕ → ℕ → ℕ → ℕ → List ℕ → Outcome
 blockOutcome f b r o q s = turned r q true (units f b r o s)
-
--- ---- the walk of the code over the segments of a block
-
--- begun at `from` with q open, it is at `at` with o open: what is left from there can be cut where all can, and has the answer on all
-pub record Turning (r : ℕ) (s : List ℕ) (q from o at : ℕ) : Type 0 where
-  pub room : length s < 18446744073709551616
-  pub past : from ≤ at
-  pub cuts : isCut (dueAt (eqb at from) (cut 83 r (drop at s))) ≡ isCut (someUnits (cut 83 r (drop from s)))
-  pub left : turned r o (eqb at from) (dueAt (eqb at from) (cut 83 r (drop at s))) ≡ turned r q true (someUnits (cut 83 r (drop from s)))

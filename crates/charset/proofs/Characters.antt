@@ -5,7 +5,8 @@ use Prim.Native.Nat.{ℕ, _≤_}
 use native.Mathlib.Omega.{arith}
 use borrow.Author.Tests.{le-leb, leb-false}
 use lib.Dec.{leb, eqb}
-use Rattle.base.specs.If.{ifB, if-case, and-true, or-left, or-right}
+use Rattle.base.specs.If.{ifB}
+use Rattle.base.proofs.Ifs.{if-case, and-true, or-left, or-right}
 use Rattle.base.specs.Digits.{isDigit}
 use Rattle.charset.proofs.Digits.{digit-low, digit-high}
 use Rattle.charset.specs.Class.{code, between, isA, classOf}

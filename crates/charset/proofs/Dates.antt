@@ -7,7 +7,8 @@ use borrow.Author.Tests.{eq-eqb, ne-eqb, le-leb, lt-leb, not-true, not-false}
 use borrow.Author.Needs.{needs}
 use lib.Dec.{leb}
 use lib.ListN.{length, getD}
-use Rattle.base.specs.If.{ifB, if-true, if-false}
+use Rattle.base.specs.If.{ifB}
+use Rattle.base.proofs.Ifs.{if-true, if-false}
 use Rattle.base.specs.Part.{part}
 use Rattle.base.specs.Digits.{isDigit, allDigits, value}
 use Rattle.charset.specs.declared.Number.{Number}

@@ -7,7 +7,7 @@ use native.Mathlib.Nat.{mod-lt}
 use native.Mathlib.Omega.{arith}
 use borrow.Author.Tests.{le-leb, lt-leb, leb-true}
 use lib.Dec.{leb}
-use Rattle.base.specs.If.{if-true, and-true, and-left, and-right, and-first, and-second}
+use Rattle.base.proofs.Ifs.{if-true, and-true, and-left, and-right, and-first, and-second}
 use Rattle.base.specs.Digits.{isDigit, allDigits, digits}
 use Rattle.base.proofs.Numbers.{digits-append}
 use Rattle.charset.specs.Class.{between}

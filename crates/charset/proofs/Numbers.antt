@@ -12,7 +12,7 @@ use mir.Syntax.{w32}
 use mir.Val.{Fits}
 use lib.ListN.{length, drop, getD, drop-of-length-le}
 use lib.Seq.{drop-cons}
-use Rattle.base.specs.If.{if-true, if-false}
+use Rattle.base.proofs.Ifs.{if-true, if-false}
 use Rattle.base.specs.Digits.{isDigit, allDigits, value, digits}
 use Rattle.base.proofs.Numbers.{length-digits, value-digits}
 use Rattle.charset.specs.declared.Number.the-variants.{Value, Wrong}

@@ -8,11 +8,13 @@ use borrow.Author.Tests.{le-leb, lt-leb, eqb-true}
 use borrow.Author.Needs.{needs}
 use lib.Dec.{leb}
 use lib.ListN.{length, take, drop, getD}
-use Rattle.base.specs.If.{ifB, if-true, if-false, if-case}
+use Rattle.base.specs.If.{ifB}
+use Rattle.base.proofs.Ifs.{if-true, if-false, if-case}
 use Rattle.base.specs.Part.{part}
 use Rattle.base.specs.Digits.{isDigit}
 use Rattle.base.proofs.Parts.{part-to-end}
-use Rattle.charset.specs.Class.{between, isA, classOf, inRanges, Right, RightElsewhere, allA}
+use Rattle.charset.specs.Class.{between, isA, classOf, allA}
+use Rattle.charset.specs.code.Table.{inRanges, Right, RightElsewhere}
 use Rattle.charset.proofs.Table.{entries, look-up}
 use Rattle.charset.proofs.Digits.{between-low, between-high}
 use Rattle.charset.proofs.Passed.{Passed, each-character, each-more}

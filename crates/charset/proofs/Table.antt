@@ -6,7 +6,8 @@ use mathlib.Core.List.{List, [], _∷_}
 use Prim.Native.Nat.{ℕ, zero, suc, _+_, _<_}
 use native.Mathlib.Nat.{add-zero, zero-add, add-suc, suc-add, le-of-suc-le-suc, not-suc-le-zero}
 use lib.ListN.{getD}
-use Rattle.charset.specs.Class.{classOf, Right}
+use Rattle.charset.specs.Class.{classOf}
+use Rattle.charset.specs.code.Table.{Right}
 
 -- what f says of the n places from i on
 abbrev pub entries : (ℕ → ℕ) → ℕ → ℕ → List ℕ

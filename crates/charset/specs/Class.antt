@@ -1,12 +1,10 @@
 -- Characters. Document 01, "Label fields": a-characters are the 57 at 2/0 to 2/2, 2/5 to 2/15, 3/0 to 3/15, 4/1 to 4/15,
 -- 5/0 to 5/10 and 5/15 (8.1 of ECMA-13 decides); digits are those at 3/0 to 3/9.
 -- A position c/r of the code table is the byte 16 * c + r.
-use mathlib.Core.Path.{_≡_}
 use mathlib.Core.Bool.{Bool, true, false, _&&_, _||_}
 use mathlib.Core.List.{List, [], _∷_}
-use Prim.Native.Nat.{ℕ, _+_, _*_, _<_}
+use Prim.Native.Nat.{ℕ, _+_, _*_}
 use lib.Dec.{leb, eqb}
-use lib.ListN.{getD}
 use Rattle.base.specs.If.{ifB}
 use Rattle.base.specs.Digits.{isDigit}
 
@@ -33,18 +31,6 @@ digit = 2
 
 unfoldable pub classOf : ℕ → ℕ
 classOf b = ifB (isDigit b) digit (ifB (isA b) character neither)
-
--- a table with the class of every byte
-pub record Right (table : List ℕ) : Type 0 where
-  pub entry : (b : ℕ) → b < 256 → getD table b neither ≡ classOf b
-
--- the ranges in which most bytes of a label lie: digits, capitals, SPACE
-unfoldable pub inRanges : ℕ → Bool
-inRanges b = ifB (isDigit b) true (ifB (between (code 4 1) (code 5 10) b) true (eqb b (code 2 0)))
-
--- a table with the class of every byte outside those ranges: its entries for digits, capitals and SPACE are free
-pub record RightElsewhere (table : List ℕ) : Type 0 where
-  pub entry : (b : ℕ) → b < 256 → inRanges b ≡ false → getD table b neither ≡ classOf b
 
 -- every byte is an a-character
 unfoldable pub allA : List ℕ → Bool

@@ -1,7 +1,8 @@
 // Characters, numbers and dates: what a label's field may hold. It knows no label.
 ghost use mathlib.Core.Path.{_≡_};
 ghost use Rattle.base.specs.Digits.{isDigit, allDigits};
-ghost use Rattle.charset.specs.Class.{between, isA, classOf, Right, inRanges, RightElsewhere, allA};
+ghost use Rattle.charset.specs.Class.{between, isA, classOf, allA};
+ghost use Rattle.charset.specs.code.Table.{Right, inRanges, RightElsewhere};
 ghost use Rattle.charset.specs.Number.{numberIn};
 ghost use Rattle.charset.specs.Date.{isCentury, isYearDay, isDate};
 

@@ -11,7 +11,8 @@ use borrow.Author.Tests.{le-leb, leb-true, eq-eqb, ne-eqb, eqb-true, eqb-false}
 use lib.Dec.{leb, eqb}
 use lib.ListN.{length, take, drop}
 use lib.Seq.{drop-drop}
-use Rattle.base.specs.If.{ifB, if-true, if-false, if-case}
+use Rattle.base.specs.If.{ifB}
+use Rattle.base.proofs.Ifs.{if-true, if-false, if-case}
 use Rattle.base.specs.Part.{part, allAre}
 use Rattle.base.proofs.Parts.{length-part, part-part, drop-take}
 use Rattle.image.specs.Item.{decode}
@@ -28,7 +29,8 @@ use Rattle.volume.specs.Meaning.{onFirst, joined}
 use Rattle.volume.specs.Step.{segmentsOf}
 use Rattle.reading.proofs.Assembled.{InTurn, starts, follows, in-turn}
 use Rattle.content.specs.Section.{dataFrom}
-use Rattle.content.specs.Walk.{moved, leftOf, Inside, taken, unitHere, opened, blockNext, unitIn, unitNext, orNext, unitFrom, Rest, ends, fails, before, restBy, restAt, Record, splitBy, begunBy, recordAt}
+use Rattle.content.specs.Walk.{moved, leftOf, taken, unitHere, opened, blockNext, unitIn, unitNext, orNext, unitFrom, Rest, ends, fails, before, restBy, restAt, Record, splitBy, begunBy, recordAt}
+use Rattle.content.specs.code.Heads.{Inside}
 use Rattle.content.specs.Walked.{handed, Walks}
 use Rattle.content.specs.declared.Walk.{Walk}
 use Rattle.content.specs.declared.section.Extent.{Extent}

@@ -12,7 +12,7 @@ use mir.Val.{Fits}
 use mir.Syntax.{w64}
 use lib.Dec.{eqb}
 use lib.ListN.{length, take, drop, length-append}
-use Rattle.base.specs.If.{if-case}
+use Rattle.base.proofs.Ifs.{if-case}
 use Rattle.base.specs.Part.{part}
 use Rattle.base.specs.Sum.{sum}
 use Rattle.base.proofs.Parts.{length-part, part-within}
@@ -21,8 +21,7 @@ use Rattle.order.specs.declared.Phase.the-variants.{Data}
 use Rattle.block.specs.Unit.{wordOf}
 use Rattle.block.specs.Cut.{Segment, cut, someUnits, units}
 use Rattle.block.specs.Turn.{outcome, isTurn, openAfter, turnsFrom, turned, blockOutcome}
-use Rattle.block.specs.Held.{endsWith, recordsEnding, segmentBytes, empty, heldIn, total}
-use Rattle.block.specs.Held.{heldBy as heldOf}
+use Rattle.block.specs.Held.{endsWith, recordsEnding, segmentBytes, empty, heldIn, total, heldBy as heldOf}
 use Rattle.block.specs.declared.Held.{Held}
 use Rattle.block.specs.declared.Outcome.{Outcome}
 use Rattle.block.proofs.Helds.{ends-begun, ends-still, ends-one, Fitting, held-fits}

@@ -10,12 +10,13 @@ use borrow.Author.Needs.{needs}
 use borrow.Author.Tests.{leb-true, eqb-true, eqb-false}
 use lib.Dec.{leb, eqb}
 use lib.ListN.{length, length-append}
-use Rattle.base.specs.If.{if-case}
+use Rattle.base.proofs.Ifs.{if-case}
 use Rattle.base.specs.Part.{part, putAt, putIn}
 use Rattle.base.proofs.Parts.{length-part, length-put, put-put}
 use Rattle.base.proofs.Copies.{put-in, length-put-in}
-use Rattle.content.specs.Walk.{Inside, isInside, unitNext, unitFrom, Rest, ends, fails, before, restBy, restAt, Record, whole, split, nothing, splitBy, begunBy, recordAt}
-use Rattle.content.specs.Measure.{isEnded, restBytes, bytesBehind, RestFits, recordBytes, isSplit, SplitAt}
+use Rattle.content.specs.Walk.{isInside, unitNext, unitFrom, Rest, ends, fails, before, restBy, restAt, Record, whole, split, nothing, splitBy, begunBy, recordAt}
+use Rattle.content.specs.code.Heads.{Inside}
+use Rattle.content.specs.code.Joining.{isEnded, restBytes, bytesBehind, RestFits, recordBytes, isSplit, SplitAt}
 use Rattle.content.specs.declared.Walk.{Walk}
 use Rattle.content.specs.declared.unit.Taken.{Taken}
 use Rattle.content.specs.declared.unit.Taken.the-variants.{One, Nothing}

@@ -9,11 +9,13 @@ use mir.Syntax.{w64}
 use borrow.Author.Needs.{needs}
 use borrow.Author.Tests.{le-leb, lt-leb, eq-eqb, ne-eqb, not-true, not-false}
 use lib.ListN.{length, length-append}
-use Rattle.base.specs.If.{if-true, if-false}
+use Rattle.base.proofs.Ifs.{if-true, if-false}
 use Rattle.base.specs.Part.{part}
 use Rattle.base.proofs.Parts.{length-part}
-use Rattle.content.specs.Walk.{Inside, isInside, unitNext, unitFrom, Rest, ends, fails, before, restBy, restAt, whole, nothing, splitBy, begunBy, recordAt}
-use Rattle.content.specs.Measure.{tailBy, longer, measuredBy}
+use Rattle.content.specs.Walk.{isInside, unitNext, unitFrom, Rest, ends, fails, before, restBy, restAt, whole, nothing, splitBy, begunBy, recordAt}
+use Rattle.content.specs.code.Heads.{Inside}
+use Rattle.content.specs.Measure.{measuredBy}
+use Rattle.content.specs.code.Joining.{tailBy, longer}
 use Rattle.content.specs.declared.Walk.{Walk}
 use Rattle.content.specs.declared.unit.Taken.{Taken}
 use Rattle.content.specs.declared.unit.Taken.the-variants.{One, Nothing}

@@ -11,7 +11,8 @@ use borrow.Author.Needs.{needs}
 use borrow.Author.Tests.{eqb-true}
 use lib.Dec.{eqb}
 use lib.ListN.{length, take, drop}
-use Rattle.base.specs.If.{ifB, if-true, if-false, if-case, and-first}
+use Rattle.base.specs.If.{ifB}
+use Rattle.base.proofs.Ifs.{if-true, if-false, if-case, and-first}
 use Rattle.base.specs.Part.{part}
 use Rattle.base.proofs.Parts.{length-part, part-within}
 use Rattle.image.specs.Item.{Item, block, mark, reelEnd, broken, shape, decode}
@@ -26,7 +27,8 @@ use Rattle.order.specs.declared.Due.{Due}
 use Rattle.order.specs.declared.Due.the-variants.{To, Wrong}
 use Rattle.volume.specs.Step.{kindIn, bytesIn}
 use Rattle.reading.proofs.Legality.{header-long}
-use Rattle.content.specs.Part.{seenBy, seenAt, beginsFile, ledTo, goesOnBehind, firstBehind, after, partIn, onto, partsBy, partsFrom, partsAt, parts, isWanted, firstIn, firstFrom}
+use Rattle.content.specs.Part.{beginsFile, ledTo, goesOnBehind, firstBehind, after, partIn, onto, partsBy, partsFrom, partsAt, parts, isWanted, firstIn, firstFrom}
+use Rattle.content.specs.code.Seen.{seenBy, seenAt}
 use Rattle.content.specs.declared.part.Seen.{Seen}
 use Rattle.content.specs.declared.part.Seen.the-variants.{Item as Of, Nothing}
 use Rattle.content.specs.declared.part.Position.{Position}

@@ -9,10 +9,12 @@ use borrow.Author.Tests.{eqb-true}
 use lib.Dec.{eqb}
 use lib.ListN.{length, take, drop}
 use lib.Seq.{drop-length}
-use Rattle.base.specs.If.{ifB, if-true, if-false, and-first}
+use Rattle.base.specs.If.{ifB}
+use Rattle.base.proofs.Ifs.{if-true, if-false, and-first}
 use Rattle.base.specs.Part.{part}
 use Rattle.base.specs.Answer.{fault}
-use Rattle.image.specs.Item.{Item, block, mark, reelEnd, broken, decode, isItem, allItems}
+use Rattle.image.specs.Item.{Item, block, mark, reelEnd, broken, decode}
+use Rattle.image.specs.code.Items.{isItem, allItems}
 use Rattle.image.specs.Framing.{items}
 use Rattle.image.proofs.Frames.{framing-items}
 use Rattle.image.proofs.Coding.{all-first, all-rest}

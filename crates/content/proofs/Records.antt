@@ -9,12 +9,14 @@ use mir.Syntax.{w64}
 use borrow.Author.Needs.{needs}
 use lib.Dec.{leb, eqb}
 use lib.ListN.{length, length-append}
-use Rattle.base.specs.If.{if-true, if-case}
+use Rattle.base.proofs.Ifs.{if-true, if-case}
 use Rattle.base.specs.Part.{part}
 use Rattle.base.proofs.Parts.{length-part}
 use Rattle.base.specs.Sum.{sum}
-use Rattle.content.specs.Walk.{Inside, isInside, unitNext, unitFrom, firstSegment, nextSegment, Rest, ends, fails, before, restBy, restF, restAt, Record, whole, split, nothing, splitBy, begunBy, recordAt}
-use Rattle.content.specs.Measure.{isEnded, bytesBehind, measuredBy, recordBytes}
+use Rattle.content.specs.Walk.{isInside, unitNext, unitFrom, firstSegment, nextSegment, Rest, ends, fails, before, restBy, restF, restAt, Record, whole, split, nothing, splitBy, begunBy, recordAt}
+use Rattle.content.specs.code.Heads.{Inside}
+use Rattle.content.specs.Measure.{measuredBy}
+use Rattle.content.specs.code.Joining.{isEnded, bytesBehind, recordBytes}
 use Rattle.content.specs.Walked.{handed, Walks, alongBy, alongF, along, lastOf, endOf}
 use Rattle.content.specs.Records.{recordsAt, factsOf}
 use Rattle.content.specs.declared.Walk.{Walk}

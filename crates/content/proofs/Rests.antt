@@ -7,7 +7,8 @@ use native.Mathlib.Omega.{arith}
 use borrow.Author.Tests.{leb-true, le-leb}
 use lib.Dec.{leb, eqb}
 use lib.ListN.{length, drop, length-take, length-append}
-use Rattle.base.specs.If.{ifB, if-true, if-false, if-case}
+use Rattle.base.specs.If.{ifB}
+use Rattle.base.proofs.Ifs.{if-true, if-false, if-case}
 use Rattle.base.specs.Part.{part, allAre}
 use Rattle.image.specs.Item.{decode}
 use Rattle.order.specs.declared.Phase.the-variants.{Data}
@@ -15,8 +16,9 @@ use Rattle.block.specs.Unit.{unitOf, pad}
 use Rattle.block.specs.declared.Unit.{Unit}
 use Rattle.block.specs.declared.Unit.the-variants.{Of, None}
 use Rattle.content.specs.Section.{dataFrom}
-use Rattle.content.specs.Walk.{moved, leftOf, Inside, taken, unitHere, opened, blockNext, unitIn, unitNext, orNext, unitFrom, Rest, ends, fails, before, restBy, restF, restAt}
-use Rattle.content.specs.Measure.{isEnded}
+use Rattle.content.specs.Walk.{moved, leftOf, taken, unitHere, opened, blockNext, unitIn, unitNext, orNext, unitFrom, Rest, ends, fails, before, restBy, restF, restAt}
+use Rattle.content.specs.code.Heads.{Inside}
+use Rattle.content.specs.code.Joining.{isEnded}
 use Rattle.content.specs.declared.Walk.{Walk}
 use Rattle.content.specs.declared.section.Extent.{Extent}
 use Rattle.content.specs.declared.section.Extent.the-variants.{At as Block, Nowhere}

@@ -10,15 +10,16 @@ use borrow.Author.Needs.{needs}
 use borrow.Author.Tests.{leb-true, eqb-true, eqb-false}
 use lib.Dec.{leb, eqb}
 use lib.ListN.{length, set, length-set}
-use Rattle.base.specs.If.{if-case}
+use Rattle.base.proofs.Ifs.{if-case}
 use Rattle.base.specs.Part.{putAt}
 use Rattle.base.proofs.Parts.{put-none}
 use Rattle.base.proofs.Put.{put-first}
 use Rattle.block.specs.Unit.{wordOf}
-use Rattle.content.specs.Walk.{moved, Inside, isInside, unitFrom, Rest, ends, fails, Record, whole, split, nothing, splitBy, begunBy, recordAt, stepBy, stepAt}
-use Rattle.content.specs.Whole.{atBlock, standsAt, wholeAt, begunIn}
+use Rattle.content.specs.Walk.{moved, isInside, unitFrom, Rest, ends, fails, Record, whole, split, nothing, splitBy, begunBy, recordAt, stepBy, stepAt}
+use Rattle.content.specs.code.Heads.{Inside, wholeAt, begunIn, wholeBy}
+use Rattle.content.specs.Whole.{atBlock, standsAt}
 use Rattle.content.specs.Measure.{measuredBy}
-use Rattle.content.specs.Row.{StepRow, stays, ahead, stepsBy, stepsAt, rowOf, wholeBy}
+use Rattle.content.specs.Row.{StepRow, stays, ahead, stepsBy, stepsAt, rowOf}
 use Rattle.content.specs.declared.Walk.{Walk}
 use Rattle.content.specs.declared.Step.{Step}
 use Rattle.content.specs.declared.Step.the-variants.{Joined, Refused}

@@ -5,9 +5,11 @@ use mathlib.Core.List.{List, [], _∷_, map}
 use Prim.Native.Nat.{ℕ, _+_, _≤_}
 use native.Mathlib.Omega.{arith}
 use lib.ListN.{length, drop}
-use Rattle.base.specs.If.{ifB, if-false}
+use Rattle.base.specs.If.{ifB}
+use Rattle.base.proofs.Ifs.{if-false}
 use Rattle.base.specs.Part.{part}
-use Rattle.image.specs.Item.{Item, broken, decode, isItem}
+use Rattle.image.specs.Item.{Item, broken, decode}
+use Rattle.image.specs.code.Items.{isItem}
 use Rattle.order.specs.Kind.{hdr, eof, eov, dataBlock, endOfImage, isKind}
 use Rattle.order.specs.Due.{dueAfter}
 use Rattle.order.specs.declared.Kind.{Kind}
@@ -18,7 +20,8 @@ use Rattle.order.specs.declared.Due.the-variants.{To}
 use Rattle.order.proofs.Moves.{Stage, stage, before, named, within, fileOver, reelOver, Numbered, Quiet, Move, stays, nextReel, header1, nextFile, header2, datum, eof1, eov1, finish, due-goes}
 use Rattle.volume.specs.Step.{kindIn, bytesIn}
 use Rattle.reading.proofs.Stages.{isOpen}
-use Rattle.content.specs.Part.{placeBehind, seenAt, beginsFile, ledTo, goesOnBehind, firstBehind, after, partIn, onto, partsBy, partsFrom, parts, isWanted, firstIn}
+use Rattle.content.specs.Part.{placeBehind, beginsFile, ledTo, goesOnBehind, firstBehind, after, partIn, onto, partsBy, partsFrom, parts, isWanted, firstIn}
+use Rattle.content.specs.code.Seen.{seenAt}
 use Rattle.content.specs.Section.{asBlock, blockIn, dataFrom}
 use Rattle.content.specs.File.{fileIn}
 use Rattle.content.specs.declared.NextFile.{NextFile}

@@ -14,7 +14,8 @@ use Rattle.order.specs.declared.Phase.{Phase}
 use Rattle.order.specs.declared.Phase.the-variants.{Data}
 use Rattle.base.specs.If.{ifB}
 use Rattle.volume.specs.Step.{isDue, kindIn}
-use Rattle.content.specs.Part.{seenAt, beginsFile, ledTo, partIn, onto, partsBy, partsAt, isWanted, firstIn, firstFrom}
+use Rattle.content.specs.Part.{beginsFile, ledTo, partIn, onto, partsBy, partsAt, isWanted, firstIn, firstFrom}
+use Rattle.content.specs.code.Seen.{seenAt}
 use Rattle.content.specs.Section.{inFile, asBlock, blockIn, dataFrom}
 use Rattle.content.specs.declared.part.Part.{Part}
 use Rattle.content.specs.declared.part.Part.the-variants.{File, Section, Block, None}

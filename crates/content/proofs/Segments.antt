@@ -12,15 +12,17 @@ use borrow.Author.Tests.{eq-eqb, ne-eqb, le-leb, lt-leb, leb-true, eqb-true, eqb
 use lib.Dec.{leb, eqb}
 use lib.ListN.{length, take, drop, getD}
 use lib.Seq.{getD-take}
-use Rattle.base.specs.If.{ifB, if-true, if-false, if-case}
+use Rattle.base.specs.If.{ifB}
+use Rattle.base.proofs.Ifs.{if-true, if-false, if-case}
 use Rattle.base.specs.Part.{part}
 use Rattle.base.proofs.Parts.{part-within}
 use Rattle.block.specs.Unit.{segment, unitOf, lengthOf}
 use Rattle.block.specs.declared.Unit.the-variants.{Of}
 use Rattle.block.proofs.Places.{head-at}
 use Rattle.block.proofs.Lengths.{unit-segment, segment-of, segment-least, segment-first, segment-fits}
-use Rattle.content.specs.Walk.{moved, leftOf, Inside, isInside, taken, unitHere, unitNext, orNext, unitFrom}
-use Rattle.content.specs.Whole.{atBlock, standsAt, segmentIn, turnIn, begunIn, BegunAt}
+use Rattle.content.specs.Walk.{moved, leftOf, isInside, taken, unitHere, unitNext, orNext, unitFrom}
+use Rattle.content.specs.code.Heads.{Inside, segmentIn, turnIn, begunIn, BegunAt}
+use Rattle.content.specs.Whole.{atBlock, standsAt}
 use Rattle.content.specs.declared.Walk.{Walk}
 use Rattle.content.specs.declared.unit.Taken.{Taken}
 use Rattle.content.specs.declared.unit.Taken.the-variants.{One}

@@ -10,12 +10,15 @@ use borrow.Author.Needs.{needs}
 use borrow.Author.Tests.{le-leb, lt-leb}
 use lib.Dec.{leb}
 use lib.ListN.{length, getD}
-use Rattle.base.specs.If.{ifB, if-true, if-false}
+use Rattle.base.specs.If.{ifB}
+use Rattle.base.proofs.Ifs.{if-true, if-false}
 use Rattle.base.specs.Part.{part, putAt}
 use Rattle.block.specs.Unit.{wordOf}
-use Rattle.content.specs.Walk.{moved, Inside, unitHere, unitNext, orNext, unitFrom, restAt, Record, whole, split, nothing, begunBy, recordAt, stepBy, joinBy, stepAt, joinAt}
-use Rattle.content.specs.Whole.{atBlock, standsAt, wholeAt, turnIn, begunIn, BegunAt, TwoAt}
-use Rattle.content.specs.Measure.{tailBy, restBytes, measuredBy, bytesBehind, RestFits, recordBytes, isSplit, SplitAt}
+use Rattle.content.specs.Walk.{moved, unitHere, unitNext, orNext, unitFrom, restAt, Record, whole, split, nothing, begunBy, recordAt, stepBy, joinBy, stepAt, joinAt}
+use Rattle.content.specs.code.Heads.{Inside, wholeAt, turnIn, begunIn, BegunAt, TwoAt}
+use Rattle.content.specs.Whole.{atBlock, standsAt}
+use Rattle.content.specs.Measure.{measuredBy}
+use Rattle.content.specs.code.Joining.{tailBy, restBytes, bytesBehind, RestFits, recordBytes, isSplit, SplitAt}
 use Rattle.content.specs.declared.Walk.{Walk}
 use Rattle.content.specs.declared.Step.{Step}
 use Rattle.content.specs.declared.Step.the-variants.{InImage, Joined, Refused}

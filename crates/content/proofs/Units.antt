@@ -10,7 +10,7 @@ use borrow.Author.Needs.{needs}
 use borrow.Author.Tests.{ne-eqb, le-leb, lt-leb, leb-true, not-true, not-false}
 use lib.Dec.{leb}
 use lib.ListN.{length, take, drop, length-take, length-drop}
-use Rattle.base.specs.If.{if-true, if-false, if-case}
+use Rattle.base.proofs.Ifs.{if-true, if-false, if-case}
 use Rattle.base.specs.Format.{F, D, S}
 use Rattle.base.specs.Part.{part, allAre}
 use Rattle.image.specs.Item.{decode}
@@ -20,7 +20,8 @@ use Rattle.block.specs.declared.Unit.{Unit}
 use Rattle.block.specs.declared.Unit.the-variants.{Of, None}
 use Rattle.block.proofs.Units.{unit-stands}
 use Rattle.content.specs.Section.{dataFrom}
-use Rattle.content.specs.Walk.{moved, leftOf, Inside, isInside, taken, unitHere, opened, blockNext, unitIn, unitNext, orNext, unitFrom, firstSegment, nextSegment}
+use Rattle.content.specs.Walk.{moved, leftOf, isInside, taken, unitHere, opened, blockNext, unitIn, unitNext, orNext, unitFrom, firstSegment, nextSegment}
+use Rattle.content.specs.code.Heads.{Inside}
 use Rattle.content.specs.declared.Walk.{Walk}
 use Rattle.content.specs.declared.section.Extent.{Extent}
 use Rattle.content.specs.declared.section.Extent.the-variants.{At as Block, Nowhere}

@@ -10,7 +10,8 @@ use native.Mathlib.Numerals.{add-one}
 use native.Mathlib.Decide.{decLt}
 use borrow.Author.Tests.{eq-eqb, ne-eqb}
 use lib.ListN.{length, take, drop, length-take, length-drop}
-use Rattle.base.specs.If.{ifB, if-true, if-false}
+use Rattle.base.specs.If.{ifB}
+use Rattle.base.proofs.Ifs.{if-true, if-false}
 use Rattle.base.specs.Part.{part}
 use Rattle.base.specs.Sum.{sum}
 use Rattle.base.specs.Answer.{verdict}
@@ -26,10 +27,10 @@ use Rattle.volume.specs.Meaning.{File, joined, collect, setFrom, fieldsFrom, me
 use Rattle.content.specs.Part.{isWanted, firstIn}
 use Rattle.content.specs.Section.{asBlock, blockIn, dataFrom}
 use Rattle.content.specs.Walk.{opened, unitIn, begunBy}
-use Rattle.content.specs.File.{markFrom, walkFrom, fileAt, asFile, fileIn, fileFrom, firstFile, nextFile, fileBehind, fromFile, filesOn, fileNumbered, begunAt}
-use Rattle.content.specs.File.{begunBy as startedBy}
+use Rattle.content.specs.File.{markFrom, walkFrom, fileAt, asFile, fileIn, fileFrom, firstFile, nextFile, fileBehind, fromFile, filesOn, fileNumbered, begunAt, begunBy as startedBy}
 use Rattle.content.specs.Held.{heldBy, fileHeld}
-use Rattle.content.specs.Walked.{handed, Walks, endOf, Amounts, FileIs, Filed}
+use Rattle.content.specs.Walked.{handed, Walks, endOf, Amounts, FileIs}
+use Rattle.content.specs.code.Files.{Filed}
 use Rattle.content.specs.declared.Walk.{Walk}
 use Rattle.content.specs.declared.FileAt.{FileAt}
 use Rattle.content.specs.declared.NextFile.{NextFile}

@@ -10,7 +10,7 @@ use borrow.Author.Needs.{needs}
 use borrow.Author.Tests.{eq-eqb, ne-eqb, le-leb, lt-leb, leb-true, eqb-true, eqb-false, not-true, not-false}
 use lib.Dec.{leb, eqb}
 use lib.ListN.{length, take, drop}
-use Rattle.base.specs.If.{if-true, if-false, if-case}
+use Rattle.base.proofs.Ifs.{if-true, if-false, if-case}
 use Rattle.base.specs.Part.{part, allAre}
 use Rattle.base.proofs.Parts.{part-within}
 use Rattle.image.specs.Item.{shape, decode}
@@ -23,8 +23,9 @@ use Rattle.block.specs.declared.Unit.{Unit}
 use Rattle.block.specs.declared.Unit.the-variants.{Of, None}
 use Rattle.block.proofs.Wholes.{whole-unit}
 use Rattle.content.specs.Section.{dataFrom}
-use Rattle.content.specs.Walk.{moved, leftOf, Inside, isInside, taken, unitHere, opened, blockNext, unitIn, unitNext, orNext, unitFrom, whole, recordAt}
-use Rattle.content.specs.Whole.{headBy, atBlock, standsAt, wholeIn, wholeAt}
+use Rattle.content.specs.Walk.{moved, leftOf, isInside, taken, unitHere, opened, blockNext, unitIn, unitNext, orNext, unitFrom, whole, recordAt}
+use Rattle.content.specs.code.Heads.{Inside, wholeAt}
+use Rattle.content.specs.Whole.{headBy, atBlock, standsAt, wholeIn}
 use Rattle.content.specs.Measure.{measuredBy}
 use Rattle.content.specs.declared.Walk.{Walk}
 use Rattle.content.specs.declared.unit.Taken.{Taken}

@@ -8,10 +8,8 @@ use Prim.Native.Nat.{ℕ, _+_}
 use lib.ListN.{length, drop}
 use Rattle.base.specs.If.{ifB}
 use Rattle.base.specs.Part.{part}
-use Rattle.image.specs.Item.{Item, block, shape, decode}
-use Rattle.image.specs.declared.Shape.{Shape}
-use Rattle.image.specs.declared.Shape.the-variants.{Block as Bytes, Mark, ReelEnd, Broken}
-use Rattle.order.specs.Kind.{hdr, eov, eof, dataBlock, tapeMark, endOfReel, isKind}
+use Rattle.image.specs.Item.{Item, decode}
+use Rattle.order.specs.Kind.{hdr, eov, eof, dataBlock, isKind}
 use Rattle.order.specs.Due.{dueAfter}
 use Rattle.order.specs.declared.Kind.{Kind}
 use Rattle.order.specs.declared.Phase.{Phase}
@@ -19,8 +17,6 @@ use Rattle.order.specs.declared.Phase.the-variants.{Header}
 use Rattle.order.specs.declared.Due.{Due}
 use Rattle.order.specs.declared.Due.the-variants.{To, Wrong}
 use Rattle.volume.specs.Step.{kindIn, bytesIn}
-use Rattle.content.specs.declared.part.Seen.{Seen}
-use Rattle.content.specs.declared.part.Seen.the-variants.{Item as Of, Nothing}
 use Rattle.content.specs.declared.part.Position.{Position}
 use Rattle.content.specs.declared.part.Part.{Part}
 use Rattle.content.specs.declared.part.Part.the-variants.{File, Section, Block, None}
@@ -31,16 +27,6 @@ use Rattle.content.specs.declared.part.PartAt.{PartAt}
 -- the place behind an item that stands at a place
 unfoldable pub placeBehind : ℕ → Item → ℕ
 placeBehind at x = at + 3 + length (bytesIn x)
-
--- what stands at a place, in that phase: a kind of item and its bytes
-unfoldable pub seenBy : List ℕ → Phase → ℕ → Shape → Seen
-seenBy s p at (Bytes n) = Of (kindIn p (block (part (at + 3) n s))) n
-seenBy s p at Mark = Of tapeMark 0
-seenBy s p at ReelEnd = Of endOfReel 0
-seenBy s p at Broken = Nothing
-
-unfoldable pub seenAt : List ℕ → Phase → ℕ → Seen
-seenAt s p at = seenBy s p at (shape (drop at s))
 
 -- an item of kind k begins a file: HDR2, but not of a file that goes on
 unfoldable pub beginsFile : Bool → Kind → Bool

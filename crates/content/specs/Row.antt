@@ -3,13 +3,11 @@
 use mathlib.Core.List.{List, [], _∷_}
 use Prim.Native.Nat.{ℕ, zero, suc, min}
 use lib.ListN.{length}
-use Rattle.content.specs.Walk.{Record, whole, split, nothing, stepAt}
+use Rattle.content.specs.Walk.{stepAt}
 use Rattle.content.specs.declared.Walk.{Walk}
 use Rattle.content.specs.declared.Step.{Step}
 use Rattle.content.specs.declared.Step.the-variants.{InImage, Joined, Refused}
 use Rattle.content.specs.declared.row.Row.{Row}
-use Rattle.content.specs.declared.unit.Taken.{Taken}
-use Rattle.content.specs.declared.unit.Taken.the-variants.{One, Nothing}
 
 -- the places and the lengths of the records, in order, and the walk behind the last of them
 pub record StepRow : Type 0 where
@@ -43,9 +41,3 @@ stepsIn s places lengths w = stepsAt s (min (length places) (length lengths)) w
 -- their number, and the walk behind them
 unfoldable pub rowOf : StepRow → Row
 rowOf x = record { count = length (x .places); walk = x .walk }
-
--- a record that is one unit, as the unit
-unfoldable pub wholeBy : Record → Taken
-wholeBy (whole start n v) = One 0 start n v
-wholeBy (split bs v) = Nothing
-wholeBy nothing = Nothing

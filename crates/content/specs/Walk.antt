@@ -7,7 +7,7 @@
 -- `restAt` counts down a number that is large enough; `rest-at` (proofs/Rests.antt) is its equation.
 use mathlib.Core.Bool.{Bool, false}
 use mathlib.Core.List.{List, _++_}
-use Prim.Native.Nat.{ℕ, zero, suc, _+_, _-_, _≤_}
+use Prim.Native.Nat.{ℕ, zero, suc, _+_, _-_}
 use lib.Dec.{leb, eqb}
 use lib.ListN.{length, drop}
 use Rattle.base.specs.If.{ifB}
@@ -35,10 +35,6 @@ moved w at left = record { format = w .format; size = w .size; offset = w .offse
 -- what is left of the current block
 unfoldable pub leftOf : List ℕ → Walk → List ℕ
 leftOf s w = part (w .at) (w .left) s
-
--- it does not run past the image
-abbrev pub Inside : List ℕ → Walk → Type 0
-Inside s w = w .at + w .left ≤ length s
 
 unfoldable pub isInside : List ℕ → Walk → Bool
 isInside s w = ifB (leb (w .at) (length s)) (leb (w .left) (length s - w .at)) false

@@ -12,8 +12,6 @@ use Rattle.content.specs.File.{nextFile, fileBehind}
 use Rattle.content.specs.Held.{fileHeld}
 use Rattle.content.specs.declared.Walk.{Walk}
 use Rattle.content.specs.declared.FileAt.{FileAt}
-use Rattle.content.specs.declared.NextFile.{NextFile}
-use Rattle.content.specs.declared.NextFile.the-variants.{At as There, Nowhere as NoFile}
 
 -- the bytes of a record, as they are handed out, and the walk behind it; nothing is number 13
 unfoldable pub handed : List ℕ → Record → Rest
@@ -62,8 +60,3 @@ pub record FileIs (s : List ℕ) (f : FileAt) (d : File) : Type 0 where
   pub ends : endOf s (f .walk) ≤ length s
   pub behind : fileBehind s f (endOf s (f .walk)) ≡ nextFile s f
   pub amounts : Amounts s f d
-
--- going from file to file meets exactly these, and none behind the last
-abbrev pub Filed : List ℕ → NextFile → List File → Type 0
-Filed s x [] = x ≡ NoFile
-Filed s x (d ∷ ds) = (f : FileAt) × (x ≡ There f) × FileIs s f d × Filed s (nextFile s f) ds

@@ -5,7 +5,7 @@ ghost use Prim.Native.Nat.{_+_, _≤_};
 ghost use lib.ListN.{length};
 ghost use Rattle.base.specs.Part.{part, putAt};
 ghost use Rattle.content.specs.Walk.{recordAt};
-ghost use Rattle.content.specs.Measure.{RestFits, bytesBehind, SplitAt, recordBytes};
+ghost use Rattle.content.specs.code.Joining.{RestFits, bytesBehind, SplitAt, recordBytes};
 use crate::Walk;
 use crate::unit::Taken;
 use crate::unit::unit_from;

@@ -47,7 +47,7 @@ ghost use mathlib.Core.Path.{_≡_};
 ghost use lib.ListN.{length};
 ghost use Rattle.base.specs.Answer.{verdict};
 ghost use Rattle.content.specs.Walk.{stepAt, joinAt};
-ghost use Rattle.content.specs.Whole.{BegunAt, TwoAt};
+ghost use Rattle.content.specs.code.Heads.{BegunAt, TwoAt};
 ghost use Rattle.content.specs.File.{begunAt};
 ghost use Rattle.content.specs.Numbers.{recordOf, beginningOf, steppedOf, Said};
 ghost use Rattle.content.specs.Found.{passed, foundBy, foundIn, leftIn, foundFrom, leftFrom, foundAt, leftAt, partOf};

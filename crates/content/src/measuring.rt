@@ -1,8 +1,10 @@
 // The record at a walk's place, by its numbers: where it stands or how long it is, and the walk behind it. It changes no byte.
 ghost use mathlib.Core.Path.{_≡_};
-ghost use Rattle.content.specs.Walk.{Inside, restAt, recordAt};
-ghost use Rattle.content.specs.Whole.{atBlock, standsAt, wholeIn, segmentIn, turnIn, begunIn, BegunAt};
-ghost use Rattle.content.specs.Measure.{tailBy, measuredBy};
+ghost use Rattle.content.specs.Walk.{restAt, recordAt};
+ghost use Rattle.content.specs.code.Heads.{Inside, segmentIn, turnIn, begunIn, BegunAt};
+ghost use Rattle.content.specs.Whole.{atBlock, standsAt, wholeIn};
+ghost use Rattle.content.specs.Measure.{measuredBy};
+ghost use Rattle.content.specs.code.Joining.{tailBy};
 use crate::Walk;
 use crate::unit::Taken;
 use crate::unit::is_inside;

@@ -1,6 +1,7 @@
 // The parts of an image, one after the other: the one search over its items, whatever its bytes. It knows the order of a reel and the kinds of labels.
 ghost use mathlib.Core.Path.{_≡_};
-ghost use Rattle.content.specs.Part.{seenAt, beginsFile, ledTo, goesOnBehind, firstBehind, partIn, partsAt, isWanted, firstFrom, nextPart};
+ghost use Rattle.content.specs.Part.{beginsFile, ledTo, goesOnBehind, firstBehind, partIn, partsAt, isWanted, firstFrom, nextPart};
+ghost use Rattle.content.specs.code.Seen.{seenAt};
 use image::Shape;
 use image::shape_at;
 use order::DATA_BLOCK;

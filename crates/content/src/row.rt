@@ -2,7 +2,8 @@
 ghost use mathlib.Core.Path.{_≡_};
 ghost use Rattle.base.specs.Part.{putAt};
 ghost use Rattle.content.specs.Walk.{recordAt};
-ghost use Rattle.content.specs.Row.{wholeBy, stepsIn, rowOf};
+ghost use Rattle.content.specs.Row.{stepsIn, rowOf};
+ghost use Rattle.content.specs.code.Heads.{wholeBy};
 use crate::Walk;
 use crate::measuring::Measured;
 use crate::measuring::at_block;

@@ -2,7 +2,8 @@
 ghost use mathlib.Core.Path.{_≡_};
 ghost use lib.ListN.{drop};
 ghost use Rattle.block.specs.Unit.{unitOf};
-ghost use Rattle.content.specs.Walk.{moved, Inside, isInside, unitHere, blockNext, unitNext, unitFrom};
+ghost use Rattle.content.specs.Walk.{moved, isInside, unitHere, blockNext, unitNext, unitFrom};
+ghost use Rattle.content.specs.code.Heads.{Inside};
 use crate::Walk;
 use crate::measuring::at_block;
 use crate::measuring::segment_in;

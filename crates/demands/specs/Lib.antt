@@ -1,13 +1,3 @@
-pub mod Examples
-pub mod NewYear
 pub mod Operations
 pub mod Terms
-pub mod Refusals
-pub mod Records
-pub mod Normal
-pub mod Tapes
 pub mod Demands
-pub mod Met
-pub mod Requests
-pub mod Witness
-pub mod Wrong

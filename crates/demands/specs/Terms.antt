@@ -1,20 +1,21 @@
 -- The words of the page of demands.
 use mathlib.Core.Path.{_≡_}
-use mathlib.Core.Bool.{Bool, true, false}
+use mathlib.Core.Bool.{true, Bool, false}
 use mathlib.Core.List.{List, [], _∷_, _++_}
-use Prim.Native.Nat.{ℕ, zero, suc, _+_, _≤_, _<_}
+use Prim.Native.Nat.{ℕ, _+_, zero, suc, _≤_, _<_}
 use lib.Dec.{eqb, leb}
 use lib.ListN.{length, drop}
 use Rattle.base.specs.If.{ifB}
-use Rattle.base.specs.Part.{part, putAt}
 use Rattle.base.specs.Answer.{verdict}
 use Rattle.base.specs.declared.Verdict.{Verdict}
 use Rattle.image.specs.Item.{Item, encode}
-use Rattle.image.specs.Framing.{head, mostImage}
+use Rattle.image.specs.Framing.{items, head, mostImage}
+use Rattle.volume.specs.State.{start}
+use Rattle.content.specs.Walk.{whole, Record, split, recordAt}
+use Rattle.base.specs.Part.{part, putAt}
 use Rattle.output.specs.Output.{Written, refused}
 use Rattle.volume.specs.Meaning.{File, fieldsFrom}
 use Rattle.reading.specs.Legal.{Sheet}
-use Rattle.content.specs.Walk.{Record, whole, split, recordAt}
 use Rattle.content.specs.Row.{StepRow as Row, stays, ahead}
 use Rattle.content.specs.Found.{passed}
 use Rattle.content.specs.Records.{factsOf}
@@ -130,3 +131,9 @@ pub data WriteOutcome (n : ℕ) (x : Sheet) (out : List ℕ) : Written → Type 
   fewReels : n ≡ 0 → lay x ≡ short → WriteOutcome n x out (refused 12 out)
   tooLong : n ≡ 0 → (xs : List Item) → lay x ≡ laid xs → mostImage < length (head ++ encode xs) → WriteOutcome n x out (refused 14 out)
   noRoom : n ≡ 0 → (xs : List Item) → lay x ≡ laid xs → length (head ++ encode xs) ≤ mostImage → length out < length (head ++ encode xs) → WriteOutcome n x out (refused 10 out)
+
+-- 15 at an item, or 2, which has no place
+pub record Torn (v : Verdict) : Type 0 where
+  pub number : isIn (0 ∷ 15 ∷ 2 ∷ []) (v .number) ≡ true
+  pub item : v .number ≡ 2 → v .item ≡ 0
+  pub byte : v .byte ≡ 0

@@ -6,8 +6,9 @@ use mathlib.Core.List.{List, [], _∷_, _++_, append-assoc, append-nil}
 use Prim.Native.Nat.{ℕ, zero, suc, _≤_, _<_}
 use native.Mathlib.Omega.{arith}
 use lib.ListN.{length}
-use Rattle.base.specs.If.{if-true, if-case}
-use Rattle.image.specs.Item.{Item, decodeF, decodeBy, encodeBy, isItem, allItems}
+use Rattle.base.proofs.Ifs.{if-true, if-case}
+use Rattle.image.specs.Item.{Item, decodeF, decodeBy, encodeBy}
+use Rattle.image.specs.code.Items.{isItem, allItems}
 use Rattle.image.specs.Byte.{Bytes}
 
 -- ---- all of some items can stand in an image

@@ -8,7 +8,8 @@ use borrow.Author.Needs.{needs}
 use borrow.Author.Tests.{eq-eqb, ne-eqb, le-leb, le-ltb, ltb-false}
 use lib.Dec.{eqb, ltb}
 use lib.ListN.{length, take, drop}
-use Rattle.base.specs.If.{ifB, if-true, if-false, if-case, and-true}
+use Rattle.base.specs.If.{ifB}
+use Rattle.base.proofs.Ifs.{if-true, if-false, if-case, and-true}
 use Rattle.base.specs.Part.{part, same}
 use Rattle.base.specs.Answer.{verdict}
 use Rattle.base.specs.declared.Verdict.{Verdict}
@@ -16,7 +17,8 @@ use Rattle.base.proofs.Parts.{length-part}
 use Rattle.base.proofs.Bytes.{same-refl, same-true}
 use Rattle.image.specs.declared.Shape.{Shape}
 use Rattle.image.specs.declared.Shape.the-variants.{Block, Mark, ReelEnd, Broken}
-use Rattle.image.specs.Item.{Item, block, mark, reelEnd, broken, mostBytes, shape, itemOf, decode, isItem, allItems}
+use Rattle.image.specs.Item.{Item, block, mark, reelEnd, broken, mostBytes, shape, itemOf, decode}
+use Rattle.image.specs.code.Items.{isItem, allItems}
 use Rattle.image.specs.Framing.{mostImage, mostReels, head, framedFrom, items, opens, framing, framingFrom}
 use Rattle.image.proofs.Items.{BlockAt, block-at, block-fits, decode-none, decode-more, by-items, decode-past, decode-at, decode-block, decode-mark, decode-reel-end, decode-broken}
 

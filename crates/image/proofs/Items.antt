@@ -12,7 +12,7 @@ use borrow.Author.Tests.{leb-true, eqb-true, eqb-false, ne-eqb, le-leb, lt-leb}
 use lib.Dec.{leb, eqb}
 use lib.ListN.{length, drop, getD, length-drop, drop-of-length-le}
 use lib.Seq.{drop-drop, getD-drop}
-use Rattle.base.specs.If.{if-true, if-false, if-case}
+use Rattle.base.proofs.Ifs.{if-true, if-false, if-case}
 use Rattle.base.specs.Part.{part}
 use Rattle.base.proofs.Parts.{part-drop}
 use Rattle.image.specs.declared.Shape.{Shape}

@@ -11,13 +11,14 @@ use borrow.Author.Tests.{ne-eqb, le-leb, le-ltb, leb-true}
 use lib.Dec.{leb}
 use lib.ListN.{length, take, drop, getD, length-append, take-append-drop}
 use lib.Seq.{drop-drop, getD-drop, take-append-seam, drop-append-seam}
-use Rattle.base.specs.If.{if-true, if-false, and-first, and-second}
+use Rattle.base.proofs.Ifs.{if-true, if-false, and-first, and-second}
 use Rattle.base.specs.Part.{part}
 use Rattle.base.proofs.Parts.{length-part}
 use Rattle.base.proofs.Bytes.{same-refl}
 use Rattle.image.specs.declared.Shape.{Shape}
 use Rattle.image.specs.declared.Shape.the-variants.{Block, Mark, ReelEnd, Broken}
-use Rattle.image.specs.Item.{Item, block, mark, reelEnd, broken, mostBytes, reelEndWord, word, ledBy, shape, itemOf, behind, itemIn, leftOf, decode, three, bytesOf, encode, isItem, allItems}
+use Rattle.image.specs.Item.{Item, block, mark, reelEnd, broken, mostBytes, reelEndWord, word, ledBy, shape, itemOf, behind, itemIn, leftOf, decode, three, bytesOf, encode}
+use Rattle.image.specs.code.Items.{isItem, allItems}
 use Rattle.image.specs.Byte.{Bytes}
 use Rattle.image.specs.Framing.{mostImage, head, framedFrom, items, framing}
 use Rattle.image.proofs.Coding.{by-append, items-again, bytes-again}

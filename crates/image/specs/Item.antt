@@ -5,7 +5,6 @@
 -- Read first: `shape`, what stands at the head of some bytes; `decode`, the items of the bytes behind the five-byte head, of which
 -- `decode-none` and `decode-more` (proofs/Items.antt) are the equations; `encode`, the bytes of items.
 -- A wrong length, or an item cut short, is the item `broken`, behind which nothing is read: `decode` is total.
-use mathlib.Core.Bool.{Bool, true, false, _&&_}
 use mathlib.Core.List.{List, [], _∷_, _++_}
 use Prim.Native.Nat.{ℕ, zero, suc, _+_, _*_, _/_, _%_}
 use lib.Dec.{leb, eqb}
@@ -101,14 +100,3 @@ encodeBy bytes (x ∷ xs) = bytes x ++ encodeBy bytes xs
 
 unfoldable pub encode : List Item → List ℕ
 encode xs = encodeBy bytesOf xs
-
--- an item that can stand in an image
-unfoldable pub isItem : Item → Bool
-isItem (block bs) = leb 1 (length bs) && leb (length bs) mostBytes
-isItem mark = true
-isItem reelEnd = true
-isItem broken = false
-
-unfoldable pub allItems : List Item → Bool
-allItems [] = true
-allItems (x ∷ xs) = ifB (isItem x) (allItems xs) false

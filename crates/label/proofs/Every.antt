@@ -6,7 +6,8 @@ use Prim.Native.Nat.{ℕ, zero, suc, _+_}
 use native.Mathlib.Omega.{arith}
 use lib.Dec.{eqb}
 use borrow.Author.Tests.{eq-eqb, eqb-true, eqb-false}
-use Rattle.base.specs.If.{ifB, if-true, if-case}
+use Rattle.base.specs.If.{ifB}
+use Rattle.base.proofs.Ifs.{if-true, if-case}
 use Rattle.base.specs.Answer.{fault}
 use Rattle.base.specs.declared.Fault.{Fault}
 use Rattle.order.specs.declared.Kind.{Kind}

@@ -7,7 +7,7 @@ use native.Mathlib.Omega.{arith}
 use borrow.Author.Tests.{leb-true, ne-eqb}
 use lib.Dec.{leb, eqb}
 use lib.ListN.{length, getD}
-use Rattle.base.specs.If.{if-case, and-left}
+use Rattle.base.proofs.Ifs.{if-case, and-left}
 use Rattle.base.specs.Part.{part, same}
 use Rattle.order.specs.Kind.{kind, isKind}
 use Rattle.order.specs.declared.Kind.{Kind}

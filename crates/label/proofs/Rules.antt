@@ -6,7 +6,7 @@ use Prim.Native.Nat.{ℕ, zero, suc, _<_}
 use native.Mathlib.Omega.{arith}
 use lib.ListN.{length, getD}
 use borrow.Author.Tests.{eq-eqb, ne-eqb}
-use Rattle.base.specs.If.{if-true, if-false, so-true, so-false, or-left, or-right}
+use Rattle.base.proofs.Ifs.{if-true, if-false, so-true, so-false, or-left, or-right}
 
 -- each test is a call
 pub ruleset calls = (if-true, if-false, so-true, so-false)

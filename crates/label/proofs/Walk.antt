@@ -7,9 +7,9 @@ use native.Mathlib.Omega.{arith}
 use borrow.Author.Needs.{needs}
 use lib.ListN.{length, drop, getD, drop-of-length-le, length-drop}
 use lib.Seq.{drop-cons}
-use Rattle.base.specs.If.{if-true, if-false}
+use Rattle.base.proofs.Ifs.{if-true, if-false}
 use Rattle.label.specs.Judged.{firstBad, goodAt, agreeAt, endsBefore}
-use Rattle.label.specs.Asked.{asked}
+use Rattle.label.specs.code.Asked.{asked}
 use Rattle.label.specs.declared.rows.Ask.{Ask}
 use Rattle.label.specs.declared.rows.Ask.the-variants.{Suits, Agrees, Ends}
 

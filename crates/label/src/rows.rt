@@ -3,7 +3,7 @@ ghost use mathlib.Core.Path.{_≡_};
 ghost use Prim.Native.Nat.{_≤_, _<_};
 ghost use lib.ListN.{length};
 ghost use Rattle.base.specs.Part.{part, same};
-ghost use Rattle.label.specs.Asked.{asked};
+ghost use Rattle.label.specs.code.Asked.{asked};
 ghost use Rattle.label.specs.Judged.{firstBad, agreeAt, endsBefore};
 ghost use Rattle.label.specs.Table.{fieldsOf};
 use super::field::good_at;

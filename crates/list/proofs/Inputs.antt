@@ -5,12 +5,12 @@ use Prim.Native.Nat.{ℕ, _≤_, _<_}
 use borrow.Author.Needs.{needs}
 use borrow.Author.Tests.{lt-ltb, le-ltb}
 use lib.ListN.{length}
-use Rattle.base.specs.If.{if-true, if-false}
+use Rattle.base.proofs.Ifs.{if-true, if-false}
 use Rattle.base.specs.Answer.{verdict}
 use Rattle.output.specs.Output.{fitted, Answers}
 use Rattle.output.specs.declared.Written.{Written as Answer}
 use Rattle.listing.specs.Text.{refusalLine, textOf}
-use Rattle.list.specs.Input.{inputText}
+use Rattle.list.specs.code.Input.{inputText}
 
 pub input-long : (s out : List ℕ) (a : Answer) (p : List ℕ) → 60000 < length s → Answers (fitted (refusalLine (record { number = 9; item = 0; byte = 0 })) out) a p
     → Answers (fitted (inputText s) out) a p

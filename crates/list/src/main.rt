@@ -1,7 +1,7 @@
 // The listing program: reads an image from standard input and writes its listing, or the line of its refusal, to standard output.
 ghost use mathlib.Core.Path.{_≡_};
 ghost use Rattle.output.specs.Output.{Answers, fitted};
-ghost use Rattle.list.specs.Input.{inputText};
+ghost use Rattle.list.specs.code.Input.{inputText};
 use base::Verdict;
 use base::part_of;
 use libc::STDIN_FILENO;

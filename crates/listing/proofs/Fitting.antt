@@ -8,7 +8,8 @@ use borrow.Author.Tests.{le-leb, lt-leb, eq-eqb, ne-eqb}
 use lib.Dec.{eqb}
 use lib.ListN.{length, take, drop}
 use lib.Seq.{length-take-le, take-append-seam}
-use Rattle.base.specs.If.{ifB, if-true, if-false}
+use Rattle.base.specs.If.{ifB}
+use Rattle.base.proofs.Ifs.{if-true, if-false}
 use Rattle.base.specs.Part.{putAt}
 use Rattle.base.specs.Answer.{verdict}
 use Rattle.base.specs.declared.Verdict.{Verdict}
@@ -17,7 +18,7 @@ use Rattle.output.specs.declared.Written.{Written as Answer}
 use Rattle.output.proofs.Writing.{answers-refused, wrote-same}
 use Rattle.volume.specs.Run.{imageVerdict}
 use Rattle.volume.specs.Meaning.{content}
-use Rattle.listing.specs.Page.{PageWrote, endless}
+use Rattle.listing.specs.code.Page.{PageWrote, endless}
 use Rattle.listing.specs.Text.{listingOf, refusalLine, textOf}
 use Rattle.listing.proofs.Pages.{listing-long}
 

@@ -20,7 +20,8 @@ use Rattle.volume.specs.Meaning.{File, content}
 use Rattle.reading.proofs.Entries.{entry-name, entry-second}
 use Rattle.content.specs.File.{asFile, fileIn as firstFileIn, fileFrom, firstFile, nextFile, fileBehind}
 use Rattle.content.specs.Held.{fileHeld}
-use Rattle.content.specs.Walked.{FileIs, Filed}
+use Rattle.content.specs.Walked.{FileIs}
+use Rattle.content.specs.code.Files.{Filed}
 use Rattle.content.specs.declared.holding.FileHeld.{FileHeld}
 use Rattle.content.specs.declared.FileAt.{FileAt}
 use Rattle.content.specs.declared.NextFile.{NextFile}
@@ -29,9 +30,9 @@ use Rattle.content.specs.declared.part.Part.{Part}
 use Rattle.content.specs.declared.part.Part.the-variants.{File as NewFile, Section, Block, None}
 use Rattle.content.proofs.Parts.{stands, IsAhead, first-ahead}
 use Rattle.content.proofs.Walked.{files-all}
-use Rattle.listing.specs.Page.{PageWrote, endless}
+use Rattle.listing.specs.code.Page.{PageWrote, endless}
 use Rattle.listing.specs.Text.{heading, named, counted, described, line, lines, listingOf}
-use Rattle.listing.specs.Place.{describedAt, lineAt}
+use Rattle.listing.specs.code.Place.{describedAt, lineAt}
 
 -- ---- a line
 

@@ -7,7 +7,8 @@ use native.Mathlib.Omega.{arith}
 use borrow.Author.Tests.{leb-true}
 use lib.Dec.{leb}
 use lib.ListN.{length, drop, length-append, length-take}
-use Rattle.base.specs.If.{ifB, if-case}
+use Rattle.base.specs.If.{ifB}
+use Rattle.base.proofs.Ifs.{if-case}
 use Rattle.base.specs.Part.{part}
 use Rattle.base.specs.Sum.{sum}
 use Rattle.base.specs.Digits.{digits}
@@ -21,7 +22,8 @@ use Rattle.reading.specs.Legal.{legalMeaning, legalFiles}
 use Rattle.reading.proofs.Legality.{accepted-legal}
 use Rattle.content.specs.Held.{fileHeld}
 use Rattle.content.specs.File.{firstFile, nextFile}
-use Rattle.content.specs.Walked.{FileIs, Filed}
+use Rattle.content.specs.Walked.{FileIs}
+use Rattle.content.specs.code.Files.{Filed}
 use Rattle.content.specs.declared.FileAt.{FileAt}
 use Rattle.content.specs.declared.NextFile.{NextFile}
 use Rattle.content.proofs.Helds.{held-within}

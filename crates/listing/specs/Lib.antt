@@ -1,5 +1,3 @@
 pub mod Decimal
-pub mod Page
 pub mod Text
-pub mod Place
-pub mod Examples
+pub mod code

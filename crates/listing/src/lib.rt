@@ -6,7 +6,7 @@ ghost use mathlib.Core.Path.{_≡_};
 ghost use Rattle.output.specs.Output.{Answers, fitted};
 ghost use Rattle.volume.specs.Run.{imageVerdict};
 ghost use Rattle.volume.specs.Meaning.{content};
-ghost use Rattle.listing.specs.Page.{PageWrote};
+ghost use Rattle.listing.specs.code.Page.{PageWrote};
 ghost use Rattle.listing.specs.Text.{listingOf, refusalLine, textOf};
 use base::Verdict;
 use content::NextFile;

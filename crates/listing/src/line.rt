@@ -1,8 +1,8 @@
 // The lines of a listing: what is said of a refusal, and of a file.
 ghost use mathlib.Core.Path.{_≡_};
-ghost use Rattle.listing.specs.Page.{PageWrote};
+ghost use Rattle.listing.specs.code.Page.{PageWrote};
 ghost use Rattle.listing.specs.Text.{heading, named, counted, placed, refusalLine};
-ghost use Rattle.listing.specs.Place.{describedAt, lineAt};
+ghost use Rattle.listing.specs.code.Place.{describedAt, lineAt};
 use crate::page::put;
 use crate::page::put_number;
 use base::Verdict;

@@ -1,7 +1,7 @@
 // Text in the lent buffer: bytes and numbers written at a place, where they have room. It knows no line of a listing.
 ghost use mathlib.Core.Path.{_≡_};
 ghost use mathlib.Core.List.{_++_};
-ghost use Rattle.listing.specs.Page.{PageWrote};
+ghost use Rattle.listing.specs.code.Page.{PageWrote};
 ghost use Rattle.listing.specs.Decimal.{decimal};
 use output::put_bytes;
 

@@ -6,7 +6,8 @@ use mathlib.Core.List.{List, _∷_}
 use Prim.Native.Nat.{ℕ, _+_}
 use borrow.Author.Tests.{eqb-true}
 use lib.Dec.{eqb, ltb}
-use Rattle.base.specs.If.{ifB, if-false, if-case, and-first, and-second, and-true}
+use Rattle.base.specs.If.{ifB}
+use Rattle.base.proofs.Ifs.{if-false, if-case, and-first, and-second, and-true}
 use Rattle.order.specs.Kind.{hdr, eof, dataBlock, tapeMark, endOfReel, isKind}
 use Rattle.order.specs.Due.{DueItem, dues, choose, dueAfter, upToNine}
 use Rattle.order.specs.Group.{amongLabels, amongHeaders, amongData, groupAfter}

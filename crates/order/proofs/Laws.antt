@@ -9,7 +9,8 @@ use mir.Syntax.{w32}
 use borrow.Author.Needs.{needs}
 use borrow.Author.Tests.{eq-eqb, ne-eqb, lt-ltb, le-ltb, ltb-true, eqb-true}
 use lib.Dec.{eqb, ltb}
-use Rattle.base.specs.If.{ifB, if-true, if-false, if-case, and-left, and-first, and-second}
+use Rattle.base.specs.If.{ifB}
+use Rattle.base.proofs.Ifs.{if-true, if-false, if-case, and-left, and-first, and-second}
 use Rattle.order.specs.Kind.{kind, isKind, vol, hdr, eof, eov, dataBlock, tapeMark, endOfReel, endOfImage}
 use Rattle.order.specs.Due.{DueItem, turn, dues, choose, dueAfter, upToNine}
 use Rattle.order.specs.declared.Kind.{Kind}

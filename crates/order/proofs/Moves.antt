@@ -7,7 +7,7 @@ use Prim.Native.Nat.{ℕ, _+_, _≤_}
 use native.Mathlib.Omega.{arith}
 use borrow.Author.Tests.{ne-eqb}
 use lib.Dec.{eqb}
-use Rattle.base.specs.If.{and-left}
+use Rattle.base.proofs.Ifs.{and-left}
 use Rattle.order.specs.Kind.{kind, vol, uvl, hdr, uhl, eof, eov, utl, dataBlock, tapeMark, endOfReel, endOfImage, isKind}
 use Rattle.order.proofs.Laws.{Each, nine, chosen}
 use Rattle.order.specs.Due.{dues, dueAfter}

@@ -13,7 +13,8 @@ use borrow.Author.Tests.{eq-eqb, le-leb, leb-true, leb-false, eqb-true, eqb-fals
 use lib.Dec.{leb, eqb}
 use lib.ListN.{length, take, drop, getD, length-append, length-take}
 use lib.Seq.{length-take-le}
-use Rattle.base.specs.If.{ifB, if-true, if-false, if-case}
+use Rattle.base.specs.If.{ifB}
+use Rattle.base.proofs.Ifs.{if-true, if-false, if-case}
 use Rattle.base.specs.Part.{part, allAre}
 use Rattle.base.specs.Digits.{isDigit, allDigits, value}
 use Rattle.base.proofs.Parts.{length-part}

@@ -8,7 +8,8 @@ use native.Mathlib.Omega.{arith}
 use borrow.Author.Tests.{eqb-true, leb-true}
 use lib.Dec.{eqb, leb}
 use lib.ListN.{length, drop, getD, replicate}
-use Rattle.base.specs.If.{ifB, if-true, if-false, if-case, and-left, and-right, and-first, and-second, or-false}
+use Rattle.base.specs.If.{ifB}
+use Rattle.base.proofs.Ifs.{if-true, if-false, if-case, and-left, and-right, and-first, and-second, or-false}
 use Rattle.base.specs.Part.{part, same}
 use Rattle.base.specs.Answer.{orElse}
 use Rattle.base.proofs.Bytes.{same-true}

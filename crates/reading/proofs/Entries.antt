@@ -9,7 +9,8 @@ use borrow.Author.Tests.{eq-eqb, le-leb, leb-true, eqb-true, eqb-false}
 use lib.Dec.{leb, eqb}
 use lib.ListN.{length, take, drop, getD, length-append, length-drop}
 use lib.Seq.{getD-take, getD-drop, take-append-le, drop-append-le, drop-append-add}
-use Rattle.base.specs.If.{ifB, if-true, if-false, if-case}
+use Rattle.base.specs.If.{ifB}
+use Rattle.base.proofs.Ifs.{if-true, if-false, if-case}
 use Rattle.base.specs.Part.{part, same, allAre}
 use Rattle.base.specs.Digits.{isDigit, allDigits, value, digits}
 use Rattle.base.specs.Answer.{fault}

@@ -7,7 +7,8 @@ use native.Mathlib.Omega.{arith}
 use borrow.Author.Tests.{eqb-true, eqb-false, le-leb}
 use lib.Dec.{eqb}
 use lib.ListN.{length}
-use Rattle.base.specs.If.{ifB, if-true, if-case}
+use Rattle.base.specs.If.{ifB}
+use Rattle.base.proofs.Ifs.{if-true, if-case}
 use Rattle.image.specs.Item.{Item, block, mark, reelEnd, broken}
 use Rattle.image.specs.Framing.{items}
 use Rattle.order.specs.Kind.{other, dataBlock, endOfImage, isKind}

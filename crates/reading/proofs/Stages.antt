@@ -9,7 +9,8 @@ use borrow.Author.Tests.{ne-eqb, eqb-true, eqb-false, leb-false}
 use lib.Dec.{leb, eqb}
 use lib.ListN.{length, getD}
 use Rattle.base.proofs.Faults.{or-first, or-second}
-use Rattle.base.specs.If.{ifB, if-true, if-false, if-case, if-same}
+use Rattle.base.specs.If.{ifB}
+use Rattle.base.proofs.Ifs.{if-true, if-false, if-case, if-same}
 use Rattle.base.specs.Part.{part, same}
 use Rattle.base.specs.Answer.{fault, orElse}
 use Rattle.base.specs.declared.Fault.{Fault}

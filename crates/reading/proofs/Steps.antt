@@ -3,7 +3,8 @@ use mathlib.Core.Path.{_≡_, refl, sym, _∙_, subst}
 use mathlib.Core.List.{List, [], _++_}
 use Prim.Native.Nat.{ℕ}
 use lib.ListN.{length}
-use Rattle.base.specs.If.{ifB, if-false}
+use Rattle.base.specs.If.{ifB}
+use Rattle.base.proofs.Ifs.{if-false}
 use Rattle.base.specs.Answer.{fault}
 use Rattle.order.specs.Kind.{hdr, eof, dataBlock, isKind}
 use Rattle.order.specs.declared.Kind.{Kind}

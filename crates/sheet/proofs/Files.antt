@@ -9,7 +9,8 @@ use borrow.Author.Needs.{needs}
 use borrow.Author.Tests.{not-true, not-false}
 use lib.ListN.{length, take, drop, getD, length-drop, take-append-drop, drop-of-length-le, List·getD-eq-default}
 use lib.Seq.{drop-cons, drop-drop}
-use Rattle.base.specs.If.{ifB, if-true, if-false}
+use Rattle.base.specs.If.{ifB}
+use Rattle.base.proofs.Ifs.{if-true, if-false}
 use Rattle.base.specs.Part.{part}
 use Rattle.base.specs.Sum.{sum, cutBy}
 use Rattle.base.proofs.Sums.{sum-append}
@@ -20,7 +21,7 @@ use Rattle.volume.specs.Fault.{valueOf}
 use Rattle.volume.specs.Meaning.{File}
 use Rattle.reading.specs.Legal.{formatFrom, recordLengthFrom, legalEntry, legalRecords, legalFile, legalFiles}
 use Rattle.sheet.specs.Flat.{inParts, filesFrom}
-use Rattle.sheet.specs.Passing.{RecordsPassed}
+use Rattle.sheet.specs.code.Passing.{RecordsPassed}
 use Rattle.sheet.specs.declared.file.Passed.{Passed}
 use Rattle.sheet.proofs.Cutting.{drop-past, take-past, parts-none, parts-some}
 

@@ -9,13 +9,15 @@ use borrow.Author.Tests.{eq-eqb, eqb-true, leb-true, le-ltb}
 use lib.Dec.{eqb, leb}
 use lib.ListN.{length, take, drop, length-append}
 use lib.Seq.{take-at, drop-at}
-use Rattle.base.specs.If.{ifB, if-true, if-false, if-case}
+use Rattle.base.specs.If.{ifB}
+use Rattle.base.proofs.Ifs.{if-true, if-false, if-case}
 use Rattle.base.specs.Sum.{sum, cutBy}
 use Rattle.base.proofs.Sums.{sum-append, length-map, sum-lengths, cut-back}
 use Rattle.volume.specs.Fault.{isAmong}
 use Rattle.volume.specs.Meaning.{File, Meaning}
 use Rattle.reading.specs.Legal.{Sheet, legalEntry, legalFile, legalFiles, legalMeaning, legalName, freshNames, legalNames, legalQuota, legalSheet}
-use Rattle.sheet.specs.Flat.{inParts, filesFrom, addsUp, sheetOf, sheetNumber, allLong, flatten}
+use Rattle.sheet.specs.Flat.{inParts, filesFrom, addsUp, sheetOf, sheetNumber}
+use Rattle.sheet.specs.code.Flatten.{allLong, flatten}
 use Rattle.sheet.proofs.Cutting.{parts-none, parts-cons}
 use Rattle.sheet.proofs.Names.{legal-long}
 

@@ -9,12 +9,13 @@ use borrow.Author.Needs.{needs}
 use borrow.Author.Tests.{eq-eqb, ne-eqb, le-leb, lt-leb, lt-ltb, le-ltb, eqb-true, eqb-false, ltb-false, not-true, not-false}
 use lib.Dec.{eqb, ltb}
 use lib.ListN.{length}
-use Rattle.base.specs.If.{ifB, if-true, if-false, if-case, if-same}
+use Rattle.base.specs.If.{ifB}
+use Rattle.base.proofs.Ifs.{if-true, if-false, if-case, if-same}
 use Rattle.base.specs.Sum.{sum}
 use Rattle.volume.specs.Meaning.{Meaning}
 use Rattle.reading.specs.Legal.{legalFiles, legalMeaning, freshNames, legalNames, legalQuota, legalSheet}
 use Rattle.sheet.specs.Flat.{Flat, inParts, filesFrom, addsUp, sheetOf, sheetNumber, reelsNumber}
-use Rattle.sheet.specs.Passing.{fillBytes, saysFiles}
+use Rattle.sheet.specs.code.Passing.{fillBytes, saysFiles}
 use Rattle.sheet.proofs.Cutting.{length-parts}
 
 -- ---- the quota and the names

@@ -12,10 +12,11 @@ use mir.Syntax.{w64}
 use lib.Dec.{eqb, leb}
 use lib.ListN.{length, take, drop, getD, drop-of-length-le}
 use lib.Seq.{drop-cons, drop-drop}
-use Rattle.base.specs.If.{ifB, if-true, if-false, if-case}
+use Rattle.base.specs.If.{ifB}
+use Rattle.base.proofs.Ifs.{if-true, if-false, if-case}
 use Rattle.base.specs.Part.{part, allAre}
 use Rattle.reading.specs.Legal.{legalRecord, legalRecords}
-use Rattle.sheet.specs.Passing.{RecordsPassed, tooLong}
+use Rattle.sheet.specs.code.Passing.{RecordsPassed, tooLong}
 use Rattle.sheet.specs.declared.file.Passed.{Passed}
 use Rattle.base.specs.Sum.{sum, cutBy}
 use Rattle.base.proofs.Parts.{length-part, part-within}

@@ -1,7 +1,7 @@
 -- The order sheet as flat slices that a caller fills: the set identifier; 46 bytes a file; a count of records for each file; a length for each
 -- record; the records' bytes one behind the other; the quota; 6 bytes a reel name.
-use mathlib.Core.Bool.{Bool, true, false}
-use mathlib.Core.List.{List, [], _∷_, map, flatten as endToEnd}
+use mathlib.Core.Bool.{Bool, false}
+use mathlib.Core.List.{List, [], _∷_}
 use Prim.Native.Nat.{ℕ, zero, suc, _*_, _/_, _%_}
 use lib.Dec.{eqb, ltb}
 use lib.ListN.{length, take, drop}
@@ -9,7 +9,7 @@ use Rattle.base.specs.If.{ifB}
 use Rattle.base.specs.Sum.{sum, cutBy}
 use Rattle.image.specs.Framing.{mostReels}
 use Rattle.volume.specs.Fault.{mostFiles}
-use Rattle.volume.specs.Meaning.{File, Meaning}
+use Rattle.volume.specs.Meaning.{File}
 use Rattle.reading.specs.Legal.{Sheet, legalQuota, legalNames, legalSheet}
 
 pub record Flat : Type 0 where
@@ -68,23 +68,3 @@ unfoldable pub reelsNumber : ℕ → List ℕ → ℕ
 reelsNumber quota names =
     ifB (ltb mostReels (length names / 6)) 9
     (ifB (eqb (length names % 6) 0) (ifB (legalQuota quota) (ifB (legalNames (inParts 6 names)) 0 11) 11) 11)
-
--- ---- slices that say a given meaning
-
--- each of the parts has w elements
-unfoldable pub allLong : ℕ → List (List ℕ) → Bool
-allLong w [] = true
-allLong w (x ∷ xs) = ifB (eqb (length x) w) (allLong w xs) false
-
--- entries, lengths, records and names laid end to end, file by file
-unfoldable pub flatten : Meaning → ℕ → List (List ℕ) → Flat
-flatten m quota names =
-    record {
-      set = m .set;
-      files = endToEnd (map (λ (d : File). d .fields) (m .files));
-      counts = map (λ (d : File). length (d .records)) (m .files);
-      lengths = endToEnd (map (λ (d : File). map length (d .records)) (m .files));
-      bytes = endToEnd (map (λ (d : File). endToEnd (d .records)) (m .files));
-      quota = quota;
-      names = endToEnd names;
-    }

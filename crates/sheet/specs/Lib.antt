@@ -1,2 +1,2 @@
 pub mod Flat
-pub mod Passing
+pub mod code

@@ -9,7 +9,7 @@ ghost use Rattle.label.specs.Judged.{labelFault};
 ghost use Rattle.label.specs.Made.{madeFirst, madeSecond};
 ghost use Rattle.reading.specs.Legal.{isSound, formatFrom, recordLengthFrom, legalEntry, legalRecord, legalRecords, legalFile, legalFiles};
 ghost use Rattle.sheet.specs.Flat.{inParts, filesFrom};
-ghost use Rattle.sheet.specs.Passing.{RecordsPassed, tooLong};
+ghost use Rattle.sheet.specs.code.Passing.{RecordsPassed, tooLong};
 use crate::sum::past;
 use base::FIXED;
 use base::VARIABLE;

@@ -7,7 +7,7 @@ mod sum; // sum.rt: a number that a caller gave, added to a place
 pub use file::format_in;
 ghost use mathlib.Core.Path.{_≡_};
 ghost use Rattle.sheet.specs.Flat.{reelsNumber, sheetNumber};
-ghost use Rattle.sheet.specs.Passing.{fillBytes, saysFiles};
+ghost use Rattle.sheet.specs.code.Passing.{fillBytes, saysFiles};
 use base::add_up_to;
 use file::ENTRY;
 use file::are_legal;

@@ -8,7 +8,8 @@ use borrow.Author.Needs.{needs}
 use borrow.Author.Tests.{eq-eqb, ne-eqb, eqb-true, eqb-false, le-leb, lt-leb}
 use lib.Dec.{eqb, leb, ltb}
 use lib.ListN.{length, take, drop}
-use Rattle.base.specs.If.{ifB, if-true, if-false, if-case, and-true, and-left, and-right}
+use Rattle.base.specs.If.{ifB}
+use Rattle.base.proofs.Ifs.{if-true, if-false, if-case, and-true, and-left, and-right}
 use Rattle.base.specs.Part.{putAt, same, putIn}
 use Rattle.base.specs.Sum.{sum}
 use Rattle.base.specs.Answer.{verdict}
@@ -26,7 +27,7 @@ use Rattle.simh.specs.declared.export.Size.{Size}
 use Rattle.simh.specs.declared.export.Tapes.{Tapes}
 use Rattle.simh.specs.Tape.{encode}
 use Rattle.simh.specs.Set.{reelsVerdict, reelsIn, isFew, tapeVerdict, imageOf, fromSimh, reelsOf, filesOf, Converted, kept, stored, toSimh, Converts}
-use Rattle.simh.specs.Passes.{itemsIn, TapeMeasured, Storable, lengthsFrom, ImageSized, FilesFit, shortOf}
+use Rattle.simh.specs.code.Passes.{itemsIn, TapeMeasured, Storable, lengthsFrom, ImageSized, FilesFit, shortOf}
 use Rattle.simh.proofs.Lengths.{file-lengths, file-bytes, file-count}
 use Rattle.simh.proofs.Reels.{Reeled, framed-reels, reels-framed, reels-joined}
 

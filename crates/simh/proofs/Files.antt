@@ -8,10 +8,11 @@ use borrow.Author.Tests.{leb-true, eqb-true, eqb-false}
 use lib.Dec.{leb, eqb}
 use lib.ListN.{length, drop, length-drop, drop-of-length-le}
 use lib.Seq.{drop-drop}
-use Rattle.base.specs.If.{if-case, and-first, and-second}
+use Rattle.base.proofs.Ifs.{if-case, and-first, and-second}
 use Rattle.base.specs.Part.{part, allAre}
 use Rattle.base.proofs.Parts.{part-drop}
-use Rattle.image.specs.Item.{Item, block, mark, reelEnd, broken, mostBytes, isItem}
+use Rattle.image.specs.Item.{Item, block, mark, reelEnd, broken, mostBytes}
+use Rattle.image.specs.code.Items.{isItem}
 use Rattle.image.specs.declared.Shape.{Shape}
 use Rattle.image.specs.declared.Shape.the-variants.{Block, Mark, ReelEnd, Broken}
 use Rattle.image.proofs.Coding.{Less, read-none, read-more}

@@ -9,12 +9,13 @@ use borrow.Author.Tests.{eq-eqb, eqb-true, eqb-false, le-leb, leb-true}
 use lib.Dec.{eqb, leb}
 use lib.ListN.{length, take, drop}
 use lib.Seq.{take-append-seam}
-use Rattle.base.specs.If.{if-true, if-false, if-case, and-true, and-first, and-second}
+use Rattle.base.proofs.Ifs.{if-true, if-false, if-case, and-true, and-first, and-second}
 use Rattle.base.specs.Sum.{sum, cutBy}
 use Rattle.base.specs.Answer.{verdict}
 use Rattle.base.specs.declared.Verdict.{Verdict}
 use Rattle.base.proofs.Sums.{length-map, sum-lengths, cut-back, cut-lengths, cut-whole}
-use Rattle.image.specs.Item.{Item, allItems, encode as imageBytes}
+use Rattle.image.specs.Item.{Item, encode as imageBytes}
+use Rattle.image.specs.code.Items.{allItems}
 use Rattle.image.specs.Byte.{Bytes}
 use Rattle.image.specs.Framing.{mostImage, mostReels, head, items, framing}
 use Rattle.image.proofs.Coding.{all-front, all-back}

@@ -10,7 +10,8 @@ use borrow.Author.Needs.{needs}
 use lib.ListN.{length, take, drop, set, length-set}
 use Rattle.base.specs.Part.{part, putAt}
 use Rattle.base.proofs.Parts.{length-part, put-none, part-within}
-use Rattle.image.specs.Item.{Item, block, mark, reelEnd, broken, shape, decode, isItem, allItems}
+use Rattle.image.specs.Item.{Item, block, mark, reelEnd, broken, shape, decode}
+use Rattle.image.specs.code.Items.{isItem, allItems}
 use Rattle.image.specs.Framing.{items}
 use Rattle.image.specs.declared.Shape.{Shape}
 use Rattle.image.specs.declared.Shape.the-variants.{Block, Mark, ReelEnd, Broken}
@@ -18,7 +19,7 @@ use Rattle.image.proofs.Coding.{all-first, all-rest}
 use Rattle.image.proofs.Items.{block-within, block-fits, decode-past, decode-block, decode-mark, decode-reel-end, decode-broken}
 use Rattle.base.proofs.Put.{put-first}
 use Rattle.simh.specs.Tape.{endWord, spanOf, four, bytesOf, encode}
-use Rattle.simh.specs.Passes.{lengthsFrom, FilesFit}
+use Rattle.simh.specs.code.Passes.{lengthsFrom, FilesFit}
 use Rattle.simh.proofs.Sizes.{item-span}
 use Rattle.simh.proofs.Sizing.{block-most}
 use Rattle.simh.proofs.Storing.{Putting, putting-none, putting-item, putting-all, putting-room}

@@ -9,7 +9,7 @@ use Rattle.image.specs.Item.{Item, block, mark, reelEnd, broken, encodeBy}
 use Rattle.image.proofs.Coding.{by-append}
 use Rattle.simh.specs.Tape.{spanOf, bytesOf, encode}
 use Rattle.simh.specs.Set.{reelsOf}
-use Rattle.simh.specs.Passes.{lengthsFrom}
+use Rattle.simh.specs.code.Passes.{lengthsFrom}
 use Rattle.simh.proofs.Sizes.{no-file, file-block, file-mark, file-end}
 use Rattle.simh.proofs.Reels.{ReelCloses, AllClose, reels-joined}
 

@@ -11,3 +11,4 @@ pub mod Sizing
 pub mod Laying
 pub mod RoundTrip
 pub mod Inverse
+pub mod Examples

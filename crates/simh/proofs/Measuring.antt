@@ -12,7 +12,8 @@ use borrow.Author.Tests.{eq-eqb, ne-eqb, eqb-true}
 use lib.Dec.{eqb}
 use lib.ListN.{length, take, drop, getD, length-append, length-take, length-drop, drop-of-length-le}
 use lib.Seq.{drop-cons, drop-drop}
-use Rattle.base.specs.If.{ifB, if-true, if-false}
+use Rattle.base.specs.If.{ifB}
+use Rattle.base.proofs.Ifs.{if-true, if-false}
 use Rattle.base.specs.Sum.{sum, cutBy}
 use Rattle.base.specs.Answer.{verdict}
 use Rattle.base.specs.declared.Verdict.{Verdict}
@@ -23,7 +24,7 @@ use Rattle.simh.specs.declared.import.Scan.{Scan}
 use Rattle.simh.specs.declared.import.Measure.{Measure}
 use Rattle.simh.specs.Tape.{decode}
 use Rattle.simh.specs.Set.{torn, reelVerdict, reelsVerdict, reelsIn, isFew, tapeVerdict}
-use Rattle.simh.specs.Passes.{itemsIn, Scanned, TapeMeasured}
+use Rattle.simh.specs.code.Passes.{itemsIn, Scanned, TapeMeasured}
 use Rattle.simh.proofs.Reels.{reels-close, close-reels}
 use Rattle.simh.proofs.Sizes.{no-bytes}
 

@@ -8,12 +8,14 @@ use native.Mathlib.Omega.{arith}
 use borrow.Author.Tests.{eq-eqb, ne-eqb, eqb-true, eqb-false, le-leb}
 use lib.Dec.{eqb}
 use lib.ListN.{length}
-use Rattle.base.specs.If.{ifB, if-true, if-false, if-case, and-true}
+use Rattle.base.specs.If.{ifB}
+use Rattle.base.proofs.Ifs.{if-true, if-false, if-case, and-true}
 use Rattle.base.specs.Part.{part}
 use Rattle.base.specs.Answer.{verdict}
 use Rattle.base.specs.declared.Verdict.{Verdict}
 use Rattle.base.proofs.Parts.{length-part}
-use Rattle.image.specs.Item.{Item, block, mark, reelEnd, broken, mostBytes, isItem, allItems}
+use Rattle.image.specs.Item.{Item, block, mark, reelEnd, broken, mostBytes}
+use Rattle.image.specs.code.Items.{isItem, allItems}
 use Rattle.image.specs.Framing.{mostReels, framedFrom}
 use Rattle.image.specs.declared.Shape.{Shape}
 use Rattle.image.specs.declared.Shape.the-variants.{Block, Mark, ReelEnd, Broken}

@@ -9,10 +9,11 @@ use borrow.Author.Tests.{eq-eqb, ne-eqb, le-leb, leb-true, eqb-true}
 use lib.Dec.{leb, eqb}
 use lib.ListN.{length, take, drop, length-append, length-drop, take-append-drop}
 use lib.Seq.{drop-drop, take-at, drop-at}
-use Rattle.base.specs.If.{if-true, if-false, if-case, and-true, and-first, and-second}
+use Rattle.base.proofs.Ifs.{if-true, if-false, if-case, and-true, and-first, and-second}
 use Rattle.base.specs.Part.{part, allAre}
 use Rattle.base.proofs.Parts.{length-part}
-use Rattle.image.specs.Item.{Item, block, mark, reelEnd, broken, mostBytes, isItem, allItems}
+use Rattle.image.specs.Item.{Item, block, mark, reelEnd, broken, mostBytes}
+use Rattle.image.specs.code.Items.{isItem, allItems}
 use Rattle.image.specs.Byte.{Bytes}
 use Rattle.image.specs.declared.Shape.{Shape}
 use Rattle.image.specs.declared.Shape.the-variants.{Block, Mark, ReelEnd, Broken}

@@ -18,7 +18,7 @@ use Rattle.image.specs.declared.Shape.{Shape}
 use Rattle.image.specs.declared.Shape.the-variants.{Block, Mark, ReelEnd, Broken}
 use Rattle.simh.specs.Tape.{spanOf, shape, decode}
 use Rattle.simh.specs.Set.{mostItem, torn, reelVerdict}
-use Rattle.simh.specs.Passes.{Scanned}
+use Rattle.simh.specs.code.Passes.{Scanned}
 use Rattle.simh.proofs.Files.{block-at, block-within, mark-within, end-within, decode-past, decode-at, decode-block, decode-mark, decode-end, decode-broken}
 use Rattle.simh.proofs.Sizes.{no-bytes, image-block, image-mark, image-end}
 

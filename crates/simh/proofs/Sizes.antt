@@ -7,8 +7,9 @@ use native.Mathlib.Omega.{arith}
 use borrow.Author.Tests.{leb-true}
 use lib.Dec.{leb}
 use lib.ListN.{length, length-append}
-use Rattle.base.specs.If.{and-first}
-use Rattle.image.specs.Item.{Item, block, mark, reelEnd, broken, isItem, allItems, three, bytesOf as imageItem, encodeBy, encode as imageBytes}
+use Rattle.base.proofs.Ifs.{and-first}
+use Rattle.image.specs.Item.{Item, block, mark, reelEnd, broken, three, bytesOf as imageItem, encodeBy, encode as imageBytes}
+use Rattle.image.specs.code.Items.{isItem, allItems}
 use Rattle.image.proofs.Coding.{all-first, all-rest}
 use Rattle.simh.specs.Tape.{spanOf, four, pad, bytesOf, encode}
 use Rattle.simh.proofs.Words.{length-pad}

@@ -20,7 +20,7 @@ use Rattle.image.proofs.Items.{block-at, block-within, block-fits, decode-past,
 use Rattle.image.proofs.Frames.{FramedUpTo, walked-none, walked-block, walked-mark, walked-reel-end, walked-full, walked-broken, walked-closed, walked-open, opens-small, framing-opened, framing-shut}
 use Rattle.simh.specs.declared.export.Size.{Size}
 use Rattle.simh.specs.Tape.{spanOf, encode}
-use Rattle.simh.specs.Passes.{lengthsFrom, ImageSized, wrongItem, sizeOf}
+use Rattle.simh.specs.code.Passes.{lengthsFrom, ImageSized, wrongItem, sizeOf}
 use Rattle.simh.proofs.Lengths.{lengths-alike}
 use Rattle.simh.proofs.Sizes.{no-file, file-block, file-mark, file-end}
 

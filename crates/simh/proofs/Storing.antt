@@ -10,12 +10,13 @@ use borrow.Author.Needs.{needs}
 use lib.ListN.{length, take, drop, getD, length-append, length-drop}
 use Rattle.base.specs.Part.{part, putAt}
 use Rattle.base.proofs.Parts.{length-put, length-part, put-none, put-put, part-within}
-use Rattle.image.specs.Item.{Item, block, mark, reelEnd, reelEndWord, mostBytes, three, bytesOf as imageItem, encodeBy, encode as imageBytes, isItem, allItems}
+use Rattle.image.specs.Item.{Item, block, mark, reelEnd, reelEndWord, mostBytes, three, bytesOf as imageItem, encodeBy, encode as imageBytes}
+use Rattle.image.specs.code.Items.{isItem, allItems}
 use Rattle.image.specs.declared.Shape.the-variants.{Block, Mark, ReelEnd}
 use Rattle.image.proofs.Coding.{all-first, all-rest, by-append}
 use Rattle.simh.specs.Tape.{endWord, word, spanOf, shape, itemOf, decode}
 use Rattle.simh.specs.Set.{reelsIn}
-use Rattle.simh.specs.Passes.{itemsIn, FittingItems, Storable}
+use Rattle.simh.specs.code.Passes.{itemsIn, FittingItems, Storable}
 use Rattle.simh.proofs.Files.{told, block-at, block-within, word-whole, decode-past, decode-at, decode-block, decode-mark, decode-end}
 use Rattle.simh.proofs.Reels.{AllClose, reels-close, closes-right}
 use Rattle.simh.proofs.Measuring.{reelsFrom, reels-at, reels-past, FileStart, between-none, between-more, file-within, file-fits, file-start}

@@ -9,7 +9,7 @@ use borrow.Author.Tests.{eq-eqb, ne-eqb, eqb-true, eqb-false, le-leb, lt-leb}
 use lib.Dec.{leb, eqb}
 use lib.ListN.{length, take, drop, getD, set, length-append, length-drop, length-set}
 use lib.Seq.{drop-cons, drop-drop, getD-drop}
-use Rattle.base.specs.If.{if-true, if-false, if-case, and-left, and-right, if-itself}
+use Rattle.base.proofs.Ifs.{if-true, if-false, if-case, and-left, and-right, if-itself}
 use Rattle.base.specs.Part.{part, putAt, allAre, putIn}
 use Rattle.base.proofs.Parts.{part-drop, length-put, put-none, put-put}
 use Rattle.image.specs.Item.{block, three, bytesOf as imageItem}

@@ -1,4 +1,3 @@
 pub mod Tape
 pub mod Set
-pub mod Passes
-pub mod Examples
+pub mod code

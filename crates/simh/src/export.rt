@@ -7,7 +7,7 @@ ghost use Rattle.base.specs.Part.{putAt};
 ghost use Rattle.image.specs.Framing.{mostImage, framedFrom, items, framing};
 ghost use Rattle.simh.specs.Tape.{encode};
 ghost use Rattle.simh.specs.Set.{Converts, toSimh};
-ghost use Rattle.simh.specs.Passes.{ImageSized, FilesFit, wrongItem, sizeOf, shortOf, lengthsFrom};
+ghost use Rattle.simh.specs.code.Passes.{ImageSized, FilesFit, wrongItem, sizeOf, shortOf, lengthsFrom};
 use crate::put::put_four;
 use crate::put::put_record;
 use crate::tape::END_WORD;

@@ -8,7 +8,7 @@ ghost use Rattle.base.specs.Answer.{verdict};
 ghost use Rattle.image.specs.Item.{encode as imageBytes};
 ghost use Rattle.output.specs.Output.{AnswersAt};
 ghost use Rattle.simh.specs.Set.{torn, reelsVerdict, reelsIn, isFew, tapeVerdict, fromSimh};
-ghost use Rattle.simh.specs.Passes.{Scanned, TapeMeasured, FittingItems, Storable, itemsIn};
+ghost use Rattle.simh.specs.code.Passes.{Scanned, TapeMeasured, FittingItems, Storable, itemsIn};
 ghost use Rattle.simh.specs.Tape.{decode};
 use crate::put::put_block;
 use crate::put::put_three;

@@ -8,7 +8,8 @@ use borrow.Author.Needs.{needs}
 use borrow.Author.Tests.{eqb-false, leb-false}
 use lib.Dec.{leb}
 use lib.ListN.{length}
-use Rattle.base.specs.If.{ifB, if-true, if-false, if-case, ap-if, so-true, so-false}
+use Rattle.base.specs.If.{ifB}
+use Rattle.base.proofs.Ifs.{if-true, if-false, if-case, ap-if, so-true, so-false}
 use Rattle.base.specs.Part.{part}
 use Rattle.base.proofs.Faults.{or-second}
 use Rattle.base.specs.Answer.{fault, orElse}
@@ -25,8 +26,8 @@ use Rattle.volume.specs.declared.Reading.{Reading}
 use Rattle.volume.specs.State.{State}
 use Rattle.volume.specs.Fault.{outcomeIn, volumeFault, contextFault, itemFault}
 use Rattle.volume.specs.Step.{stateAfter, namesAfter, filesAfter, goesOnAfter, firstAfter, secondAfter, countAfter, pendingAfter}
-use Rattle.volume.specs.Place.{labelAt, namesAt, contents}
-use Rattle.volume.specs.Walk.{LabelSized, ReadingBehind}
+use Rattle.volume.specs.code.Place.{labelAt, namesAt, contents}
+use Rattle.volume.specs.code.Walk.{LabelSized, ReadingBehind}
 use Rattle.volume.proofs.Faults.{length-names}
 
 -- ---- field by field

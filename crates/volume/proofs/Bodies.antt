@@ -11,7 +11,8 @@ use borrow.Author.Needs.{needs}
 use borrow.Author.Tests.{eq-eqb}
 use lib.Dec.{eqb}
 use lib.ListN.{length, take, drop}
-use Rattle.base.specs.If.{ifB, if-true}
+use Rattle.base.specs.If.{ifB}
+use Rattle.base.proofs.Ifs.{if-true}
 use Rattle.base.specs.Part.{part}
 use Rattle.base.specs.Answer.{fault, orElse}
 use Rattle.base.proofs.Parts.{part-within}
@@ -32,8 +33,8 @@ use Rattle.volume.specs.declared.blocks.Between.{Between}
 use Rattle.volume.specs.State.{State}
 use Rattle.volume.specs.Fault.{valueOf, outcomeIn, blockFault, contextFault, itemFault}
 use Rattle.volume.specs.Step.{Event, Next, go, step, ordered, judged, kindIn, bytesIn, isDue, stateAfter, eventsOf, namesAfter, filesAfter, goesOnAfter, firstAfter, secondAfter, countAfter, pendingAfter}
-use Rattle.volume.specs.Told.{toldFrom}
-use Rattle.volume.specs.Body.{body, Given, PlaceInside, toldBetween, Skipped, between}
+use Rattle.volume.specs.code.Told.{toldFrom}
+use Rattle.volume.specs.code.Body.{body, Given, PlaceInside, toldBetween, Skipped, between}
 use Rattle.volume.proofs.Runs.{told-go}
 
 -- a data block has the fault of its units and turns, and no other

@@ -4,7 +4,8 @@ use mathlib.Core.Bool.{Bool, true, false}
 use mathlib.Core.List.{List}
 use Prim.Native.Nat.{ℕ, _+_}
 use lib.Dec.{eqb}
-use Rattle.base.specs.If.{ifB, if-true, if-false}
+use Rattle.base.specs.If.{ifB}
+use Rattle.base.proofs.Ifs.{if-true, if-false}
 use Rattle.base.specs.Part.{same}
 use Rattle.base.specs.Answer.{fault, orElse}
 use Rattle.base.proofs.Bytes.{same-is}
@@ -17,7 +18,7 @@ use Rattle.label.specs.Field.{volumeOf}
 use Rattle.label.specs.Judged.{labelFault}
 use Rattle.order.specs.declared.Kind.{Kind}
 use Rattle.volume.specs.Fault.{says, valueOf, lower, crossed, contextFault, itemFault}
-use Rattle.volume.specs.Place.{contents, labelAt, namesAt}
+use Rattle.volume.specs.code.Place.{contents, labelAt, namesAt}
 use Rattle.volume.specs.declared.Reading.{Reading}
 use Rattle.volume.proofs.Faults.{value-some, value-none}
 

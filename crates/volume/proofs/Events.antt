@@ -6,7 +6,8 @@ use mathlib.Core.Option.{Option, none, some}
 use Prim.Native.Nat.{ℕ, suc}
 use borrow.Author.Tests.{eqb-false}
 use lib.ListN.{length}
-use Rattle.base.specs.If.{ifB, if-true}
+use Rattle.base.specs.If.{ifB}
+use Rattle.base.proofs.Ifs.{if-true}
 use Rattle.base.specs.Answer.{fault}
 use Rattle.base.specs.declared.Fault.{Fault}
 use Rattle.base.proofs.Faults.{or-second}

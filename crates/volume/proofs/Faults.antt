@@ -10,7 +10,8 @@ use borrow.Author.Tests.{le-leb, lt-leb}
 use lib.Dec.{leb}
 use lib.ListN.{length, drop, getD, drop-of-length-le}
 use lib.Seq.{drop-cons}
-use Rattle.base.specs.If.{ifB, if-true, if-false, so-true, so-false}
+use Rattle.base.specs.If.{ifB}
+use Rattle.base.proofs.Ifs.{if-true, if-false, so-true, so-false}
 use Rattle.base.specs.Part.{same}
 use Rattle.base.specs.Answer.{fault}
 use Rattle.base.specs.declared.Fault.{Fault}
@@ -18,7 +19,7 @@ use Rattle.charset.specs.declared.Number.{Number}
 use Rattle.charset.specs.declared.Number.the-variants.{Value, Wrong}
 use Rattle.label.specs.Field.{volumeOf}
 use Rattle.volume.specs.Fault.{says, valueOf, isAmong, crossed, volumeFault}
-use Rattle.volume.specs.Place.{labelAt, namesAt}
+use Rattle.volume.specs.code.Place.{labelAt, namesAt}
 
 -- ---- a choice, at the branch that the code took
 

@@ -8,7 +8,8 @@ use native.Mathlib.Omega.{arith}
 use borrow.Author.Tests.{leb-false, eqb-true, eqb-false, eq-eqb, ne-eqb, le-leb, lt-leb}
 use lib.Dec.{eqb, leb}
 use lib.ListN.{length, length-append}
-use Rattle.base.specs.If.{ifB, if-true, if-false, if-case, ap-if, and-left, and-first, and-second, and-true}
+use Rattle.base.specs.If.{ifB}
+use Rattle.base.proofs.Ifs.{if-true, if-false, if-case, ap-if, and-left, and-first, and-second, and-true}
 use Rattle.base.specs.Answer.{verdict, fault}
 use Rattle.base.specs.declared.Fault.{Fault}
 use Rattle.base.specs.declared.Verdict.{Verdict}
@@ -31,7 +32,7 @@ use Rattle.label.proofs.Families.{kind-other}
 use Rattle.volume.specs.State.{State, start}
 use Rattle.volume.specs.Fault.{volumeFault, contextFault, itemFault}
 use Rattle.volume.specs.Step.{Next, kindIn, bytesIn, isDue, stateAfter, namesAfter}
-use Rattle.volume.specs.Told.{isInside, endedIn, closedIn, framedIn, framedOr, toldNext, toldFrom}
+use Rattle.volume.specs.code.Told.{isInside, endedIn, closedIn, framedIn, framedOr, toldNext, toldFrom}
 use Rattle.volume.specs.Run.{runs, next, answerOf}
 use Rattle.volume.specs.Accepted.{Faultless, stateBehind}
 use Rattle.volume.proofs.Runs.{answer-further, answer-end, answer-early}

@@ -8,7 +8,8 @@ use native.Mathlib.Omega.{arith}
 use borrow.Author.Tests.{eqb-true, eqb-false, ltb-true, ltb-false}
 use lib.Dec.{eqb, leb, ltb}
 use lib.ListN.{length, take, drop}
-use Rattle.base.specs.If.{ifB, if-false, if-case}
+use Rattle.base.specs.If.{ifB}
+use Rattle.base.proofs.Ifs.{if-false, if-case}
 use Rattle.base.specs.Part.{part, same}
 use Rattle.base.specs.Answer.{fault, verdict, orElse}
 use Rattle.base.specs.declared.Fault.{Fault}

@@ -5,7 +5,8 @@ use mathlib.Core.List.{List, [], _∷_, _++_, append-assoc}
 use Prim.Native.Nat.{ℕ, zero, suc, _+_}
 use native.Mathlib.Omega.{arith}
 use lib.ListN.{length}
-use Rattle.base.specs.If.{ifB, if-true, if-false}
+use Rattle.base.specs.If.{ifB}
+use Rattle.base.proofs.Ifs.{if-true, if-false}
 use Rattle.base.specs.Answer.{verdict}
 use Rattle.base.specs.declared.Verdict.{Verdict}
 use Rattle.image.specs.Item.{Item}
@@ -13,7 +14,7 @@ use Rattle.order.specs.Kind.{endOfImage}
 use Rattle.order.specs.Due.{dueAfter}
 use Rattle.volume.specs.State.{State}
 use Rattle.volume.specs.Step.{Event, Next, go, no, step, isDue}
-use Rattle.volume.specs.Told.{toldNext, toldFrom}
+use Rattle.volume.specs.code.Told.{toldNext, toldFrom}
 use Rattle.volume.specs.Run.{Run, ended, stopped, further, next, runs, answerOf}
 
 -- ---- the answer, item by item

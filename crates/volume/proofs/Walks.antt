@@ -16,7 +16,8 @@ use Rattle.image.specs.Framing.{mostImage, mostReels, head, opens, framing, fra
 use Rattle.image.specs.declared.Frame.{Frame}
 use Rattle.image.proofs.Frames.{opens-right, framing-opened, framing-shut, framing-from, opens-small}
 use Rattle.order.specs.declared.Phase.the-variants.{Data, Reel}
-use Rattle.base.specs.If.{ifB, if-true, if-false, if-case}
+use Rattle.base.specs.If.{ifB}
+use Rattle.base.proofs.Ifs.{if-true, if-false, if-case}
 use Rattle.base.specs.Part.{part}
 use Rattle.base.specs.Answer.{fault, orElse, verdict}
 use Rattle.base.specs.declared.Verdict.{Verdict}
@@ -41,13 +42,13 @@ use Rattle.volume.specs.declared.walk.Turn.{Turn}
 use Rattle.volume.specs.declared.blocks.Lengths.{Lengths}
 use Rattle.volume.specs.declared.blocks.Between.{Between}
 use Rattle.volume.specs.State.{State, start}
-use Rattle.volume.specs.Body.{body, between, toldBetween, Given, PlaceInside, Skipped}
+use Rattle.volume.specs.code.Body.{body, between, toldBetween, Given, PlaceInside, Skipped}
 use Rattle.volume.specs.Fault.{itemFault, contextFault}
 use Rattle.volume.specs.Step.{Event, go, no, step, isDue, ordered, judged, kindIn, bytesIn, stateAfter, eventsOf, namesAfter, filesAfter, goesOnAfter, firstAfter, secondAfter, countAfter, pendingAfter}
 use Rattle.volume.specs.Run.{runs, answerOf, imageVerdict}
-use Rattle.volume.specs.Told.{isInside, endedIn, closedIn, framedIn, framedOr, toldNext, toldFrom}
-use Rattle.volume.specs.Place.{contents, labelAt, namesAt}
-use Rattle.volume.specs.Walk.{toldAt, toldStep, toldBy, toldDue, toldEnd, toldAfter, placesAfter, frame, framedAt, framedElse, lastTurn, onTurn, bareTurn, phased, inPhase, Bare, BlockHere, BareHere, FirstSpot, Walked, Past, LabelSized, FrameHere, Bounded, Small, ReadingBehind, Onward, Owes}
+use Rattle.volume.specs.code.Told.{isInside, endedIn, closedIn, framedIn, framedOr, toldNext, toldFrom}
+use Rattle.volume.specs.code.Place.{contents, labelAt, namesAt}
+use Rattle.volume.specs.code.Walk.{toldAt, toldStep, toldBy, toldDue, toldEnd, toldAfter, placesAfter, frame, framedAt, framedElse, lastTurn, onTurn, bareTurn, phased, inPhase, Bare, BlockHere, BareHere, FirstSpot, Walked, Past, LabelSized, FrameHere, Bounded, Small, ReadingBehind, Onward, Owes}
 use Rattle.volume.proofs.Reels.{told-whole, broken-undue}
 use Rattle.volume.proofs.Faults.{length-names}
 use Rattle.volume.proofs.Afters.{room-for-name}

@@ -2,10 +2,7 @@ pub mod State
 pub mod Fault
 pub mod Step
 pub mod Run
-pub mod Told
 pub mod Accepted
 pub mod Meaning
 pub mod Dates
-pub mod Place
-pub mod Body
-pub mod Walk
+pub mod code

@@ -3,7 +3,7 @@ ghost use mathlib.Core.Path.{_≡_};
 ghost use Rattle.base.specs.Part.{same};
 ghost use Rattle.label.specs.Field.{volumeOf};
 ghost use Rattle.volume.specs.Fault.{isAmong};
-ghost use Rattle.volume.specs.Place.{labelAt, namesAt};
+ghost use Rattle.volume.specs.code.Place.{labelAt, namesAt};
 use base::equal;
 use base::part_of;
 use label::volume_of;

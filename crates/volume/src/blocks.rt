@@ -1,7 +1,7 @@
 // Data blocks passed in a row: numbers only, since an image may hold millions of them. It knows of a section the lengths that its HDR2 gives.
 ghost use mathlib.Core.Path.{_≡_};
 ghost use Rattle.block.specs.Turn.{blockOutcome};
-ghost use Rattle.volume.specs.Body.{PlaceInside, Skipped};
+ghost use Rattle.volume.specs.code.Body.{PlaceInside, Skipped};
 use base::SEGMENTED;
 use base::VARIABLE;
 use block::Outcome;

@@ -8,7 +8,8 @@ use borrow.Author.Needs.{needs}
 use borrow.Author.Tests.{le-leb, lt-leb, eq-eqb, ne-eqb, eqb-true, leb-true}
 use lib.Dec.{eqb, leb}
 use lib.ListN.{length, take, drop, getD, replicate, length-drop, length-take, getD-replicate}
-use Rattle.base.specs.If.{ifB, if-true, if-false}
+use Rattle.base.specs.If.{ifB}
+use Rattle.base.proofs.Ifs.{if-true, if-false}
 use Rattle.base.specs.Part.{putAt}
 use Rattle.base.specs.Answer.{verdict}
 use Rattle.base.specs.declared.Verdict.{Verdict}
@@ -17,7 +18,8 @@ use Rattle.image.specs.Item.{Item, encodeBy, encode}
 use Rattle.image.specs.Framing.{head, mostImage}
 use Rattle.volume.specs.Run.{imageVerdict}
 use Rattle.reading.specs.Legal.{freshNames, legalNames, legalQuota}
-use Rattle.sheet.specs.Flat.{Flat, inParts, sheetNumber, sheetOf, reelsNumber, allLong}
+use Rattle.sheet.specs.Flat.{Flat, inParts, sheetNumber, sheetOf, reelsNumber}
+use Rattle.sheet.specs.code.Flatten.{allLong}
 use Rattle.sheet.proofs.Cutting.{parts-none, parts-some}
 use Rattle.sheet.proofs.Flattened.{names-long}
 use Rattle.output.specs.declared.Written.{Written as Answer}
@@ -30,8 +32,8 @@ use Rattle.writing.proofs.Packing.{by-test}
 use Rattle.writing.proofs.Units.{both}
 use Rattle.writer.specs.declared.pen.Pen.{Pen}
 use Rattle.writer.specs.declared.set.Place.{Place}
-use Rattle.writer.specs.Pass.{overLong, reelsFrom, reelsAt, inked, behind, inkedAt, PassEnd, outcome, laidFrom, imaged, imageFrom}
-use Rattle.writer.specs.Sets.{Origin, originOf, Task, task, taskOf, Sheeted, meaningAt, Writable, setLaid, SetReady, sheetAt, Ordered}
+use Rattle.writer.specs.code.Pass.{overLong, reelsFrom, reelsAt, inked, behind, inkedAt, PassEnd, outcome, laidFrom, imaged, imageFrom}
+use Rattle.writer.specs.code.Sets.{Origin, originOf, Task, task, taskOf, Sheeted, meaningAt, Writable, setLaid, SetReady, sheetAt, Ordered}
 use Rattle.writer.proofs.Files.{laid-short}
 use Rattle.writer.proofs.LabelParts.{set-in, names-in}
 use Rattle.writer.proofs.FromSheet.{sheet-ordered, sheet-answers}

@@ -5,14 +5,16 @@ use mathlib.Core.List.{List, [], _∷_, _++_}
 use Prim.Native.Nat.{ℕ, _+_, _≤_}
 use borrow.Author.Needs.{needs}
 use lib.ListN.{length}
-use Rattle.base.specs.If.{ifB, if-true, if-false}
-use Rattle.writing.specs.Pack.{Left, going, enters, fill, after, blocksLeft, RoomEach}
+use Rattle.base.specs.If.{ifB}
+use Rattle.base.proofs.Ifs.{if-true, if-false}
+use Rattle.writing.specs.Pack.{Left, going, enters, fill, after, blocksLeft}
+use Rattle.writing.specs.code.Room.{RoomEach}
 use Rattle.writing.specs.Lay.{Sequel}
 use Rattle.writing.proofs.Packing.{by-test, blocks-going}
 use Rattle.writer.specs.declared.pen.Pen.{Pen}
-use Rattle.writer.specs.Pass.{Job, inkAt, inked, PassEnd, outcome, restOf, ends, EndsWithin, Sound, UnitDue, between, fillOf, afterOf, fillDue, leftDue, penned}
-use Rattle.writer.specs.Pens.{Ready, Opens}
-use Rattle.writer.specs.Packs.{entersOn, Wanting, Blocked, more}
+use Rattle.writer.specs.code.Pass.{Job, inkAt, inked, PassEnd, outcome, restOf, ends, EndsWithin, Sound, UnitDue, between, fillOf, afterOf, fillDue, leftDue, penned}
+use Rattle.writer.specs.code.Pens.{Ready, Opens}
+use Rattle.writer.specs.code.Packs.{entersOn, Wanting, Blocked, more}
 use Rattle.writer.proofs.Passes.{outcome-unit, fits-unit}
 use Rattle.writer.proofs.Pens.{ends-given, ends-short}
 use Rattle.writer.proofs.Dues.{fill-full, after-full}

@@ -8,22 +8,23 @@ use borrow.Author.Needs.{needs}
 use borrow.Author.Tests.{eq-eqb, ne-eqb, eqb-true, eqb-false}
 use lib.Dec.{eqb}
 use lib.ListN.{length}
-use Rattle.base.specs.If.{if-true, if-false}
+use Rattle.base.proofs.Ifs.{if-true, if-false}
 use Rattle.base.specs.Part.{part}
 use Rattle.base.proofs.Parts.{length-part}
 use Rattle.content.specs.declared.measuring.Measured.the-variants.{Split}
 use Rattle.content.proofs.Records.{split-long}
-use Rattle.writing.specs.Pack.{Left, finished, going, startOf, enters, RoomEach}
+use Rattle.writing.specs.Pack.{Left, finished, going, startOf, enters}
+use Rattle.writing.specs.code.Room.{RoomEach}
 use Rattle.writing.specs.Lay.{Sequel}
 use Rattle.writing.proofs.Packing.{by-test}
 use Rattle.writer.specs.declared.pen.Pen.{Pen}
 use Rattle.writer.specs.declared.source.Cursor.{Cursor}
 use Rattle.writer.specs.declared.source.Found.{Found}
 use Rattle.writer.specs.declared.record.Quick.{Quick}
-use Rattle.writer.specs.Pass.{Job, PassEnd, EndsWithin, between, penned}
-use Rattle.writer.specs.Source.{walkOf, movedTo, recordsOf, endAt, stopOf, GoodCursor, splitBytes, SplitHere, foundBytes, Finds}
-use Rattle.writer.specs.Records.{RoomBehind, Wholable, Wholed, Recordable, Splittable, Recorded, Somewhere, QuickBlock}
-use Rattle.writer.specs.Bodies.{Takable, Bodied, BodyPut}
+use Rattle.writer.specs.code.Pass.{Job, PassEnd, EndsWithin, between, penned}
+use Rattle.writer.specs.code.Source.{walkOf, movedTo, recordsOf, endAt, stopOf, GoodCursor, splitBytes, SplitHere, foundBytes, Finds}
+use Rattle.writer.specs.code.Records.{RoomBehind, Wholable, Wholed, Recordable, Splittable, Recorded, Somewhere, QuickBlock}
+use Rattle.writer.specs.code.Bodies.{Takable, Bodied, BodyPut}
 use Rattle.writer.proofs.Blocks.{penned-short}
 use Rattle.writer.proofs.Records.{record-somewhere, record-wholable, record-whole, record-kept, record-again, record-slow}
 

@@ -8,12 +8,13 @@ use borrow.Author.Tests.{eq-eqb, ne-eqb, eqb-true, eqb-false}
 use lib.Dec.{eqb}
 use lib.ListN.{length, take, drop, length-drop}
 use lib.Seq.{take-add, drop-drop}
-use Rattle.base.specs.If.{ifB, if-true, if-false, if-same}
+use Rattle.base.specs.If.{ifB}
+use Rattle.base.proofs.Ifs.{if-true, if-false, if-same}
 use Rattle.block.specs.Unit.{wordOf}
 use Rattle.writing.specs.Pack.{going, startOf, enters, taken, indicatorOf, controlWord, unitIn, fill, after}
 use Rattle.writing.proofs.Packing.{by-test}
 use Rattle.writing.proofs.Units.{length-unit}
-use Rattle.writer.specs.Pass.{fillOf, afterOf, between, within, fillDue, leftDue}
+use Rattle.writer.specs.code.Pass.{fillOf, afterOf, between, within, fillDue, leftDue}
 
 -- ---- a record that does not enter
 

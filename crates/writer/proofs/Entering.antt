@@ -6,7 +6,7 @@ use native.Mathlib.Omega.{arith}
 use borrow.Author.Needs.{needs}
 use borrow.Author.Tests.{eq-eqb, ne-eqb, le-leb, lt-leb}
 use lib.Dec.{leb}
-use Rattle.base.specs.If.{if-true, if-false}
+use Rattle.base.proofs.Ifs.{if-true, if-false}
 use Rattle.block.specs.Unit.{wordOf}
 use Rattle.writing.specs.Pack.{enters, taken}
 

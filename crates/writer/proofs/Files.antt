@@ -8,7 +8,8 @@ use borrow.Author.Needs.{needs}
 use mir.Val.{EndsWithin as FitsIn}
 use mir.Syntax.{w64}
 use lib.ListN.{length, length-append}
-use Rattle.base.specs.If.{ifB, if-true, if-false, if-same}
+use Rattle.base.specs.If.{ifB}
+use Rattle.base.proofs.Ifs.{if-true, if-false, if-same}
 use Rattle.base.specs.Part.{part}
 use Rattle.charset.specs.Number.{numberIn}
 use Rattle.charset.specs.declared.Number.{Number}
@@ -24,11 +25,11 @@ use Rattle.writing.proofs.Packing.{by-test}
 use Rattle.writer.specs.declared.pen.Pen.{Pen}
 use Rattle.writer.specs.declared.source.Cursor.{Cursor}
 use Rattle.writer.specs.declared.body.Body.{Body}
-use Rattle.writer.specs.Pass.{reelsAt, Job, job, entryIn, sequenceIn, setIn, Puts, pairOf, inkAt, lacks, inked, PassEnd, behind, inkedAt, outcome, restOf, ends, laidFrom, EndsWithin, Sound, between, fillOf, afterOf, fillDue, leftDue, penned}
-use Rattle.writer.specs.Pens.{Closable, Closes}
-use Rattle.writer.specs.Source.{recordsOf}
-use Rattle.writer.specs.Bodies.{Bodied, BodyPut}
-use Rattle.writer.specs.Files.{Beginnable, begun, Begins, Endable, Ends, Tailable, Tailed, fileLaid, filedFrom, nextFrom, FileReady, FilePut}
+use Rattle.writer.specs.code.Pass.{reelsAt, Job, job, entryIn, sequenceIn, setIn, Puts, pairOf, inkAt, lacks, inked, PassEnd, behind, inkedAt, outcome, restOf, ends, laidFrom, EndsWithin, Sound, between, fillOf, afterOf, fillDue, leftDue, penned}
+use Rattle.writer.specs.code.Pens.{Closable, Closes}
+use Rattle.writer.specs.code.Source.{recordsOf}
+use Rattle.writer.specs.code.Bodies.{Bodied, BodyPut}
+use Rattle.writer.specs.code.Files.{Beginnable, begun, Begins, Endable, Ends, Tailable, Tailed, fileLaid, filedFrom, nextFrom, FileReady, FilePut}
 use Rattle.writer.proofs.Items.{length-headers, length-file-end, puts-kept}
 use Rattle.writer.proofs.Written.{ink-puts}
 use Rattle.writer.proofs.Passes.{ink-none, ink-length, outcome-items, fits-items}

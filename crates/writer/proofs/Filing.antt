@@ -9,7 +9,8 @@ use borrow.Author.Needs.{needs}
 use mir.Val.{EndsWithin as FitsIn}
 use mir.Syntax.{w64}
 use lib.ListN.{length, drop, getD, length-append, drop-of-length-le}
-use Rattle.base.specs.If.{ifB, if-true, if-false}
+use Rattle.base.specs.If.{ifB}
+use Rattle.base.proofs.Ifs.{if-true, if-false}
 use Rattle.base.specs.Part.{part, putAt}
 use Rattle.base.proofs.Parts.{part-part, put-put}
 use Rattle.image.specs.Item.{block, mark, reelEnd, encode}
@@ -19,7 +20,8 @@ use Rattle.label.specs.Made.{madeVolume}
 use Rattle.volume.specs.Meaning.{File, content}
 use Rattle.reading.specs.Legal.{formatFrom, blockLengthFrom, recordLengthFrom, legalFiles}
 use Rattle.sheet.specs.Flat.{inParts, filesFrom}
-use Rattle.writing.specs.Pack.{blocksOf, RoomEach}
+use Rattle.writing.specs.Pack.{blocksOf}
+use Rattle.writing.specs.code.Room.{RoomEach}
 use Rattle.writing.specs.Lay.{Laid, laid, short, put, headers, Sequel, rest, layFiles, layOn}
 use Rattle.writing.proofs.Packing.{by-test}
 use Rattle.writing.proofs.Packed.{Suited, legal-room}
@@ -29,10 +31,10 @@ use Rattle.writer.specs.declared.pen.Pen.{Pen}
 use Rattle.writer.specs.declared.source.Cursor.{Cursor}
 use Rattle.writer.specs.declared.body.Body.{Body}
 use Rattle.writer.specs.declared.set.Place.{Place}
-use Rattle.writer.specs.Pass.{Puts, reelsAt, Job, job, namesIn, inkAt, inked, behind, inkedAt, PassEnd, outcome, laidFrom, imaged, imageFrom, EndsWithin, BetweenFiles}
-use Rattle.writer.specs.Source.{recordsOf, GoodCursor}
-use Rattle.writer.specs.Files.{fileLaid, filedFrom, nextFrom, FileReady, FilePut}
-use Rattle.writer.specs.Sets.{Origin, listed, read, totalOf, filesAt, Task, taskOf, PlacedIn, layAt, Filing, Filed, Fileable, OneFiled, AllFiled, Closing, Closed, firstPen, headOf, Sheeted, meaningAt, setLaid, SetReady}
+use Rattle.writer.specs.code.Pass.{Puts, reelsAt, Job, job, namesIn, inkAt, inked, behind, inkedAt, PassEnd, outcome, laidFrom, imaged, imageFrom, EndsWithin, BetweenFiles}
+use Rattle.writer.specs.code.Source.{recordsOf, GoodCursor}
+use Rattle.writer.specs.code.Files.{fileLaid, filedFrom, nextFrom, FileReady, FilePut}
+use Rattle.writer.specs.code.Sets.{Origin, listed, read, totalOf, filesAt, Task, taskOf, PlacedIn, layAt, Filing, Filed, Fileable, OneFiled, AllFiled, Closing, Closed, firstPen, headOf, Sheeted, meaningAt, setLaid, SetReady}
 use Rattle.writer.proofs.Items.{length-first-reel, length-reel-end, puts-kept}
 use Rattle.writer.proofs.Passes.{ink-none, ink-length}
 use Rattle.writer.proofs.Written.{ink-not, ink-puts}

@@ -8,7 +8,7 @@ use native.Mathlib.Numerals.{add-one}
 use borrow.Author.Needs.{needs}
 use lib.ListN.{length, drop, getD, length-drop}
 use lib.Seq.{drop-cons}
-use Rattle.base.specs.If.{if-true}
+use Rattle.base.proofs.Ifs.{if-true}
 use Rattle.base.specs.Part.{part}
 use Rattle.label.specs.Field.{setOf}
 use Rattle.volume.specs.Run.{imageVerdict}
@@ -19,7 +19,8 @@ use Rattle.reading.specs.Legal.{legalFiles}
 use Rattle.sheet.specs.Flat.{inParts, reelsNumber}
 use Rattle.content.specs.File.{firstFile, nextFile, fileBehind}
 use Rattle.content.specs.Records.{recordsAt}
-use Rattle.content.specs.Walked.{endOf, FileIs, Filed as Met}
+use Rattle.content.specs.Walked.{endOf, FileIs}
+use Rattle.content.specs.code.Files.{Filed as Met}
 use Rattle.content.specs.declared.FileAt.{FileAt}
 use Rattle.content.specs.declared.NextFile.{NextFile}
 use Rattle.content.specs.declared.NextFile.the-variants.{At, Nowhere}
@@ -33,10 +34,10 @@ use Rattle.writer.specs.declared.pen.Pen.{Pen}
 use Rattle.writer.specs.declared.source.Cursor.{Cursor}
 use Rattle.writer.specs.declared.body.Body.{Body}
 use Rattle.writer.specs.declared.set.Place.{Place}
-use Rattle.writer.specs.Pass.{job}
-use Rattle.writer.specs.Source.{walkOf, recordsOf, endAt, GoodCursor}
-use Rattle.writer.specs.Files.{FileReady, FilePut}
-use Rattle.writer.specs.Sets.{Origin, read, originOf, totalOf, filesAt, PlacedAmong, walkAt, passed, followedBy, Task, task, Fileable, OneFiled, sheetAt, Ordered}
+use Rattle.writer.specs.code.Pass.{job}
+use Rattle.writer.specs.code.Source.{walkOf, recordsOf, endAt, GoodCursor}
+use Rattle.writer.specs.code.Files.{FileReady, FilePut}
+use Rattle.writer.specs.code.Sets.{Origin, read, originOf, totalOf, filesAt, PlacedAmong, walkAt, passed, followedBy, Task, task, Fileable, OneFiled, sheetAt, Ordered}
 use Rattle.writer.proofs.Filing.{legal-set, legal-others, file-ready, one-filed}
 
 -- ---- the file at a place

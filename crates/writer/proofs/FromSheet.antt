@@ -9,7 +9,8 @@ use borrow.Author.Tests.{eqb-true, ltb-true, ltb-false}
 use lib.Dec.{eqb, ltb}
 use lib.ListN.{length, take, drop, getD, length-drop, take-append-drop}
 use lib.Seq.{drop-drop, drop-cons}
-use Rattle.base.specs.If.{ifB, if-true, if-false, if-case}
+use Rattle.base.specs.If.{ifB}
+use Rattle.base.proofs.Ifs.{if-true, if-false, if-case}
 use Rattle.base.specs.Part.{part}
 use Rattle.base.specs.Sum.{sum, cutBy}
 use Rattle.base.proofs.Sums.{sum-at, sum-append}
@@ -28,10 +29,10 @@ use Rattle.writer.specs.declared.pen.Pen.{Pen}
 use Rattle.writer.specs.declared.source.Cursor.{Cursor}
 use Rattle.writer.specs.declared.body.Body.{Body}
 use Rattle.writer.specs.declared.set.Place.{Place}
-use Rattle.writer.specs.Pass.{job}
-use Rattle.writer.specs.Source.{lengthsAt, recordsOf, endAt, GoodCursor}
-use Rattle.writer.specs.Files.{FileReady, FilePut}
-use Rattle.writer.specs.Sets.{Origin, listed, originOf, totalOf, filesAt, PlacedAmong, listedAt, passed, Task, task, Fileable, OneFiled, sheetAt, Ordered}
+use Rattle.writer.specs.code.Pass.{job}
+use Rattle.writer.specs.code.Source.{lengthsAt, recordsOf, endAt, GoodCursor}
+use Rattle.writer.specs.code.Files.{FileReady, FilePut}
+use Rattle.writer.specs.code.Sets.{Origin, listed, originOf, totalOf, filesAt, PlacedAmong, listedAt, passed, Task, task, Fileable, OneFiled, sheetAt, Ordered}
 use Rattle.writer.proofs.Filing.{legal-set, legal-others, file-ready, one-filed, no-counts}
 
 abbrev place : FileAt → ℕ → ℕ → ℕ → Bool → Place

@@ -16,8 +16,8 @@ use Rattle.label.specs.Name.{HDR1, HDR2, EOV1, EOV2, EOF1, EOF2}
 use Rattle.label.specs.Made.{madeVolume, madeFirst, madeSecond}
 use Rattle.writing.specs.Lay.{headers, fileEnd, volumeEnd}
 use Rattle.label.proofs.Read.{length-first, length-second, length-volume}
-use Rattle.writer.specs.Pass.{entryIn, sequenceIn, setIn, Puts, pairOf}
-use Rattle.writer.specs.Sets.{headOf}
+use Rattle.writer.specs.code.Pass.{entryIn, sequenceIn, setIn, Puts, pairOf}
+use Rattle.writer.specs.code.Sets.{headOf}
 
 -- ---- lengths
 

@@ -7,7 +7,7 @@ use native.Mathlib.Omega.{arith}
 use borrow.Author.Needs.{needs}
 use lib.ListN.{length, take, drop, getD, set, replicate, length-append, length-set}
 use lib.Seq.{drop-drop, getD-drop, getD-set-same, drop-set-lt}
-use Rattle.base.specs.If.{if-true, if-false}
+use Rattle.base.proofs.Ifs.{if-true, if-false}
 use Rattle.base.specs.Part.{part, putAt}
 use Rattle.base.proofs.Parts.{length-part, part-drop, drop-take, length-put, take-put, part-put, drop-put, put-put}
 use Rattle.volume.specs.Meaning.{fieldsFrom}
@@ -16,9 +16,9 @@ use Rattle.writer.specs.declared.pen.Pen.{Pen}
 use Rattle.writer.specs.declared.source.Cursor.{Cursor}
 use Rattle.writer.specs.declared.body.Body.{Body}
 use Rattle.writer.specs.declared.set.Place.{Place}
-use Rattle.writer.specs.Pass.{Job, job, setIn, namesIn, jobOf}
-use Rattle.writer.specs.Files.{FileReady, FilePut}
-use Rattle.writer.specs.Sets.{Enterable, entryAt, LabelsEntered}
+use Rattle.writer.specs.code.Pass.{Job, job, setIn, namesIn, jobOf}
+use Rattle.writer.specs.code.Files.{FileReady, FilePut}
+use Rattle.writer.specs.code.Sets.{Enterable, entryAt, LabelsEntered}
 
 -- ---- the fields of a file, from its labels in an image
 

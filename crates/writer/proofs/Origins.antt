@@ -9,7 +9,8 @@ use mir.Val.{Fits as FitsIn}
 use mir.Syntax.{w64}
 use lib.Dec.{ltb}
 use lib.ListN.{length, getD}
-use Rattle.base.specs.If.{ifB, if-true, if-false}
+use Rattle.base.specs.If.{ifB}
+use Rattle.base.proofs.Ifs.{if-true, if-false}
 use Rattle.content.specs.File.{fileBehind}
 use Rattle.content.specs.declared.FileAt.{FileAt}
 use Rattle.content.specs.declared.NextFile.{NextFile}
@@ -19,9 +20,9 @@ use Rattle.writer.specs.declared.pen.Pen.{Pen}
 use Rattle.writer.specs.declared.source.Cursor.{Cursor}
 use Rattle.writer.specs.declared.body.Body.{Body}
 use Rattle.writer.specs.declared.set.Place.{Place}
-use Rattle.writer.specs.Pass.{Job, job, setIn, namesIn, jobOf}
-use Rattle.writer.specs.Files.{FileReady, FilePut}
-use Rattle.writer.specs.Sets.{Origin, listed, read, originOf, totalOf, listedAt, walkAt, cursorAt, Countable, entryAt, Enterable, LabelsEntered, passed, followedBy, behindFile, Task, task, taskOf, Fileable, OneFiled}
+use Rattle.writer.specs.code.Pass.{Job, job, setIn, namesIn, jobOf}
+use Rattle.writer.specs.code.Files.{FileReady, FilePut}
+use Rattle.writer.specs.code.Sets.{Origin, listed, read, originOf, totalOf, listedAt, walkAt, cursorAt, Countable, entryAt, Enterable, LabelsEntered, passed, followedBy, behindFile, Task, task, taskOf, Fileable, OneFiled}
 use Rattle.writer.proofs.Filing.{filesOn, Along, along-fileable, along-more, files-fall}
 use Rattle.writer.proofs.LabelParts.{parts-ready, parts-put}
 use Rattle.writer.proofs.FromSheet.{nth-small, stop-within, entry-within, entry-ready, listed-filed}

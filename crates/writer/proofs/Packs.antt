@@ -9,7 +9,8 @@ use borrow.Author.Tests.{ltb-true, ltb-false, eqb-true, eqb-false}
 use lib.Dec.{eqb}
 use lib.ListN.{length, take, drop}
 use lib.Seq.{length-take-le}
-use Rattle.base.specs.If.{ifB, if-true, if-false, if-case}
+use Rattle.base.specs.If.{ifB}
+use Rattle.base.proofs.Ifs.{if-true, if-false, if-case}
 use Rattle.block.specs.Unit.{wordOf}
 use Rattle.writing.specs.Pack.{going, enters, taken, indicatorOf, controlWord}
 use Rattle.writing.specs.Lay.{Sequel}
@@ -17,9 +18,9 @@ use Rattle.writing.proofs.Packing.{by-test, entered}
 use Rattle.writing.proofs.Units.{length-control}
 use Rattle.writer.specs.declared.pen.Pen.{Pen}
 use Rattle.writer.specs.declared.pack.Flow.{Flow}
-use Rattle.writer.specs.Pass.{Job, inkAt, PassEnd, EndsWithin, between, within, fillDue, leftDue, penned}
-use Rattle.writer.specs.Pens.{Ready, Opens}
-use Rattle.writer.specs.Packs.{entersOn, Wanting, Blocked, more, flowed, Flowing, FlowGoes, FlowsOn, headed, Headable, Headed, manyOf, Partable, Settled, turnsIn, Turns, Packable, Packed}
+use Rattle.writer.specs.code.Pass.{Job, inkAt, PassEnd, EndsWithin, between, within, fillDue, leftDue, penned}
+use Rattle.writer.specs.code.Pens.{Ready, Opens}
+use Rattle.writer.specs.code.Packs.{entersOn, Wanting, Blocked, more, flowed, Flowing, FlowGoes, FlowsOn, headed, Headable, Headed, manyOf, Partable, Settled, turnsIn, Turns, Packable, Packed}
 use Rattle.writer.proofs.Passes.{ink-none, ink-length}
 use Rattle.writer.proofs.Dues.{enter-fill, enter-left, some-fill}
 use Rattle.writer.proofs.Blocks.{room-unit, penned-unit, more-sound, enters-on, entered-on, wanting-ready, blocked-next}

@@ -7,14 +7,15 @@ use Prim.Native.Nat.{ℕ, _+_, _-_, _≤_, _<_}
 use native.Mathlib.Omega.{arith}
 use lib.ListN.{length, take, drop, length-append, take-append-drop}
 use lib.Seq.{take-add}
-use Rattle.base.specs.If.{ifB, if-false}
+use Rattle.base.specs.If.{ifB}
+use Rattle.base.proofs.Ifs.{if-false}
 use Rattle.base.specs.Part.{part, putAt}
 use Rattle.base.proofs.Parts.{length-part, length-put, put-put, put-before}
 use Rattle.image.specs.Item.{Item, block, three, bytesOf, encodeBy, encode}
 use Rattle.image.proofs.RoundTrip.{encode-append}
 use Rattle.writing.specs.Lay.{Laid, laid, short, put}
 use Rattle.writer.proofs.Items.{length-three}
-use Rattle.writer.specs.Pass.{overLong, inkAt, inked, behind, inkedAt, outcome, EndsWithin}
+use Rattle.writer.specs.code.Pass.{overLong, inkAt, inked, behind, inkedAt, outcome, EndsWithin}
 
 -- ---- two puts apart from each other
 

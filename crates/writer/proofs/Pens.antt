@@ -10,7 +10,8 @@ use mir.Val.{EndsWithin as FitsIn}
 use mir.Syntax.{w64}
 use lib.ListN.{length, take, drop, getD, length-drop, drop-of-length-le}
 use lib.Seq.{drop-drop, drop-cons}
-use Rattle.base.specs.If.{ifB, if-true, if-false}
+use Rattle.base.specs.If.{ifB}
+use Rattle.base.proofs.Ifs.{if-true, if-false}
 use Rattle.base.specs.Part.{part}
 use Rattle.base.proofs.Parts.{part-part}
 use Rattle.image.specs.Item.{Item, block, three, encode}
@@ -21,8 +22,8 @@ use Rattle.sheet.specs.Flat.{inParts}
 use Rattle.sheet.proofs.Cutting.{parts-some}
 use Rattle.writer.proofs.Items.{length-three, length-block, length-change, puts-kept}
 use Rattle.writer.specs.declared.pen.Pen.{Pen}
-use Rattle.writer.specs.Pass.{overLong, behind, Puts, Reels, reelsFrom, reelsAt, Job, entryIn, sequenceIn, setIn, jobOf, inkAt, lacks, inked, PassEnd, outcome, restOf, ends, EndsWithin, Sound}
-use Rattle.writer.specs.Pens.{Ready, Closable, Closes, Changes, Opens, opened}
+use Rattle.writer.specs.code.Pass.{overLong, behind, Puts, Reels, reelsFrom, reelsAt, Job, entryIn, sequenceIn, setIn, jobOf, inkAt, lacks, inked, PassEnd, outcome, restOf, ends, EndsWithin, Sound}
+use Rattle.writer.specs.code.Pens.{Ready, Closable, Closes, Changes, Opens, opened}
 use Rattle.writer.proofs.Written.{ink-puts}
 use Rattle.writer.proofs.Passes.{ink-none, ink-length, outcome-close, outcome-open, outcome-items, fits-unit, fits-items}
 

@@ -5,11 +5,11 @@ use mathlib.Core.List.{List, _++_}
 use Prim.Native.Nat.{ℕ, _+_, _-_, _≤_}
 use native.Mathlib.Omega.{arith}
 use lib.ListN.{length, drop, length-append, drop-of-length-le}
-use Rattle.writing.specs.Pack.{RoomEach}
+use Rattle.writing.specs.code.Room.{RoomEach}
 use Rattle.writing.specs.Lay.{Sequel}
 use Rattle.writer.specs.declared.pack.Flow.{Flow}
-use Rattle.writer.specs.Pass.{Job, PassEnd, EndsWithin, Sound}
-use Rattle.writer.specs.Packs.{flowed, GoodFlow, Settled, Packable, Packed}
+use Rattle.writer.specs.code.Pass.{Job, PassEnd, EndsWithin, Sound}
+use Rattle.writer.specs.code.Packs.{flowed, GoodFlow, Settled, Packable, Packed}
 
 -- a flow at the beginning of the next piece
 abbrev pub reset : Flow → Flow

@@ -11,25 +11,24 @@ use mir.Syntax.{w64}
 use lib.Dec.{eqb, leb}
 use lib.ListN.{length, take, drop, length-append, drop-of-length-le}
 use lib.Seq.{take-all}
-use Rattle.base.specs.If.{if-true, if-false, if-case}
+use Rattle.base.proofs.Ifs.{if-true, if-false, if-case}
 use Rattle.base.specs.Part.{part, putAt, putIn}
 use Rattle.base.specs.Digits.{digits}
 use Rattle.base.proofs.Parts.{length-part, part-within}
 use Rattle.block.specs.Unit.{wordOf}
 use Rattle.block.proofs.Wholes.{word-segmented}
 use Rattle.writing.specs.Pack.{Left, going, startOf, enters, taken, indicatorOf, controlWord, blocksLeft}
-use Rattle.writing.specs.Lay.{rest}
-use Rattle.writing.specs.Lay.{Sequel}
+use Rattle.writing.specs.Lay.{rest, Sequel}
 use Rattle.writing.proofs.Packing.{by-test, entered}
 use Rattle.writing.proofs.Units.{length-control, indicator-whole}
 use Rattle.writer.proofs.Written.{word-small, most-small, ink-put, ink-not, unit-put, unit-kept}
 use Rattle.writer.specs.declared.pen.Pen.{Pen}
 use Rattle.writer.specs.declared.pack.Flow.{Flow}
 use Rattle.writer.specs.declared.record.Quick.{Quick}
-use Rattle.writer.specs.Pass.{Job, inkAt, inked, PassEnd, outcome, restOf, EndsWithin, UnitDue, between, within, fillDue, leftDue, penned}
-use Rattle.writer.specs.Pens.{mostOf, wordWith, Ready, Closable, Closes, Opens, opened}
-use Rattle.writer.specs.Packs.{entersOn, Wanting, Blocked, more, flowed, GoodFlow, Packable, Packed}
-use Rattle.writer.specs.Records.{GoesIn, GoesNext, Wholable, Wholed, Recordable, Recorded, Somewhere, EntersWhole, QuickBlock}
+use Rattle.writer.specs.code.Pass.{Job, inkAt, inked, PassEnd, outcome, restOf, EndsWithin, UnitDue, between, within, fillDue, leftDue, penned}
+use Rattle.writer.specs.code.Pens.{mostOf, wordWith, Ready, Closable, Closes, Opens, opened}
+use Rattle.writer.specs.code.Packs.{entersOn, Wanting, Blocked, more, flowed, GoodFlow, Packable, Packed}
+use Rattle.writer.specs.code.Records.{GoesIn, GoesNext, Wholable, Wholed, Recordable, Recorded, Somewhere, EntersWhole, QuickBlock}
 use Rattle.writer.proofs.Passes.{ink-none, ink-length}
 use Rattle.writer.proofs.Pens.{closable, opens-here}
 use Rattle.writer.proofs.Dues.{enter-fill, enter-left, some-fill, some-left, over-fill, over-left}

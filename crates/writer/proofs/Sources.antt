@@ -9,13 +9,15 @@ use mir.Val.{Fits}
 use mir.Syntax.{w64}
 use lib.ListN.{length, take, drop, getD}
 use lib.Seq.{drop-cons, drop-drop}
-use Rattle.base.specs.If.{if-true, if-false}
+use Rattle.base.proofs.Ifs.{if-true, if-false}
 use Rattle.base.specs.Part.{part}
 use Rattle.base.specs.Sum.{sum, cutBy}
 use Rattle.block.specs.Unit.{wordOf}
 use Rattle.content.specs.Walk.{moved, Record, whole, split, nothing as no-record, ends, recordAt}
-use Rattle.content.specs.Whole.{atBlock, wholeAt}
-use Rattle.content.specs.Measure.{measuredBy, recordBytes}
+use Rattle.content.specs.Whole.{atBlock}
+use Rattle.content.specs.code.Heads.{wholeAt}
+use Rattle.content.specs.Measure.{measuredBy}
+use Rattle.content.specs.code.Joining.{recordBytes}
 use Rattle.content.specs.Walked.{handed, endOf}
 use Rattle.content.specs.Records.{recordsAt}
 use Rattle.content.specs.declared.Walk.{Walk}
@@ -25,7 +27,7 @@ use Rattle.content.proofs.Wholes.{measured-whole as whole-measured, word-least,
 use Rattle.content.proofs.Records.{handed-passes, measured-nothing, measured-whole, measured-split, measured-end-nothing, measured-end-whole, measured-end-split, whole-within}
 use Rattle.writer.specs.declared.source.Cursor.{Cursor}
 use Rattle.writer.specs.declared.source.Found.{Found}
-use Rattle.writer.specs.Source.{walkOf, movedTo, lengthsAt, recordsOf, endAt, stopOf, GoodCursor, nothing, splitBytes, SplitHere, foundBytes, Finds}
+use Rattle.writer.specs.code.Source.{walkOf, movedTo, lengthsAt, recordsOf, endAt, stopOf, GoodCursor, nothing, splitBytes, SplitHere, foundBytes, Finds}
 
 -- ---- what is left, by the source
 

@@ -10,11 +10,11 @@ use mir.Val.{EndsWithin as FitsIn}
 use mir.Syntax.{w64}
 use lib.Dec.{eqb}
 use lib.ListN.{length, take, drop, length-append}
-use Rattle.base.specs.If.{if-case}
+use Rattle.base.proofs.Ifs.{if-case}
 use Rattle.base.specs.Part.{part}
 use Rattle.base.proofs.Parts.{part-within}
 use Rattle.content.specs.Walk.{isInside, unitNext, unitFrom, firstSegment, nextSegment, restAt}
-use Rattle.content.specs.Measure.{isEnded, bytesBehind}
+use Rattle.content.specs.code.Joining.{isEnded, bytesBehind}
 use Rattle.content.specs.declared.Walk.{Walk}
 use Rattle.content.specs.declared.unit.Taken.{Taken}
 use Rattle.content.specs.declared.unit.Taken.the-variants.{One, Nothing}
@@ -23,18 +23,19 @@ use Rattle.content.proofs.Units.{inside-true}
 use Rattle.content.proofs.Rests.{UnitBehind, next-behind, from-behind}
 use Rattle.content.proofs.Joins.{PiecesLeft as First, JoinGoing}
 use Rattle.content.proofs.Records.{split-long, first-split, first-some, next-going, next-some}
-use Rattle.writing.specs.Pack.{going, RoomEach}
+use Rattle.writing.specs.Pack.{going}
+use Rattle.writing.specs.code.Room.{RoomEach}
 use Rattle.writing.specs.Lay.{Sequel}
 use Rattle.writing.proofs.Packing.{by-test}
 use Rattle.writer.specs.declared.pen.Pen.{Pen}
 use Rattle.writer.specs.declared.pack.Flow.{Flow}
 use Rattle.writer.specs.declared.source.Cursor.{Cursor}
 use Rattle.writer.specs.declared.split.Segment.{Segment}
-use Rattle.writer.specs.Source.{walkOf, splitBytes, SplitHere}
-use Rattle.writer.specs.Segments.{behindOf, HasRest, Segmented}
-use Rattle.writer.specs.Pass.{Job, PassEnd, EndsWithin, between, penned}
-use Rattle.writer.specs.Packs.{flowed, Packable, Packed}
-use Rattle.writer.specs.Records.{Splittable, Recorded}
+use Rattle.writer.specs.code.Source.{walkOf, splitBytes, SplitHere}
+use Rattle.writer.specs.code.Segments.{behindOf, HasRest, Segmented}
+use Rattle.writer.specs.code.Pass.{Job, PassEnd, EndsWithin, between, penned}
+use Rattle.writer.specs.code.Packs.{flowed, Packable, Packed}
+use Rattle.writer.specs.code.Records.{Splittable, Recorded}
 use Rattle.writer.proofs.Steps.{flowed-out}
 use Rattle.writer.proofs.Pieces.{reset, PiecesLeft, pieces-in, pieces-same, pieces-out}
 use Rattle.writer.proofs.Records.{flow-over, flow-short}

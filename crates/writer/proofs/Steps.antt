@@ -8,7 +8,8 @@ use borrow.Author.Needs.{needs}
 use lib.Dec.{ltb}
 use lib.ListN.{length, take, drop, length-append, length-drop}
 use lib.Seq.{take-append-le, drop-append-le, drop-drop}
-use Rattle.base.specs.If.{ifB, if-true, if-false}
+use Rattle.base.specs.If.{ifB}
+use Rattle.base.proofs.Ifs.{if-true, if-false}
 use Rattle.base.specs.Part.{part}
 use Rattle.base.proofs.Parts.{length-part}
 use Rattle.writing.specs.Pack.{Left, going, blocksLeft}
@@ -16,9 +17,9 @@ use Rattle.writing.specs.Lay.{Sequel}
 use Rattle.writing.proofs.Packing.{segment-enters}
 use Rattle.writer.specs.declared.pen.Pen.{Pen}
 use Rattle.writer.specs.declared.pack.Flow.{Flow}
-use Rattle.writer.specs.Pass.{Job, inkAt, PassEnd, ends, EndsWithin, UnitDue, between, within, fillDue, leftDue, penned}
-use Rattle.writer.specs.Pens.{Closable, Closes}
-use Rattle.writer.specs.Packs.{more, dueOf, flowed, Flowing, FlowGoes, FlowsOn, manyOf, spelled, Partable, Spelled, Settled}
+use Rattle.writer.specs.code.Pass.{Job, inkAt, PassEnd, ends, EndsWithin, UnitDue, between, within, fillDue, leftDue, penned}
+use Rattle.writer.specs.code.Pens.{Closable, Closes}
+use Rattle.writer.specs.code.Packs.{more, dueOf, flowed, Flowing, FlowGoes, FlowsOn, manyOf, spelled, Partable, Spelled, Settled}
 use Rattle.writer.proofs.Passes.{ink-none, ink-length}
 use Rattle.writer.proofs.Dues.{some-fill, some-left, broken-fill, broken-left}
 use Rattle.writer.proofs.Blocks.{penned-unit, more-sound}

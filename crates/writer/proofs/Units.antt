@@ -18,9 +18,9 @@ use Rattle.writing.proofs.Packing.{entered}
 use Rattle.writing.proofs.Units.{length-control}
 use Rattle.writer.specs.declared.pen.Pen.{Pen}
 use Rattle.writer.specs.declared.pack.Flow.{Flow}
-use Rattle.writer.specs.Pass.{inkAt}
-use Rattle.writer.specs.Pens.{wordWith}
-use Rattle.writer.specs.Packs.{more, headed, Headable, Headed, manyOf, Partable, Spelled}
+use Rattle.writer.specs.code.Pass.{inkAt}
+use Rattle.writer.specs.code.Pens.{wordWith}
+use Rattle.writer.specs.code.Packs.{more, headed, Headable, Headed, manyOf, Partable, Spelled}
 use Rattle.writer.proofs.Written.{ink-put, ink-put-in, ink-in-kept, ink-not, word-fits, word-said}
 
 -- ---- a unit is begun

@@ -10,7 +10,7 @@ use mir.Val.{Fits as FitsIn}
 use mir.Syntax.{w64}
 use lib.Dec.{eqb}
 use lib.ListN.{length, take, drop, set, length-set}
-use Rattle.base.specs.If.{if-true, if-false, if-case}
+use Rattle.base.proofs.Ifs.{if-true, if-false, if-case}
 use Rattle.base.specs.Part.{part, putAt, putIn}
 use Rattle.base.specs.Digits.{digits}
 use Rattle.base.proofs.Copies.{put-in}
@@ -22,8 +22,8 @@ use Rattle.block.proofs.Wholes.{word-variable}
 use Rattle.writing.specs.Pack.{controlWord}
 use Rattle.writing.proofs.Packing.{by-test}
 use Rattle.writing.proofs.Units.{length-control}
-use Rattle.writer.specs.Pass.{Puts, inkAt}
-use Rattle.writer.specs.Pens.{mostOf, wordWith}
+use Rattle.writer.specs.code.Pass.{Puts, inkAt}
+use Rattle.writer.specs.code.Pens.{mostOf, wordWith}
 
 pub ink-put : (lay : Bool) (o : List ℕ) (at : ℕ) (bs q : List ℕ) → lay ≡ true → q ≡ putAt o at bs → q ≡ inkAt lay o at bs
 unfolding inkAt

@@ -1,9 +1,1 @@
-pub mod Pass
-pub mod Pens
-pub mod Packs
-pub mod Source
-pub mod Records
-pub mod Bodies
-pub mod Files
-pub mod Segments
-pub mod Sets
+pub mod code

@@ -1,11 +1,11 @@
 // The records of a file packed into blocks, one after the other, wherever they come from.
 ghost use mathlib.Core.Path.{_≡_};
 ghost use Rattle.block.specs.Unit.{wordOf};
-ghost use Rattle.writer.specs.Pass.{jobOf};
-ghost use Rattle.writer.specs.Source.{movedTo, foundBytes};
-ghost use Rattle.writer.specs.Records.{Recorded};
-ghost use Rattle.writer.specs.Pens.{mostOf};
-ghost use Rattle.writer.specs.Bodies.{Takable, Bodied, BodyPut};
+ghost use Rattle.writer.specs.code.Pass.{jobOf};
+ghost use Rattle.writer.specs.code.Source.{movedTo, foundBytes};
+ghost use Rattle.writer.specs.code.Records.{Recorded};
+ghost use Rattle.writer.specs.code.Pens.{mostOf};
+ghost use Rattle.writer.specs.code.Bodies.{Takable, Bodied, BodyPut};
 use crate::item::Labels;
 use crate::pen::Pen;
 use crate::record::most_of;

@@ -2,8 +2,8 @@
 ghost use mathlib.Core.Path.{_≡_};
 ghost use lib.ListN.{length};
 ghost use Rattle.reading.specs.Legal.{blockLengthFrom};
-ghost use Rattle.writer.specs.Pass.{entryIn, sequenceIn, setIn, jobOf};
-ghost use Rattle.writer.specs.Files.{Beginnable, Begins, Tailable, Tailed, FileReady, FilePut};
+ghost use Rattle.writer.specs.code.Pass.{entryIn, sequenceIn, setIn, jobOf};
+ghost use Rattle.writer.specs.code.Files.{Beginnable, Begins, Tailable, Tailed, FileReady, FilePut};
 use crate::body::Body;
 use crate::body::put_records;
 use crate::item::ENTRY;

@@ -6,8 +6,8 @@ ghost use lib.ListN.{length};
 ghost use Rattle.base.specs.Part.{putAt};
 ghost use Rattle.image.specs.Item.{three};
 ghost use Rattle.block.specs.Unit.{wordOf};
-ghost use Rattle.writer.specs.Pass.{overLong, Puts};
-ghost use Rattle.writer.specs.Pens.{wordWith};
+ghost use Rattle.writer.specs.code.Pass.{overLong, Puts};
+ghost use Rattle.writer.specs.code.Pens.{wordWith};
 use base::FIXED;
 use base::VARIABLE;
 

@@ -18,7 +18,7 @@ ghost use Rattle.volume.specs.Run.{imageVerdict};
 ghost use Rattle.sheet.specs.Flat.{reelsNumber};
 ghost use Rattle.writing.specs.Write.{flat, storedLaid, writeSheet, write as writing};
 ghost use Rattle.writing.specs.Rewrite.{sheetFrom, rewrite as rewriting};
-ghost use Rattle.writer.specs.Sets.{originOf, taskOf, Writable, setLaid, sheetAt, Ordered};
+ghost use Rattle.writer.specs.code.Sets.{originOf, taskOf, Writable, setLaid, sheetAt, Ordered};
 use base::part_of;
 use content::FileAt;
 use content::NextFile;

@@ -2,7 +2,7 @@
 // them holds a record, and nothing of blocks that are written.
 ghost use mathlib.Core.Path.{_≡_};
 ghost use mathlib.Core.Bool.{true};
-ghost use Rattle.writer.specs.Source.{walkOf, GoodCursor, stopOf, endAt, nothing, Finds};
+ghost use Rattle.writer.specs.code.Source.{walkOf, GoodCursor, stopOf, endAt, nothing, Finds};
 use crate::unit::wide;
 use block::word_of;
 use content::Measured;

@@ -1,10 +1,10 @@
 // A record of an image that stands in several segments, packed segment after segment.
 ghost use Prim.Native.Nat.{_<_};
-ghost use Rattle.content.specs.Measure.{bytesBehind};
-ghost use Rattle.writer.specs.Pass.{jobOf};
-ghost use Rattle.writer.specs.Records.{Splittable, Recorded};
-ghost use Rattle.writer.specs.Source.{splitBytes, SplitHere};
-ghost use Rattle.writer.specs.Segments.{behindOf, HasRest, Segmented};
+ghost use Rattle.content.specs.code.Joining.{bytesBehind};
+ghost use Rattle.writer.specs.code.Pass.{jobOf};
+ghost use Rattle.writer.specs.code.Records.{Splittable, Recorded};
+ghost use Rattle.writer.specs.code.Source.{splitBytes, SplitHere};
+ghost use Rattle.writer.specs.code.Segments.{behindOf, HasRest, Segmented};
 use crate::item::Labels;
 use crate::pack::Flow;
 use crate::pack::put_pieces;

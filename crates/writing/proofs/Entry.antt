@@ -8,7 +8,7 @@ use borrow.Author.Tests.{eqb-true}
 use lib.Dec.{eqb, leb}
 use lib.ListN.{length, take, drop, getD}
 use lib.Seq.{take-all, take-add, drop-drop}
-use Rattle.base.specs.If.{if-case}
+use Rattle.base.proofs.Ifs.{if-case}
 use Rattle.base.specs.Part.{part, same}
 use Rattle.base.specs.Digits.{isDigit, allDigits, value}
 use Rattle.base.proofs.Bytes.{same-true}

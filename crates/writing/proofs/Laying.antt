@@ -8,11 +8,13 @@ use native.Mathlib.Omega.{arith}
 use borrow.Author.Tests.{ne-eqb, le-leb, eqb-true}
 use lib.Dec.{eqb}
 use lib.ListN.{length, length-append}
-use Rattle.base.specs.If.{ifB, if-true, if-false, if-case, and-true}
+use Rattle.base.specs.If.{ifB}
+use Rattle.base.proofs.Ifs.{if-true, if-false, if-case, and-true}
 use Rattle.base.specs.Part.{same}
 use Rattle.base.specs.Answer.{verdict}
 use Rattle.base.proofs.Bytes.{same-refl}
-use Rattle.image.specs.Item.{Item, block, mark, reelEnd, isItem, allItems}
+use Rattle.image.specs.Item.{Item, block, mark, reelEnd}
+use Rattle.image.specs.code.Items.{isItem, allItems}
 use Rattle.image.specs.Framing.{framedFrom}
 use Rattle.order.specs.Kind.{hdr, vol, dataBlock, endOfImage, isKind}
 use Rattle.order.specs.Due.{dues, choose, upToNine, dueAfter}

@@ -9,9 +9,11 @@ use borrow.Author.Tests.{eq-eqb, ne-eqb, leb-true, le-leb}
 use lib.Dec.{eqb}
 use lib.ListN.{length, take, drop, length-append, length-drop, take-append-drop}
 use lib.Seq.{take-all}
-use Rattle.base.specs.If.{ifB, if-true, if-false, and-true}
+use Rattle.base.specs.If.{ifB}
+use Rattle.base.proofs.Ifs.{if-true, if-false, and-true}
 use Rattle.base.specs.Part.{allAre}
-use Rattle.image.specs.Item.{isItem, block}
+use Rattle.image.specs.Item.{block}
+use Rattle.image.specs.code.Items.{isItem}
 use Rattle.label.specs.Field.{suits}
 use Rattle.block.specs.Unit.{pad, unitOf}
 use Rattle.block.specs.Cut.{Segment, segmentOf, onto, cut, someUnits, units}
@@ -22,7 +24,8 @@ use Rattle.block.proofs.Units.{unit-stands}
 use Rattle.block.proofs.Cuts.{cut-end}
 use Rattle.volume.specs.Meaning.{onFirst, joined}
 use Rattle.reading.specs.Legal.{legalRecord, legalRecords}
-use Rattle.writing.specs.Pack.{enters, taken, indicatorOf, Left, finished, going, startOf, unitIn, fill, after, weights, weight, blocksF, blocksLeft, blocksOf, RoomEach, RoomEachLeft}
+use Rattle.writing.specs.Pack.{enters, taken, indicatorOf, Left, finished, going, startOf, unitIn, fill, after, weights, weight, blocksF, blocksLeft, blocksOf}
+use Rattle.writing.specs.code.Room.{RoomEach, RoomEachLeft}
 use Rattle.writing.proofs.Packing.{by-test, Entered, entered, segment-enters, whole-enters, segmentIn, segmentsFrom, UnitSaid, Ways, by-ways, after-lighter}
 use Rattle.block.proofs.Wholes.{word-fixed, word-variable}
 use Rattle.writing.proofs.Units.{Format, isF, isD, isS, UnitReady, fresh, begun, both, legal-F, legal-D, legal-S, length-taken, length-unit, cut-back}

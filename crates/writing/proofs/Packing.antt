@@ -8,11 +8,13 @@ use native.Mathlib.Omega.{arith}
 use borrow.Author.Tests.{eqb-true, eqb-false, eq-eqb, leb-true, le-leb}
 use lib.Dec.{eqb, leb}
 use lib.ListN.{length, take, drop, length-drop}
-use Rattle.base.specs.If.{ifB, if-true, if-false}
+use Rattle.base.specs.If.{ifB}
+use Rattle.base.proofs.Ifs.{if-true, if-false}
 use Rattle.block.specs.Cut.{Segment, segmentOf}
 use Rattle.block.specs.Unit.{wordOf}
 use Rattle.block.proofs.Wholes.{word-segmented}
-use Rattle.writing.specs.Pack.{enters, taken, indicatorOf, Left, finished, going, unitIn, fill, after, weights, weight, blocksF, blocksLeft, RoomEach, RoomEachLeft}
+use Rattle.writing.specs.Pack.{enters, taken, indicatorOf, Left, finished, going, unitIn, fill, after, weights, weight, blocksF, blocksLeft}
+use Rattle.writing.specs.code.Room.{RoomEach, RoomEachLeft}
 
 -- a proof by the two values of a test
 pub by-test {ℓ} : {A : Type ℓ} (t : Bool) → (t ≡ true → A) → (t ≡ false → A) → A

@@ -6,7 +6,7 @@ use Prim.Native.Nat.{ℕ, _/_, _≤_}
 use native.Mathlib.Omega.{arith}
 use borrow.Author.Tests.{ltb-false}
 use lib.ListN.{length}
-use Rattle.base.specs.If.{if-case}
+use Rattle.base.proofs.Ifs.{if-case}
 use Rattle.volume.specs.Run.{imageVerdict}
 use Rattle.reading.specs.Legal.{legalSheet, legalQuota, legalNames}
 use Rattle.sheet.specs.Flat.{inParts, reelsNumber}

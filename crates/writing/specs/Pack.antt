@@ -4,8 +4,7 @@
 --
 -- The three formats differ in three numbers: the bytes of a control word, whether a unit enters the open block, and how many bytes it takes.
 -- `fill` is the open block from here on, `after` is what is left behind it; `blocks-going` (proofs/Packing.antt) is the equation of `blocksLeft`.
-use mathlib.Core.Path.{_≡_}
-use mathlib.Core.Bool.{Bool, true}
+use mathlib.Core.Bool.{Bool}
 use mathlib.Core.List.{List, [], _∷_, _++_}
 use Prim.Native.Nat.{ℕ, zero, suc, _+_, _-_, min}
 use lib.Dec.{eqb, leb}
@@ -85,14 +84,3 @@ blocksLeft f b l = blocksF (weight l) f b l
 -- the data blocks of a file: they depend on its format, block length and records alone
 unfoldable pub blocksOf : ℕ → ℕ → List (List ℕ) → List (List ℕ)
 blocksOf f b xs = blocksLeft f b (startOf xs)
-
--- ---- which records can be packed
-
--- every record has room in an empty block
-abbrev pub RoomEach : ℕ → ℕ → List (List ℕ) → Type 0
-RoomEach f b [] = Unit {0}
-RoomEach f b (x ∷ xs) = (enters f b 0 (length x) ≡ true) × RoomEach f b xs
-
-abbrev pub RoomEachLeft : ℕ → ℕ → Left → Type 0
-RoomEachLeft f b finished = Unit {0}
-RoomEachLeft f b (going t x xs) = RoomEach f b (x ∷ xs)

@@ -1,6 +1,6 @@
 use Prim.Native.Nat.{_-_}
 use lib.ListN.{length}
-use Rattle.block.specs.Turn.{Turning}
+use Rattle.block.specs.code.Loops.{Turning}
 use Rattle.block.proofs.Turns.{turnings}
 use Rattle.block.proofs.segments_outcome.Statement.{statement}
 use Rattle.block.proofs.segments_outcome.Tie as tie

@@ -1,4 +1,4 @@
-use Rattle.charset.specs.Class.{inRanges}
+use Rattle.charset.specs.code.Table.{inRanges}
 use Rattle.base.proofs.Rules.{ifs}
 use Rattle.charset.proofs.in_ranges.Statement.{statement}
 use Rattle.charset.proofs.in_ranges.Tie as tie

@@ -1,5 +1,5 @@
 use Prim.Native.Nat.{_-_}
-use Rattle.base.specs.Copy.{Chunked}
+use Rattle.base.specs.code.Copy.{Chunked}
 use Rattle.base.proofs.Copies.{chunks}
 use Rattle.base.proofs.copy.put_words.Statement.{statement}
 use Rattle.base.proofs.copy.put_words.Tie as tie

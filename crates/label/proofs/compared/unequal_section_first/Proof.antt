@@ -1,4 +1,4 @@
-use Rattle.label.specs.Asked.{asked}
+use Rattle.label.specs.code.Asked.{asked}
 use Rattle.label.proofs.Walk.{by-table}
 use borrow.Author.Needs.{needs}
 use Rattle.label.proofs.compared.unequal_section_first.Statement.{statement}

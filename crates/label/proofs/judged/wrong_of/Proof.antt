@@ -1,4 +1,4 @@
-use Rattle.label.specs.Asked.{asked}
+use Rattle.label.specs.code.Asked.{asked}
 use borrow.Author.Needs.{needs}
 use Rattle.label.proofs.judged.wrong_of.Statement.{statement}
 use Rattle.label.proofs.judged.wrong_of.Tie as tie

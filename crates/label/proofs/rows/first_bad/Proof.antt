@@ -1,6 +1,6 @@
 use Prim.Native.Nat.{_-_}
 use lib.ListN.{length}
-use Rattle.label.specs.Asked.{asked}
+use Rattle.label.specs.code.Asked.{asked}
 use Rattle.label.proofs.Walk.{RowsPassed, walked-more, pieces}
 use borrow.Author.Needs.{needs}
 use Rattle.label.proofs.rows.first_bad.Statement.{statement}

@@ -1,5 +1,5 @@
 use Rattle.base.proofs.Rules.{ifs}
-use Rattle.label.specs.Asked.{asked}
+use Rattle.label.specs.code.Asked.{asked}
 use Rattle.label.specs.Judged.{fieldWith}
 use borrow.Author.Needs.{needs}
 use Rattle.label.proofs.within.field_with.Statement.{statement}

@@ -1,5 +1,5 @@
 use Rattle.base.specs.Answer.{verdict}
-use Rattle.simh.specs.Passes.{sizeOf}
+use Rattle.simh.specs.code.Passes.{sizeOf}
 use borrow.Author.Needs.{needs}
 use Rattle.simh.proofs.export.good.Statement.{statement}
 use Rattle.simh.proofs.export.good.Tie as tie

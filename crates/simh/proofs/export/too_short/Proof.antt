@@ -1,5 +1,5 @@
 use Rattle.base.specs.Answer.{verdict}
-use Rattle.simh.specs.Passes.{shortOf}
+use Rattle.simh.specs.code.Passes.{shortOf}
 use borrow.Author.Needs.{needs}
 use Rattle.simh.proofs.export.too_short.Statement.{statement}
 use Rattle.simh.proofs.export.too_short.Tie as tie

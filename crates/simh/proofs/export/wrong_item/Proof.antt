@@ -1,5 +1,5 @@
 use Rattle.base.specs.Answer.{verdict}
-use Rattle.simh.specs.Passes.{wrongItem}
+use Rattle.simh.specs.code.Passes.{wrongItem}
 use borrow.Author.Needs.{needs}
 use Rattle.simh.proofs.export.wrong_item.Statement.{statement}
 use Rattle.simh.proofs.export.wrong_item.Tie as tie

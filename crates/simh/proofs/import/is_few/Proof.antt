@@ -1,6 +1,6 @@
 use borrow.Author.Needs.{needs}
 use borrow.Author.Tests.{le-leb, lt-leb}
-use Rattle.base.specs.If.{and-left}
+use Rattle.base.proofs.Ifs.{and-left}
 use Rattle.simh.specs.Set.{isFew}
 use Rattle.simh.proofs.import.is_few.Statement.{statement}
 use Rattle.simh.proofs.import.is_few.Tie as tie

@@ -1,4 +1,4 @@
-use Rattle.volume.specs.Place.{labelAt}
+use Rattle.volume.specs.code.Place.{labelAt}
 use borrow.Author.Needs.{needs}
 use Rattle.volume.proofs.among.label_at.Statement.{statement}
 use Rattle.volume.proofs.among.label_at.Tie as tie

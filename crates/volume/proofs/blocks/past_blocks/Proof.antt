@@ -1,6 +1,6 @@
 use Prim.Native.Nat.{_-_}
 use lib.ListN.{length}
-use Rattle.volume.specs.Body.{between, Skipped}
+use Rattle.volume.specs.code.Body.{between, Skipped}
 use Rattle.volume.proofs.Bodies.{skips}
 use Rattle.volume.proofs.blocks.past_blocks.Statement.{statement}
 use Rattle.volume.proofs.blocks.past_blocks.Tie as tie

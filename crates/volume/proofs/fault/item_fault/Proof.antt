@@ -1,6 +1,6 @@
 use Rattle.volume.proofs.Composed.{composed}
 use Rattle.volume.specs.Fault.{itemFault}
-use Rattle.volume.specs.Place.{contents}
+use Rattle.volume.specs.code.Place.{contents}
 use borrow.Author.Needs.{needs}
 use Rattle.volume.proofs.fault.item_fault.Statement.{statement}
 use Rattle.volume.proofs.fault.item_fault.Tie as tie

@@ -1,8 +1,8 @@
 use borrow.Author.Needs.{needs}
 use Rattle.writer.proofs.Bodies.{writing, Writing, writing-good, writing-takable}
 use lib.ListN.{length}
-use Rattle.writer.specs.Pass.{jobOf}
-use Rattle.writer.specs.Source.{recordsOf}
+use Rattle.writer.specs.code.Pass.{jobOf}
+use Rattle.writer.specs.code.Source.{recordsOf}
 use Rattle.writer.proofs.body.put_records.Statement.{statement}
 use Rattle.writer.proofs.body.put_records.Tie as tie
 

@@ -1,6 +1,6 @@
 use Rattle.writer.proofs.Packs.{packing, Packing, turnsLeft}
 use lib.ListN.{length}
-use Rattle.writer.specs.Pass.{jobOf}
+use Rattle.writer.specs.code.Pass.{jobOf}
 use Rattle.writer.proofs.pack.put_pieces.Statement.{statement}
 use Rattle.writer.proofs.pack.put_pieces.Tie as tie
 

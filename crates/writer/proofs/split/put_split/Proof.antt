@@ -1,7 +1,7 @@
 use borrow.Author.Needs.{needs}
 use Prim.Native.Nat.{_-_}
 use lib.ListN.{length}
-use Rattle.writer.specs.Pass.{jobOf}
+use Rattle.writer.specs.code.Pass.{jobOf}
 use Rattle.writer.proofs.Splits.{splits, Splits, splits-goes, splits-more, splits-packable, splits-on, splits-kept-on, splits-short, splits-last, splits-fall}
 use Rattle.writer.proofs.split.put_split.Statement.{statement}
 use Rattle.writer.proofs.split.put_split.Tie as tie

@@ -1,0 +1,4 @@
+pub mod Joining
+pub mod Seen
+pub mod Heads
+pub mod Files

@@ -1,0 +1,10 @@
+pub mod Examples
+pub mod NewYear
+pub mod Refusals
+pub mod Records
+pub mod Normal
+pub mod Tapes
+pub mod Met
+pub mod Requests
+pub mod Witness
+pub mod Wrong

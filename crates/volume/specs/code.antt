@@ -1,0 +1,4 @@
+pub mod Body
+pub mod Place
+pub mod Told
+pub mod Walk

@@ -1,0 +1,9 @@
+pub mod Bodies
+pub mod Files
+pub mod Packs
+pub mod Pass
+pub mod Pens
+pub mod Records
+pub mod Segments
+pub mod Sets
+pub mod Source
