@@ -16,7 +16,8 @@ use Rattle.base.specs.Part.{same, allAre}
 
 pub all-more : (b : ℕ) (s : List ℕ) (i : ℕ) → i < length s → getD s i 0 ≡ b → allAre b (drop i s) ≡ allAre b (drop (i + 1) s)
 unfolding allAre
-all-more b s i h e = rw (drop-cons s i 0 h) (if-true _ _ _ (eq-eqb (getD s i 0) b e) ∙ ap (λ (k : ℕ). allAre b (drop k s)) (sym (add-one i)))
+all-more b s i h e =
+    rw (drop-cons s i 0 h) (if-true _ _ _ (eq-eqb (getD s i 0) b e) ∙ ap (λ (k : ℕ). allAre b (drop k s)) (sym (add-one i)))
 
 pub all-other : (b : ℕ) (s : List ℕ) (i : ℕ) → i < length s → (getD s i 0 ≡ b → ⊥) → allAre b (drop i s) ≡ false
 unfolding allAre
@@ -33,7 +34,8 @@ same-more s t i h k e =
     rw (drop-cons s i 0 h, drop-cons t i 0 k)
     (if-true _ _ _ (eq-eqb (getD s i 0) (getD t i 0) e) ∙ ap (λ (j : ℕ). same (drop j s) (drop j t)) (sym (add-one i)))
 
-pub same-other : (s t : List ℕ) (i : ℕ) → i < length s → i < length t → (getD s i 0 ≡ getD t i 0 → ⊥) → same (drop i s) (drop i t) ≡ false
+pub same-other : (s t : List ℕ) (i : ℕ) → i < length s → i < length t → (getD s i 0 ≡ getD t i 0 → ⊥)
+    → same (drop i s) (drop i t) ≡ false
 unfolding same
 same-other s t i h k e = rw (drop-cons s i 0 h, drop-cons t i 0 k) (if-false _ _ _ (ne-eqb (getD s i 0) (getD t i 0) e))
 
@@ -47,7 +49,8 @@ unfolding same
 same-length [] [] h = absurd (h refl)
 same-length [] (y ∷ t) h = refl
 same-length (x ∷ s) [] h = refl
-same-length (x ∷ s) (y ∷ t) h = if-case (λ (b : Bool). b ≡ false) (eqb x y) (same s t) false (λ _. same-length s t (λ e. h (ap suc e))) (λ _. refl)
+same-length (x ∷ s) (y ∷ t) h =
+    if-case (λ (b : Bool). b ≡ false) (eqb x y) (same s t) false (λ _. same-length s t (λ e. h (ap suc e))) (λ _. refl)
 
 pub same-refl : (s : List ℕ) → same s s ≡ true
 unfolding same
@@ -83,10 +86,12 @@ pub record Compared (s t : List ℕ) (i : ℕ) : Type 0 where
 pub compared-none : (s t : List ℕ) → Compared s t 0
 compared-none s t = record { within = omega arith; left = refl }
 
-pub compared-more : (s t : List ℕ) (i : ℕ) → Compared s t i → length s ≡ length t → i < length s → getD s i 0 ≡ getD t i 0 → Compared s t (i + 1)
+pub compared-more : (s t : List ℕ) (i : ℕ) → Compared s t i → length s ≡ length t → i < length s → getD s i 0 ≡ getD t i 0
+    → Compared s t (i + 1)
 compared-more s t i c l h e = record { within = omega arith; left = sym (same-more s t i h (omega arith) e) ∙ c .left }
 
-pub compared-other : (s t : List ℕ) (i : ℕ) → Compared s t i → length s ≡ length t → i < length s → (getD s i 0 ≡ getD t i 0 → ⊥) → false ≡ same s t
+pub compared-other : (s t : List ℕ) (i : ℕ) → Compared s t i → length s ≡ length t → i < length s → (getD s i 0 ≡ getD t i 0 → ⊥)
+    → false ≡ same s t
 compared-other s t i c l h e = sym (same-other s t i h (omega arith) e) ∙ c .left
 
 pub compared-all : (s t : List ℕ) (i : ℕ) → Compared s t i → length s ≡ length t → length s ≤ i → true ≡ same s t

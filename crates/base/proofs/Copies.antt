@@ -67,7 +67,8 @@ first-eight (a ∷ b ∷ c ∷ d ∷ e ∷ f ∷ g ∷ []) h = absurd (omega ari
 first-eight (a ∷ b ∷ c ∷ d ∷ e ∷ f ∷ g ∷ i ∷ t) h = refl
 
 pub eight-read : (s : List ℕ) (a : ℕ) → a + 8 ≤ length s
-    → getD s a 0 ∷ getD s (a + 1) 0 ∷ getD s (a + 2) 0 ∷ getD s (a + 3) 0 ∷ getD s (a + 4) 0 ∷ getD s (a + 5) 0 ∷ getD s (a + 6) 0 ∷ getD s (a + 7) 0 ∷ []
+    → getD s a 0 ∷ getD s (a + 1) 0 ∷ getD s (a + 2) 0 ∷ getD s (a + 3) 0 ∷ getD s (a + 4) 0 ∷ getD s (a + 5) 0 ∷
+    getD s (a + 6) 0 ∷ getD s (a + 7) 0 ∷ []
     ≡ part a 8 s
 unfolding part
 eight-read s a h =
@@ -90,7 +91,8 @@ first-four (a ∷ b ∷ []) h = absurd (omega arith)
 first-four (a ∷ b ∷ c ∷ []) h = absurd (omega arith)
 first-four (a ∷ b ∷ c ∷ d ∷ t) h = refl
 
-pub four-read : (s : List ℕ) (a : ℕ) → a + 4 ≤ length s → getD s a 0 ∷ getD s (a + 1) 0 ∷ getD s (a + 2) 0 ∷ getD s (a + 3) 0 ∷ [] ≡ part a 4 s
+pub four-read : (s : List ℕ) (a : ℕ) → a + 4 ≤ length s
+    → getD s a 0 ∷ getD s (a + 1) 0 ∷ getD s (a + 2) 0 ∷ getD s (a + 3) 0 ∷ [] ≡ part a 4 s
 unfolding part
 four-read s a h =
     let here : a + 0 ≡ a = omega arith in
@@ -102,7 +104,8 @@ four-read s a h =
     cc
 
 -- the first i of some bytes, and those from m on, which may meet, are all of them
-put-meet : (o s : List ℕ) (at i m : ℕ) → m ≤ i → i ≤ length s → at + length s ≤ length o → putAt (putAt o at (take i s)) (at + m) (drop m s) ≡ putAt o at s
+put-meet : (o s : List ℕ) (at i m : ℕ) → m ≤ i → i ≤ length s → at + length s ≤ length o
+    → putAt (putAt o at (take i s)) (at + m) (drop m s) ≡ putAt o at s
 put-meet o s at i m h k l =
     let front : List ℕ = take m s in
     let middle : List ℕ = take (i - m) (drop m s) in
@@ -112,7 +115,8 @@ put-meet o s at i m h k l =
     let split : take i s ≡ front ++ middle = sym (take-append-drop m (take i s)) ∙ ap₂ _++_ (take-take m i s h) (drop-take m i s) in
     let place : at + m ≡ at + length front = omega arith in
     let size : length (putAt o at front) ≡ length o = length-put o at front (omega arith) in
-    ap₂ (λ (x : List ℕ) (n : ℕ). putAt x n (drop m s)) (ap (putAt o at) split ∙ sym (put-put o at front middle (omega arith))) place
+    ap₂ (λ (x : List ℕ) (n : ℕ). putAt x n (drop m s))
+    (ap (putAt o at) split ∙ sym (put-put o at front middle (omega arith))) place
     ∙ put-again (putAt o at front) (at + length front) middle (drop m s) short (omega arith)
     ∙ put-put o at front (drop m s) (omega arith)
     ∙ ap (putAt o at) (take-append-drop m s)
@@ -132,7 +136,8 @@ module _ (v w : ℕ) (o s : List ℕ) (at from : ℕ) (twice : v ≡ w + w) wher
   pub half-behind : at + v ≤ length o → (p : List ℕ) → length p ≡ length o → at + w + w ≤ length p
   half-behind k p e = omega arith
 
-  pub put-twice : from + v ≤ length s → at + v ≤ length o → (x z p q : List ℕ) → x ≡ part from w s → z ≡ part (from + w) w s → p ≡ putAt o at x
+  pub put-twice : from + v ≤ length s → at + v ≤ length o → (x z p q : List ℕ) → x ≡ part from w s → z ≡ part (from + w) w s
+      → p ≡ putAt o at x
       → q ≡ putAt p (at + w) z → q ≡ putAt o at (part from v s)
   unfolding part
   put-twice h k x z p q i j e f =
@@ -141,7 +146,8 @@ module _ (v w : ℕ) (o s : List ℕ) (at from : ℕ) (twice : v ≡ w + w) wher
       f
       ∙ ap₂ (λ (l : List ℕ) (n : ℕ). putAt l n z) e place
       ∙ put-put o at x z (omega arith)
-      ∙ ap (putAt o at) (ap₂ _++_ i (j ∙ ap (take w) (sym (drop-drop w from s))) ∙ sym (take-add w w (drop from s)) ∙ ap (λ (n : ℕ). take n (drop from s)) (sym twice))
+      ∙ ap (putAt o at) (ap₂ _++_ i (j ∙ ap (take w) (sym (drop-drop w from s))) ∙ sym (take-add w w (drop from s))
+      ∙ ap (λ (n : ℕ). take n (drop from s)) (sym twice))
 
 pub ruleset doubled = (half-first, half-last, half-room, half-behind, put-twice, four-read, eight-read, needs)
 
@@ -164,15 +170,18 @@ module _ (w : ℕ) (o s : List ℕ) (at : ℕ) (y : Short w (length s)) where
     pub ends-last : at + (length s - w) + w ≤ length o
     ends-last = omega (arith, y .least)
 
-    pub put-ends : (x z p q : List ℕ) → x ≡ part 0 w s → z ≡ part (length s - w) w s → p ≡ putAt o at x → q ≡ putAt p (at + (length s - w)) z → q ≡ putAt o at s
+    pub put-ends : (x z p q : List ℕ) → x ≡ part 0 w s → z ≡ part (length s - w) w s → p ≡ putAt o at x
+        → q ≡ putAt p (at + (length s - w)) z → q ≡ putAt o at s
     unfolding part
     put-ends x z p q i j e f =
         let rest : length (drop (length s - w) s) ≡ length s - (length s - w) = length-drop (length s - w) s in
         f
-        ∙ ap₂ (λ (l t : List ℕ). putAt l (at + (length s - w)) t) (e ∙ ap (putAt o at) i) (j ∙ take-all w (drop (length s - w) s) (omega (arith, y .least)))
+        ∙ ap₂ (λ (l t : List ℕ). putAt l (at + (length s - w)) t) (e ∙ ap (putAt o at) i)
+        (j ∙ take-all w (drop (length s - w) s) (omega (arith, y .least)))
         ∙ put-meet o s at w (length s - w) (omega (arith, y .most)) (y .least) h
 
-    pub put-both : (p q : List ℕ) → p ≡ putAt o at (part 0 w s) → q ≡ putAt p (at + (length s - w)) (part (length s - w) w s) → q ≡ putAt o at s
+    pub put-both : (p q : List ℕ) → p ≡ putAt o at (part 0 w s) → q ≡ putAt p (at + (length s - w)) (part (length s - w) w s)
+        → q ≡ putAt o at s
     put-both p q e f = put-ends _ _ p q refl refl e f
 
 pub ruleset ends = (put-ends, put-both, ends-behind, ends-least, ends-front, ends-room, ends-last, needs)
@@ -229,7 +238,8 @@ chunked-again o at s p i c =
       size = refl;
     }
 
-pub chunked-over : (o : List ℕ) (at : ℕ) (s p : List ℕ) (i : ℕ) (q : List ℕ) → Chunked o at s p i → q ≡ putAt p at s → q ≡ putAt o at s
+pub chunked-over : (o : List ℕ) (at : ℕ) (s p : List ℕ) (i : ℕ) (q : List ℕ) → Chunked o at s p i → q ≡ putAt p at s
+    → q ≡ putAt o at s
 chunked-over o at s p i q c e =
     let wide : length (take i s) ≡ i = length-take-le i s (c .within) in
     e ∙ ap (λ (l : List ℕ). putAt l at s) (c .is) ∙ put-again o at (take i s) s (omega (arith, c .within)) (c .fits)
@@ -262,15 +272,19 @@ module _ (old : List ℕ) (at : ℕ) (s out : List ℕ) (i : ℕ) (c : Chunked o
               ∙ ap₂ (λ (l : List ℕ) (n : ℕ). putAt l n (take 64 (drop i s))) (c .is) place
               ∙ put-put old at (take i s) (take 64 (drop i s)) (omega (arith, c .fits))
               ∙ ap (putAt old at) (sym (take-add i 64 s));
-          size = ap length e ∙ length-put out (at + i) (take 64 (drop i s)) (omega (arith, c .fits, c .size, length-take-le 64 (drop i s) (simp length-drop (omega arith)))) ∙ c .size;
+          size =
+              ap length e ∙ length-put out (at + i) (take 64 (drop i s))
+              (omega (arith, c .fits, c .size, length-take-le 64 (drop i s) (simp length-drop (omega arith)))) ∙ c .size;
         }
 
-  pub chunked-all : (p : List ℕ) → length s - 64 ≤ i → p ≡ putAt out (at + (length s - 64)) (part (length s - 64) 64 s) → p ≡ putAt old at s
+  pub chunked-all : (p : List ℕ) → length s - 64 ≤ i → p ≡ putAt out (at + (length s - 64)) (part (length s - 64) 64 s)
+      → p ≡ putAt old at s
   unfolding part
   chunked-all p h e =
       let rest : length (drop (length s - 64) s) ≡ length s - (length s - 64) = length-drop (length s - 64) s in
       e
-      ∙ ap₂ (λ (l t : List ℕ). putAt l (at + (length s - 64)) t) (c .is) (take-all 64 (drop (length s - 64) s) (omega (arith, c .least)))
+      ∙ ap₂ (λ (l t : List ℕ). putAt l (at + (length s - 64)) t) (c .is)
+      (take-all 64 (drop (length s - 64) s) (omega (arith, c .least)))
       ∙ put-meet old s at i (length s - 64) h (c .within) (c .fits)
 
   pub chunked-kept : length out ≡ length old
@@ -282,7 +296,8 @@ chunk-index s i h = omega arith
 pub chunk-less : (n i : ℕ) → i < n → n - (i + 64) < n - i
 chunk-less n i h = omega arith
 
-pub ruleset chunks = (chunk-room, chunk-behind, chunk-last, chunked-more, chunked-all, chunked-kept, chunk-index, chunk-less, needs)
+pub ruleset chunks =
+    (chunk-room, chunk-behind, chunk-last, chunked-more, chunked-all, chunked-kept, chunk-index, chunk-less, needs)
 
 -- ---- a write that has room, or is not made
 

@@ -28,7 +28,8 @@ digits-append (x ∷ s) t h =
 pub length-digits : (w n : ℕ) → length (digits w n) ≡ w
 unfolding digits
 length-digits zero n = refl
-length-digits (suc w) n = length-append (digits w (n / 10)) _ ∙ add-one (length (digits w (n / 10))) ∙ ap suc (length-digits w (n / 10))
+length-digits (suc w) n =
+    length-append (digits w (n / 10)) _ ∙ add-one (length (digits w (n / 10))) ∙ ap suc (length-digits w (n / 10))
 
 -- the digits of a number that fits their width mean that number
 pub value-digits : (w n : ℕ) → n < 10 ^ w → value 0 (digits w n) ≡ n

@@ -57,11 +57,14 @@ take-put old at bs h = simp append-assoc (take-at (take at old) (bs ++ drop (at 
 pub part-put : (old : List ℕ) (at : ℕ) (bs : List ℕ) → at ≤ length old → part at (length bs) (putAt old at bs) ≡ bs
 unfolding part putAt
 part-put old at bs h =
-    ap (take (length bs)) (ap (drop at) (append-assoc (take at old) bs (drop (at + length bs) old)) ∙ drop-at (take at old) (bs ++ drop (at + length bs) old) at (length-take-le at old h))
+    ap (take (length bs))
+    (ap (drop at) (append-assoc (take at old) bs (drop (at + length bs) old))
+    ∙ drop-at (take at old) (bs ++ drop (at + length bs) old) at (length-take-le at old h))
     ∙ take-append-seam bs (drop (at + length bs) old)
 
 -- what stands behind stays
-pub drop-put : (old : List ℕ) (at : ℕ) (bs : List ℕ) → at ≤ length old → drop (at + length bs) (putAt old at bs) ≡ drop (at + length bs) old
+pub drop-put : (old : List ℕ) (at : ℕ) (bs : List ℕ) → at ≤ length old
+    → drop (at + length bs) (putAt old at bs) ≡ drop (at + length bs) old
 unfolding putAt
 drop-put old at bs h =
     drop-at (take at old ++ bs) (drop (at + length bs) old) (at + length bs)
@@ -87,7 +90,8 @@ put-put old at xs ys h =
     ∙ ap (λ (l : List ℕ). l ++ drop (at + length (xs ++ ys)) old) (append-assoc (take at old) xs ys)
 
 -- nothing is left of a put below a longer one
-pub put-again : (old : List ℕ) (at : ℕ) (xs ys : List ℕ) → length xs ≤ length ys → at + length ys ≤ length old → putAt (putAt old at xs) at ys ≡ putAt old at ys
+pub put-again : (old : List ℕ) (at : ℕ) (xs ys : List ℕ) → length xs ≤ length ys → at + length ys ≤ length old
+    → putAt (putAt old at xs) at ys ≡ putAt old at ys
 unfolding putAt
 put-again old at xs ys h k =
     let more : ℕ = length ys - length xs in

@@ -9,7 +9,8 @@ use lib.Seq.{take-suc-set, drop-set-lt, take-set-le, set-split, drop-at, take-at
 use Rattle.base.specs.Part.{putAt}
 
 -- from the front: the first byte, then the rest one place on
-pub put-first : (old : List ℕ) (at x : ℕ) (bs : List ℕ) → at < length old → putAt old at (x ∷ bs) ≡ putAt (set old at x) (at + 1) bs
+pub put-first : (old : List ℕ) (at x : ℕ) (bs : List ℕ) → at < length old
+    → putAt old at (x ∷ bs) ≡ putAt (set old at x) (at + 1) bs
 unfolding putAt
 put-first old at x bs h =
     let behind : at + length (x ∷ bs) ≡ at + 1 + length bs = omega arith in

@@ -1,4 +1,5 @@
--- Laws of sums, as a loop that takes number after number from a total wants them, and of lists cut by their lengths. Assumes nothing.
+-- Laws of sums, as a loop that takes number after number from a total wants them, and of lists cut by their lengths. Assumes
+-- nothing.
 use mathlib.Core.Path.{_≡_, refl, sym, ap, ap₂, _∙_}
 use mathlib.Core.Bool.{Bool, true, false}
 use mathlib.Core.List.{List, [], _∷_, _++_, append-assoc, map, flatten as endToEnd}
@@ -44,10 +45,13 @@ taken-more ns total i left c h l =
     let e = sum-at ns i h in
     record {
       within = omega arith;
-      rest = eqb-alike (sum (drop (i + 1) ns)) (left - getD ns i 0) (sum (drop i ns)) left (λ q. omega arith) (λ q. omega arith) ∙ c .rest;
+      rest =
+          eqb-alike (sum (drop (i + 1) ns)) (left - getD ns i 0) (sum (drop i ns)) left (λ q. omega arith) (λ q. omega arith)
+          ∙ c .rest;
     }
 
-pub taken-over : (ns : List ℕ) (total i left : ℕ) → Taken ns total i left → i < length ns → left < getD ns i 0 → false ≡ eqb (sum ns) total
+pub taken-over : (ns : List ℕ) (total i left : ℕ) → Taken ns total i left → i < length ns → left < getD ns i 0
+    → false ≡ eqb (sum ns) total
 taken-over ns total i left c h l =
     let e = sum-at ns i h in
     sym (ne-eqb (sum (drop i ns)) left (λ q. omega arith)) ∙ c .rest
@@ -76,7 +80,8 @@ cut-back [] s = refl
 cut-back (x ∷ xs) s =
     let e : (x ++ endToEnd xs) ++ s ≡ x ++ (endToEnd xs ++ s) = append-assoc x (endToEnd xs) s in
     ap (λ (l : List ℕ). take (length x) l ∷ cutBy (map length xs) (drop (length x) l)) e
-    ∙ ap (λ (l : List ℕ). l ∷ cutBy (map length xs) (drop (length x) (x ++ (endToEnd xs ++ s)))) (take-at x (endToEnd xs ++ s) (length x) refl)
+    ∙ ap (λ (l : List ℕ). l ∷ cutBy (map length xs) (drop (length x) (x ++ (endToEnd xs ++ s))))
+    (take-at x (endToEnd xs ++ s) (length x) refl)
     ∙ ap (λ (l : List ℕ). x ∷ cutBy (map length xs) l) (drop-at x (endToEnd xs ++ s) (length x) refl)
     ∙ ap (λ (r : List (List ℕ)). x ∷ r) (cut-back xs s)
 

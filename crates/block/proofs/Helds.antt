@@ -1,4 +1,5 @@
--- Laws of what a block holds: its four kinds of bytes add up to its length, and the loops over its units count it. Assumes nothing.
+-- Laws of what a block holds: its four kinds of bytes add up to its length, and the loops over its units count it. Assumes
+-- nothing.
 use mathlib.Core.Path.{_≡_, refl, sym, ap, _∙_, subst}
 use mathlib.Core.Bool.{Bool, true, false, false≢true}
 use mathlib.Core.List.{List, [], _∷_}
@@ -60,7 +61,9 @@ pub ruleset endings = (digit-begun, digit-still, digit-one, needs)
 
 ends-most : (i : ℕ) → endsWith i ≤ 1
 unfolding endsWith
-ends-most i = if-case (λ (n : ℕ). n ≤ 1) (eqb i 1) 0 _ (λ _. omega arith) (λ _. if-case (λ (n : ℕ). n ≤ 1) (eqb i 2) 0 1 (λ _. omega arith) (λ _. omega arith))
+ends-most i =
+    if-case (λ (n : ℕ). n ≤ 1) (eqb i 1) 0 _ (λ _. omega arith)
+    (λ _. if-case (λ (n : ℕ). n ≤ 1) (eqb i 2) 0 1 (λ _. omega arith) (λ _. omega arith))
 
 -- ---- the units of a block lie in it
 
@@ -73,7 +76,8 @@ record Sized (w l : ℕ) (xs : List Segment) : Type 0 where
 suc-times : (u w : ℕ) → (u + 1) * w ≡ u * w + w
 suc-times u w = add-mul u 1 w ∙ ap (λ (k : ℕ). u * w + k) (one-mul w)
 
-sized-onto : (w n l i : ℕ) (bs : List ℕ) (c : Option (List Segment)) → length bs ≡ n → 1 ≤ w + n → w + n ≤ l → If-cut (Sized w (l - (w + n))) c
+sized-onto : (w n l i : ℕ) (bs : List ℕ) (c : Option (List Segment)) → length bs ≡ n → 1 ≤ w + n → w + n ≤ l
+    → If-cut (Sized w (l - (w + n))) c
     → If-cut (Sized w l) (onto (segmentOf i bs) c)
 unfolding onto recordsEnding segmentBytes sum
 sized-onto w n l i bs none e a b h = refl
@@ -92,10 +96,12 @@ sized-one f r s (Of i w n) g e h =
     let c = unit-stands f r s i w n e in
     let p = unit-word f r s i w n e in
     let rest : length (drop (w + n) s) ≡ length s - (wordOf f + n) = omega (arith, length-drop (w + n) s, p) in
-    sized-onto (wordOf f) n (length s) i (part w n s) (g (drop (w + n) s)) (length-part w n s (c .within)) (omega (arith, c .some, p)) (omega (arith, c .within, p))
+    sized-onto (wordOf f) n (length s) i (part w n s) (g (drop (w + n) s)) (length-part w n s (c .within))
+    (omega (arith, c .some, p)) (omega (arith, c .within, p))
     (subst (λ (l : ℕ). If-cut (Sized (wordOf f) l) (g (drop (w + n) s))) rest (h (drop (w + n) s)))
 sized-one f r s None g e h =
-    if-case (If-cut (Sized (wordOf f) (length s))) (allAre 94 s) (some []) none (λ _. record { ending = omega arith; some = omega arith; within = omega arith }) (λ _. refl)
+    if-case (If-cut (Sized (wordOf f) (length s))) (allAre 94 s) (some []) none
+    (λ _. record { ending = omega arith; some = omega arith; within = omega arith }) (λ _. refl)
 
 sized-fuel : (k f r : ℕ) (s : List ℕ) → If-cut (Sized (wordOf f) (length s)) (cutF k f r s)
 unfolding cutF
@@ -108,9 +114,11 @@ cut-sized f r s = sized-fuel (suc (length s)) f r s
 
 -- behind the offset bytes
 sized-behind : (f r o : ℕ) (s : List ℕ) → If-cut (Sized (wordOf f) (length s - o)) (cut f r (drop o s))
-sized-behind f r o s = subst (λ (l : ℕ). If-cut (Sized (wordOf f) l) (cut f r (drop o s))) (length-drop o s) (cut-sized f r (drop o s))
+sized-behind f r o s =
+    subst (λ (l : ℕ). If-cut (Sized (wordOf f) l) (cut f r (drop o s))) (length-drop o s) (cut-sized f r (drop o s))
 
-adds-by : (w o l : ℕ) (c : Option (List Segment)) → If-cut (Sized w (l - o)) c → isCut (someUnits c) ≡ true → total (heldBy w o l (someUnits c)) ≡ l
+adds-by : (w o l : ℕ) (c : Option (List Segment)) → If-cut (Sized w (l - o)) c → isCut (someUnits c) ≡ true
+    → total (heldBy w o l (someUnits c)) ≡ l
 unfolding someUnits isCut heldBy
 adds-by w o l none h t = absurd (false≢true t)
 adds-by w o l (some []) h t = absurd (false≢true t)
@@ -130,7 +138,8 @@ fits-by : (w o l : ℕ) (c : Option (List Segment)) → If-cut (Sized w (l - o))
 unfolding someUnits heldBy
 fits-by w o l none h = record { records = omega arith; bytes = omega arith }
 fits-by w o l (some []) h = record { records = omega arith; bytes = omega arith }
-fits-by w o l (some (x ∷ xs)) h = record { records = omega (arith, h .ending, h .some, h .within); bytes = omega (arith, h .some, h .within) }
+fits-by w o l (some (x ∷ xs)) h =
+    record { records = omega (arith, h .ending, h .some, h .within); bytes = omega (arith, h .some, h .within) }
 
 -- What is counted of a block, be it one that can be cut or not, is no more than its bytes.
 pub held-fits : (f r o : ℕ) (s : List ℕ) → Fitting (heldIn f r o s) (length s)
@@ -143,13 +152,15 @@ pub up-none : (s : List ℕ) (o at w u n : ℕ) (h : Held) → h ≡ empty → u
 unfolding heldUpTo
 up-none s o at w u n h e z = e ∙ sym (if-true _ _ _ (eq-eqb u 0 z))
 
-pub up-other : (s : List ℕ) (o at w u n : ℕ) (h : Held) (p : Bool) → h ≡ empty → (u ≡ 0 → ⊥) → p ≡ allAre 94 (drop at s) → p ≡ false
+pub up-other : (s : List ℕ) (o at w u n : ℕ) (h : Held) (p : Bool) → h ≡ empty → (u ≡ 0 → ⊥) → p ≡ allAre 94 (drop at s)
+    → p ≡ false
     → h ≡ heldUpTo s o at w u n
 unfolding heldUpTo
 up-other s o at w u n h p e z q t = e ∙ sym (if-false _ _ _ (ne-eqb u 0 z) ∙ if-false _ _ _ (sym q ∙ t))
 
 pub up-some : (s : List ℕ) (o at w u n : ℕ) (p : Bool) → Reached s o at w u → (u ≡ 0 → ⊥) → p ≡ allAre 94 (drop at s) → p ≡ true
-    → _≡_ {A = Held} (record { records = n; bytes = at - o - u * w; words = u * w; padding = length s - at; offset = o }) (heldUpTo s o at w u n)
+    → _≡_ {A = Held} (record { records = n; bytes = at - o - u * w; words = u * w; padding = length s - at; offset = o })
+    (heldUpTo s o at w u n)
 unfolding heldUpTo
 up-some s o at w u n p c z q t =
     let rest : length s - at ≡ length s - (o + u * w + (at - o - u * w)) = omega (arith, c .words) in
@@ -205,7 +216,8 @@ tally-none f r s o w h e =
       some = omega arith;
       reached = record { words = omega arith; within = λ z. absurd (z refl) };
       left =
-          ap (λ (b : ℕ). heldAfter w o (length s) 0 0 b (ifB (eqb 0 0) (someUnits (cut f r (drop o s))) (cut f r (drop o s)))) none'
+          ap (λ (b : ℕ). heldAfter w o (length s) 0 0 b
+          (ifB (eqb 0 0) (someUnits (cut f r (drop o s))) (cut f r (drop o s)))) none'
           ∙ ap (heldAfter w o (length s) 0 0 0) (if-true _ _ _ refl) ∙ after-none w o (length s) (someUnits (cut f r (drop o s)))
           ∙ ap (λ (k : ℕ). heldBy k o (length s) (someUnits (cut f r (drop o s)))) e;
     }
@@ -221,7 +233,8 @@ after-more w o l u n b i bs (some xs) =
     let t : b + length bs + segmentBytes xs ≡ b + (length bs + segmentBytes xs) = omega arith in
     λ j. holding w o l (p j) (q j) (t j)
 
-tally-unit : (f r : ℕ) (s : List ℕ) (o at w u n i c m k e : ℕ) → Tallying f r s o at w u n → unitOf f r (drop at s) ≡ Of i c m → k ≡ c + m → e ≡ endsWith i
+tally-unit : (f r : ℕ) (s : List ℕ) (o at w u n i c m k e : ℕ) → Tallying f r s o at w u n → unitOf f r (drop at s) ≡ Of i c m
+    → k ≡ c + m → e ≡ endsWith i
     → Tallying f r s o (at + k) w (u + 1) (n + e)
 tally-unit f r s o at w u n i c m k e t h p q =
     let stands = unit-stands f r (drop at s) i c m h in
@@ -238,7 +251,12 @@ tally-unit f r s o at w u n i c m k e t h p q =
       word = t .word;
       ending = omega (arith, t .ending, ends-most i, q);
       some = omega (arith, t .some, stands .some, p);
-      reached = record { words = omega (arith, times, word, p, t .reached .words); within = λ _. omega (arith, stands .within, stands .some, l, p) };
+      reached =
+          record {
+            words = omega (arith, times, word, p, t .reached .words);
+            within = λ _. omega
+                (arith, stands .within, stands .some, l, p);
+          };
       left =
           ap (heldAfter w o (length s) (u + 1) (n + e) (at + k - o - (u + 1) * w)) (due-later-unit u (cut f r (drop (at + k) s)))
           ∙ (λ j. heldAfter w o (length s) (u + 1) (n + q j) (bytes j) (cut f r (drop (at + k) s)))
@@ -252,7 +270,8 @@ tally-unit f r s o at w u n i c m k e t h p q =
     due-later-unit v y = unfold dueAt in if-false _ _ _ (ne-eqb (v + 1) 0 (λ z. omega arith))
 
 -- no unit more
-tally-over : (f r : ℕ) (s : List ℕ) (o at w u n : ℕ) (h : Held) → Tallying f r s o at w u n → unitOf f r (drop at s) ≡ None → h ≡ heldUpTo s o at w u n
+tally-over : (f r : ℕ) (s : List ℕ) (o at w u n : ℕ) (h : Held) → Tallying f r s o at w u n → unitOf f r (drop at s) ≡ None
+    → h ≡ heldUpTo s o at w u n
     → h ≡ heldIn f r o s
 unfolding heldUpTo dueAt
 tally-over f r s o at w u n h t e q =
@@ -260,13 +279,16 @@ tally-over f r s o at w u n h t e q =
     ∙ by-tests (eqb u 0) (allAre 94 (drop at s))
     ∙ ap (heldAfter w o (length s) u n (at - o - u * w))
     (sym (ap (λ (y : Option (List Segment)). ifB (eqb u 0) (someUnits y) y) (cut-end f r (drop at s) e)
-    ∙ ap (λ (y : Option (List Segment)). ifB (eqb u 0) y (ifB (allAre 94 (drop at s)) (some []) none)) (some-padding (allAre 94 (drop at s)))))
+    ∙ ap (λ (y : Option (List Segment)). ifB (eqb u 0) y (ifB (allAre 94 (drop at s)) (some []) none))
+    (some-padding (allAre 94 (drop at s)))))
     ∙ t .left
   where
     b : ℕ
     b = at - o - u * w
 
-    by-tests : (x y : Bool) → ifB x empty (ifB y (holding w o (length s) u n b) empty) ≡ heldAfter w o (length s) u n b (ifB x none (ifB y (some []) none))
+    by-tests : (x y : Bool)
+        → ifB x empty (ifB y (holding w o (length s) u n b) empty)
+        ≡ heldAfter w o (length s) u n b (ifB x none (ifB y (some []) none))
     by-tests true y = unfold ifB heldAfter in refl
     by-tests false true = unfold ifB heldAfter recordsEnding segmentBytes sum in
         let i : u ≡ u + 0 = omega arith in
@@ -293,12 +315,15 @@ unfolding lengthOf
 none-stood f r s k (Of i c m) e h z = let some = unit-stands f r s i c m e .some in absurd (omega (arith, some))
 none-stood f r s k None e h z = e
 
-pub tally-end : (f r : ℕ) (s : List ℕ) (o at w u n k : ℕ) (h : Held) → Tallying f r s o at w u n → k ≡ lengthOf (unitOf f r (drop at s)) → k ≡ 0
+pub tally-end : (f r : ℕ) (s : List ℕ) (o at w u n k : ℕ) (h : Held) → Tallying f r s o at w u n
+    → k ≡ lengthOf (unitOf f r (drop at s)) → k ≡ 0
     → h ≡ heldUpTo s o at w u n → h ≡ heldIn f r o s
-tally-end f r s o at w u n k h t e z q = tally-over f r s o at w u n h t (none-stood f r (drop at s) k (unitOf f r (drop at s)) refl e z) q
+tally-end f r s o at w u n k h t e z q =
+    tally-over f r s o at w u n h t (none-stood f r (drop at s) k (unitOf f r (drop at s)) refl e z) q
 
 -- in a format other than S a record ends with each unit
-tally-whole : (f r : ℕ) (s : List ℕ) (o at w u k : ℕ) → (f ≡ 83 → ⊥) → Tallying f r s o at w u u → k ≡ lengthOf (unitOf f r (drop at s)) → (k ≡ 0 → ⊥)
+tally-whole : (f r : ℕ) (s : List ℕ) (o at w u k : ℕ) → (f ≡ 83 → ⊥) → Tallying f r s o at w u u
+    → k ≡ lengthOf (unitOf f r (drop at s)) → (k ≡ 0 → ⊥)
     → Tallying f r s o (at + k) w (u + 1) (u + 1)
 tally-whole f r s o at w u k g t e z =
     let x = stood f r (drop at s) k (unitOf f r (drop at s)) refl e z in
@@ -307,20 +332,24 @@ tally-whole f r s o at w u k g t e z =
     let one : 1 ≡ endsWith (x .i) = sym (ends-one (x .i) (λ y. omega (arith, zeroth)) (λ y. omega (arith, zeroth))) in
     tally-unit f r s o at w u u (x .i) (x .c) (x .m) k 1 t here (x .long) one
 
-pub tally-fixed : (r : ℕ) (s : List ℕ) (o at w u k : ℕ) → Tallying 70 r s o at w u u → k ≡ lengthOf (fixed r (drop at s)) → (k ≡ 0 → ⊥)
+pub tally-fixed : (r : ℕ) (s : List ℕ) (o at w u k : ℕ) → Tallying 70 r s o at w u u → k ≡ lengthOf (fixed r (drop at s))
+    → (k ≡ 0 → ⊥)
     → Tallying 70 r s o (at + k) w (u + 1) (u + 1)
 tally-fixed r s o at w u k t e z = tally-whole 70 r s o at w u k (λ g. omega arith) t (as-fixed r (drop at s) k e) z
 
-pub tally-variable : (r : ℕ) (s : List ℕ) (o at w u k : ℕ) → Tallying 68 r s o at w u u → k ≡ lengthOf (variable r (drop at s)) → (k ≡ 0 → ⊥)
+pub tally-variable : (r : ℕ) (s : List ℕ) (o at w u k : ℕ) → Tallying 68 r s o at w u u → k ≡ lengthOf (variable r (drop at s))
+    → (k ≡ 0 → ⊥)
     → Tallying 68 r s o (at + k) w (u + 1) (u + 1)
 tally-variable r s o at w u k t e z = tally-whole 68 r s o at w u k (λ g. omega arith) t (as-variable r (drop at s) k e) z
 
 -- in S where its indicator says so
-pub tally-segment : (r : ℕ) (s : List ℕ) (o at w u n k e : ℕ) → Tallying 83 r s o at w u n → k ≡ lengthOf (segment (drop at s)) → (k ≡ 0 → ⊥)
+pub tally-segment : (r : ℕ) (s : List ℕ) (o at w u n k e : ℕ) → Tallying 83 r s o at w u n → k ≡ lengthOf (segment (drop at s))
+    → (k ≡ 0 → ⊥)
     → e ≡ endsWith (getD s at 0 - 48) → Tallying 83 r s o (at + k) w (u + 1) (n + e)
 tally-segment r s o at w u n k e t h z q =
     let sum : k ≡ 5 + (k - 5) = omega (arith, segment-least s at k h z) in
-    tally-unit 83 r s o at w u n (getD s at 0 - 48) 5 (k - 5) k e t (unit-segment 83 r (drop at s) refl ∙ sym (segment-of s at k h z)) sum q
+    tally-unit 83 r s o at w u n (getD s at 0 - 48) 5 (k - 5) k e t
+    (unit-segment 83 r (drop at s) refl ∙ sym (segment-of s at k h z)) sum q
 
 -- the loops begin, with the control word of their format
 pub none-fixed : (r : ℕ) (s : List ℕ) (o : ℕ) → length s < 18446744073709551616 → Tallying 70 r s o o 0 0 0
@@ -333,16 +362,19 @@ pub none-segment : (r : ℕ) (s : List ℕ) (o : ℕ) → length s < 18446744073
 none-segment r s o h = tally-none 83 r s o 5 h (sym (word-segmented 83 refl))
 
 -- the counts fit: a unit has a byte
-pub units-fit : (f r : ℕ) (s : List ℕ) (o at w u n k : ℕ) → Tallying f r s o at w u n → k ≡ lengthOf (unitOf f r (drop at s)) → (k ≡ 0 → ⊥) → Fits w64 (u + 1)
+pub units-fit : (f r : ℕ) (s : List ℕ) (o at w u n k : ℕ) → Tallying f r s o at w u n → k ≡ lengthOf (unitOf f r (drop at s))
+    → (k ≡ 0 → ⊥) → Fits w64 (u + 1)
 units-fit f r s o at w u n k t e z =
     let x = stood f r (drop at s) k (unitOf f r (drop at s)) refl e z in
     let here = unit-stands f r (drop at s) (x .i) (x .c) (x .m) (x .is) in
     omega (arith, t .some, t .room, here .some, here .within, length-drop at s)
 
-pub units-segment : (r : ℕ) (s : List ℕ) (o at w u n k : ℕ) → Tallying 83 r s o at w u n → k ≡ lengthOf (segment (drop at s)) → (k ≡ 0 → ⊥) → Fits w64 (u + 1)
+pub units-segment : (r : ℕ) (s : List ℕ) (o at w u n k : ℕ) → Tallying 83 r s o at w u n → k ≡ lengthOf (segment (drop at s))
+    → (k ≡ 0 → ⊥) → Fits w64 (u + 1)
 units-segment r s o at w u n k t e z = units-fit 83 r s o at w u n k t (as-segment r (drop at s) k e) z
 
-pub ends-fit : (r : ℕ) (s : List ℕ) (o at w u n k e : ℕ) → Tallying 83 r s o at w u n → k ≡ lengthOf (segment (drop at s)) → (k ≡ 0 → ⊥)
+pub ends-fit : (r : ℕ) (s : List ℕ) (o at w u n k e : ℕ) → Tallying 83 r s o at w u n → k ≡ lengthOf (segment (drop at s))
+    → (k ≡ 0 → ⊥)
     → e ≡ endsWith (getD s at 0 - 48) → Fits w64 (n + e)
 ends-fit r s o at w u n k e t h z q = omega (arith, units-segment r s o at w u n k t h z, t .ending, ends-most (getD s at 0 - 48))
 
@@ -377,7 +409,8 @@ pub held-other : (f r o : ℕ) (s : List ℕ) (h : Held) → (f ≡ 70 → ⊥) 
 unfolding heldIn heldBy
 held-other f r o s h a b c e =
     e
-    ∙ sym (ap (λ (y : Option (List Segment)). heldBy (wordOf f) o (length s) (someUnits y)) (cut-end f r (drop o s) (sym (other-unit f r (drop o s) a b c)))
+    ∙ sym (ap (λ (y : Option (List Segment)). heldBy (wordOf f) o (length s) (someUnits y))
+    (cut-end f r (drop o s) (sym (other-unit f r (drop o s) a b c)))
     ∙ ap (heldBy (wordOf f) o (length s)) (some-padding (allAre 94 (drop o s))))
 
 pub ruleset held-by-format = (held-format, held-other, needs)

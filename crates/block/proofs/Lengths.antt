@@ -31,7 +31,8 @@ unit-variable f r s e = if-false _ _ _ (ne-eqb f 70 (λ h. omega arith)) ∙ if-
 pub unit-segment : (f r : ℕ) (s : List ℕ) → f ≡ 83 → unitOf f r s ≡ segment s
 unfolding unitOf
 unit-segment f r s e =
-    if-false _ _ _ (ne-eqb f 70 (λ h. omega arith)) ∙ if-false _ _ _ (ne-eqb f 68 (λ h. omega arith)) ∙ if-true _ _ _ (eq-eqb f 83 e)
+    if-false _ _ _ (ne-eqb f 70 (λ h. omega arith)) ∙ if-false _ _ _ (ne-eqb f 68 (λ h. omega arith))
+    ∙ if-true _ _ _ (eq-eqb f 83 e)
 
 -- ---- from a length to a unit
 
@@ -89,7 +90,8 @@ pub variable-led : (r : ℕ) (s : List ℕ) → If-any (Led 0 4) (variable r s)
 unfolding variable
 variable-led r s = measured-any (Led 0 4) 0 4 r (length s) (numberIn (part 0 4 s)) (λ k a b c. led 0 4)
 
-pub variable-of : (f r : ℕ) (s : List ℕ) (k : ℕ) → f ≡ 68 → k ≡ lengthOf (variable r s) → (k ≡ 0 → ⊥) → Of 0 4 (k - 4) ≡ unitOf f r s
+pub variable-of : (f r : ℕ) (s : List ℕ) (k : ℕ) → f ≡ 68 → k ≡ lengthOf (variable r s) → (k ≡ 0 → ⊥)
+    → Of 0 4 (k - 4) ≡ unitOf f r s
 variable-of f r s k g e z = led-of 0 4 (variable r s) k (variable-led r s) e z ∙ sym (unit-variable f r s g)
 
 pub variable-least : (r : ℕ) (s : List ℕ) (k : ℕ) → k ≡ lengthOf (variable r s) → (k ≡ 0 → ⊥) → 4 ≤ k
@@ -113,7 +115,13 @@ segment-indicated s =
     if-case (If-any (Indicated s)) (leb 48 (getD s 0 0)) _ None
     (λ a. if-case (If-any (Indicated s)) (leb (getD s 0 0) 51) _ None
     (λ b. measured-any (Indicated s) (getD s 0 0 - 48) 5 9999 (length s) (numberIn (part 1 4 s))
-    (λ k p q t. record { led-by = led (getD s 0 0 - 48) 5; low = leb-true 48 (getD s 0 0) a; high = leb-true (getD s 0 0) 51 b; within = omega arith }))
+    (λ k p q t. record {
+      led-by = led (getD s 0 0 - 48) 5;
+      low = leb-true 48 (getD s 0 0) a;
+      high = leb-true
+          (getD s 0 0) 51 b;
+      within = omega arith;
+    }))
     (λ b. refl))
     (λ a. refl)
 
@@ -142,7 +150,8 @@ begun s None k g c e z = absurd (z e)
 here : (s : List ℕ) (at k : ℕ) → k ≡ lengthOf (segment (drop at s)) → (k ≡ 0 → ⊥) → Begun (drop at s) k
 here s at k e z = begun (drop at s) (segment (drop at s)) k refl (segment-indicated (drop at s)) e z
 
-pub segment-of : (s : List ℕ) (at k : ℕ) → k ≡ lengthOf (segment (drop at s)) → (k ≡ 0 → ⊥) → Of (getD s at 0 - 48) 5 (k - 5) ≡ segment (drop at s)
+pub segment-of : (s : List ℕ) (at k : ℕ) → k ≡ lengthOf (segment (drop at s)) → (k ≡ 0 → ⊥)
+    → Of (getD s at 0 - 48) 5 (k - 5) ≡ segment (drop at s)
 segment-of s at k e z = ap (λ (b : ℕ). Of (b - 48) 5 (k - 5)) (sym (head-at s at)) ∙ here s at k e z .is
 
 pub segment-least : (s : List ℕ) (at k : ℕ) → k ≡ lengthOf (segment (drop at s)) → (k ≡ 0 → ⊥) → 5 ≤ k

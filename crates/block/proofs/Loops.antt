@@ -33,7 +33,8 @@ record Next (f r : ℕ) (s : List ℕ) (k : ℕ) : Type 0 where
 
 next : (f r : ℕ) (s : List ℕ) (u : Unit) → unitOf f r s ≡ u → (lengthOf u ≡ 0 → ⊥) → Next f r s (lengthOf u)
 unfolding lengthOf
-next f r s (Of i w n) e z = record { first = segmentOf i (part w n s); within = unit-stands f r s i w n e .within; cuts = cut-unit f r s i w n e }
+next f r s (Of i w n) e z =
+    record { first = segmentOf i (part w n s); within = unit-stands f r s i w n e .within; cuts = cut-unit f r s i w n e }
 next f r s None e z = absurd (z refl)
 
 no-next : (f r : ℕ) (s : List ℕ) (u : Unit) → unitOf f r s ≡ u → lengthOf u ≡ 0 → cut f r s ≡ ifB (allAre 94 s) (some []) none
@@ -46,10 +47,12 @@ after : (f r : ℕ) (s : List ℕ) (at k : ℕ) → k ≡ lengthOf (unitOf f r (
 after f r s at k e z =
     subst (Next f r (drop at s)) (sym e) (next f r (drop at s) (unitOf f r (drop at s)) refl (λ h. z (e ∙ h)))
 
-pub length-fits : (f r : ℕ) (s : List ℕ) (at k : ℕ) → length s < 18446744073709551616 → k ≡ lengthOf (unitOf f r (drop at s)) → (k ≡ 0 → ⊥) → Fits w64 (at + k)
+pub length-fits : (f r : ℕ) (s : List ℕ) (at k : ℕ) → length s < 18446744073709551616 → k ≡ lengthOf (unitOf f r (drop at s))
+    → (k ≡ 0 → ⊥) → Fits w64 (at + k)
 length-fits f r s at k h e z = let m = after f r s at k e z .within in let l = length-drop at s in omega arith
 
-pub length-less : (f r : ℕ) (s : List ℕ) (at k : ℕ) → k ≡ lengthOf (unitOf f r (drop at s)) → (k ≡ 0 → ⊥) → length s - (at + k) < length s - at
+pub length-less : (f r : ℕ) (s : List ℕ) (at k : ℕ) → k ≡ lengthOf (unitOf f r (drop at s)) → (k ≡ 0 → ⊥)
+    → length s - (at + k) < length s - at
 length-less f r s at k e z = let m = after f r s at k e z .within in let l = length-drop at s in omega arith
 
 pub as-fixed : (r : ℕ) (s : List ℕ) (k : ℕ) → k ≡ lengthOf (fixed r s) → k ≡ lengthOf (unitOf 70 r s)
@@ -62,10 +65,12 @@ pub as-segment : (r : ℕ) (s : List ℕ) (k : ℕ) → k ≡ lengthOf (segment 
 as-segment r s k e = e ∙ ap lengthOf (sym (unit-segment 83 r s refl))
 
 -- the length of a segment does not go by R
-pub segment-fits : (s : List ℕ) (at k : ℕ) → length s < 18446744073709551616 → k ≡ lengthOf (segment (drop at s)) → (k ≡ 0 → ⊥) → Fits w64 (at + k)
+pub segment-fits : (s : List ℕ) (at k : ℕ) → length s < 18446744073709551616 → k ≡ lengthOf (segment (drop at s)) → (k ≡ 0 → ⊥)
+    → Fits w64 (at + k)
 segment-fits s at k h e z = length-fits 83 0 s at k h (as-segment 0 (drop at s) k e) z
 
-pub segment-less : (s : List ℕ) (at k : ℕ) → k ≡ lengthOf (segment (drop at s)) → (k ≡ 0 → ⊥) → length s - (at + k) < length s - at
+pub segment-less : (s : List ℕ) (at k : ℕ) → k ≡ lengthOf (segment (drop at s)) → (k ≡ 0 → ⊥)
+    → length s - (at + k) < length s - at
 segment-less s at k e z = length-less 83 0 s at k (as-segment 0 (drop at s) k e) z
 
 -- ---- whether one or more units stand there, then padding
@@ -98,24 +103,30 @@ pub record Cutting (f r : ℕ) (s : List ℕ) (from at : ℕ) : Type 0 where
   pub past : from ≤ at
   pub left : isCut (dueAt (eqb at from) (cut f r (drop at s))) ≡ isCut (someUnits (cut f r (drop from s)))
 
-pub cutting-first : (f r : ℕ) (s : List ℕ) (from : ℕ) → isCut (dueAt (eqb from from) (cut f r (drop from s))) ≡ isCut (someUnits (cut f r (drop from s)))
+pub cutting-first : (f r : ℕ) (s : List ℕ) (from : ℕ)
+    → isCut (dueAt (eqb from from) (cut f r (drop from s))) ≡ isCut (someUnits (cut f r (drop from s)))
 cutting-first f r s from = ap isCut (due-first from from (cut f r (drop from s)) refl)
 
-pub cutting-more : (f r : ℕ) (s : List ℕ) (from at k : ℕ) → Cutting f r s from at → k ≡ lengthOf (unitOf f r (drop at s)) → (k ≡ 0 → ⊥) → Cutting f r s from (at + k)
+pub cutting-more : (f r : ℕ) (s : List ℕ) (from at k : ℕ) → Cutting f r s from at → k ≡ lengthOf (unitOf f r (drop at s))
+    → (k ≡ 0 → ⊥) → Cutting f r s from (at + k)
 cutting-more f r s from at k c e z =
     let n = after f r s at k e z in
     let p = c .past in
     record {
       room = c .room;
       past = omega arith;
-      left = ap isCut (due-later (at + k) from (cut f r (drop (at + k) s)) (λ h. omega arith) ∙ ap (cut f r) (sym (drop-drop k at s)))
-          ∙ sym (ap (λ (x : Option (List Segment)). isCut (dueAt (eqb at from) x)) (n .cuts) ∙ ap isCut (due-onto (eqb at from) (n .first) (cut f r (drop k (drop at s))))
+      left =
+          ap isCut (due-later (at + k) from (cut f r (drop (at + k) s)) (λ h. omega arith)
+          ∙ ap (cut f r) (sym (drop-drop k at s)))
+          ∙ sym (ap (λ (x : Option (List Segment)). isCut (dueAt (eqb at from) x)) (n .cuts)
+          ∙ ap isCut (due-onto (eqb at from) (n .first) (cut f r (drop k (drop at s))))
           ∙ cut-onto (n .first) (cut f r (drop k (drop at s))))
           ∙ c .left;
     }
 
 -- no unit stands there
-over : (f r : ℕ) (s : List ℕ) (at k : ℕ) → k ≡ lengthOf (unitOf f r (drop at s)) → k ≡ 0 → cut f r (drop at s) ≡ ifB (allAre 94 (drop at s)) (some []) none
+over : (f r : ℕ) (s : List ℕ) (at k : ℕ) → k ≡ lengthOf (unitOf f r (drop at s)) → k ≡ 0
+    → cut f r (drop at s) ≡ ifB (allAre 94 (drop at s)) (some []) none
 over f r s at k e z = no-next f r (drop at s) (unitOf f r (drop at s)) refl (sym e ∙ z)
 
 pub some-padding : (p : Bool) → someUnits (ifB p (some []) none) ≡ none
@@ -131,17 +142,22 @@ none-cut : isCut none ≡ false
 unfolding isCut
 none-cut = refl
 
-pub cutting-none : (f r : ℕ) (s : List ℕ) (from at k : ℕ) → Cutting f r s from at → k ≡ lengthOf (unitOf f r (drop at s)) → k ≡ 0 → at ≡ from
+pub cutting-none : (f r : ℕ) (s : List ℕ) (from at k : ℕ) → Cutting f r s from at → k ≡ lengthOf (unitOf f r (drop at s)) → k ≡ 0
+    → at ≡ from
     → false ≡ isCut (someUnits (cut f r (drop from s)))
 cutting-none f r s from at k c e z h =
-    sym (ap isCut (due-first at from (cut f r (drop at s)) h ∙ ap someUnits (over f r s at k e z) ∙ some-padding (allAre 94 (drop at s))) ∙ none-cut) ∙ c .left
+    sym (ap isCut (due-first at from (cut f r (drop at s)) h ∙ ap someUnits (over f r s at k e z)
+    ∙ some-padding (allAre 94 (drop at s))) ∙ none-cut) ∙ c .left
 
-pub cutting-end : (f r : ℕ) (s : List ℕ) (from at k : ℕ) (p : Bool) → Cutting f r s from at → k ≡ lengthOf (unitOf f r (drop at s)) → k ≡ 0 → (at ≡ from → ⊥)
+pub cutting-end : (f r : ℕ) (s : List ℕ) (from at k : ℕ) (p : Bool) → Cutting f r s from at
+    → k ≡ lengthOf (unitOf f r (drop at s)) → k ≡ 0 → (at ≡ from → ⊥)
     → p ≡ allAre 94 (drop at s) → p ≡ isCut (someUnits (cut f r (drop from s)))
 cutting-end f r s from at k p c e z h a =
-    a ∙ sym (ap isCut (due-later at from (cut f r (drop at s)) h ∙ over f r s at k e z) ∙ cut-padding (allAre 94 (drop at s))) ∙ c .left
+    a ∙ sym (ap isCut (due-later at from (cut f r (drop at s)) h ∙ over f r s at k e z) ∙ cut-padding (allAre 94 (drop at s)))
+    ∙ c .left
 
-pub ruleset cuttings = (cutting-first, cutting-more, cutting-none, cutting-end, length-fits, length-less, segment-fits, segment-less, as-fixed, as-segment, needs)
+pub ruleset cuttings =
+    (cutting-first, cutting-more, cutting-none, cutting-end, length-fits, length-less, segment-fits, segment-less, as-fixed, as-segment, needs)
 
 -- ---- whether units stand there, none or more, then padding
 
@@ -151,23 +167,30 @@ pub record Resting (f r : ℕ) (s : List ℕ) (from at : ℕ) : Type 0 where
   pub left : isCut (cut f r (drop at s)) ≡ isCut (cut f r (drop from s))
 
 -- one unit further
-cut-past : (f r : ℕ) (s : List ℕ) (at k : ℕ) → k ≡ lengthOf (unitOf f r (drop at s)) → (k ≡ 0 → ⊥) → isCut (cut f r (drop (at + k) s)) ≡ isCut (cut f r (drop at s))
+cut-past : (f r : ℕ) (s : List ℕ) (at k : ℕ) → k ≡ lengthOf (unitOf f r (drop at s)) → (k ≡ 0 → ⊥)
+    → isCut (cut f r (drop (at + k) s)) ≡ isCut (cut f r (drop at s))
 cut-past f r s at k e z =
     let n = after f r s at k e z in
-    ap (λ (l : List ℕ). isCut (cut f r l)) (sym (drop-drop k at s)) ∙ sym (ap isCut (n .cuts) ∙ cut-onto (n .first) (cut f r (drop k (drop at s))))
+    ap (λ (l : List ℕ). isCut (cut f r l)) (sym (drop-drop k at s))
+    ∙ sym (ap isCut (n .cuts) ∙ cut-onto (n .first) (cut f r (drop k (drop at s))))
 
-pub resting-more : (f r : ℕ) (s : List ℕ) (from at k : ℕ) → Resting f r s from at → k ≡ lengthOf (unitOf f r (drop at s)) → (k ≡ 0 → ⊥) → Resting f r s from (at + k)
+pub resting-more : (f r : ℕ) (s : List ℕ) (from at k : ℕ) → Resting f r s from at → k ≡ lengthOf (unitOf f r (drop at s))
+    → (k ≡ 0 → ⊥) → Resting f r s from (at + k)
 resting-more f r s from at k c e z = record { room = c .room; left = cut-past f r s at k e z ∙ c .left }
 
-pub resting-end : (f r : ℕ) (s : List ℕ) (from at k : ℕ) (p : Bool) → Resting f r s from at → k ≡ lengthOf (unitOf f r (drop at s)) → k ≡ 0 → p ≡ allAre 94 (drop at s)
+pub resting-end : (f r : ℕ) (s : List ℕ) (from at k : ℕ) (p : Bool) → Resting f r s from at
+    → k ≡ lengthOf (unitOf f r (drop at s)) → k ≡ 0 → p ≡ allAre 94 (drop at s)
     → p ≡ isCut (cut f r (drop from s))
 resting-end f r s from at k p c e z a = a ∙ sym (ap isCut (over f r s at k e z) ∙ cut-padding (allAre 94 (drop at s))) ∙ c .left
 
 -- one or more: a first unit, and what follows it
-pub some-none : (f r : ℕ) (s : List ℕ) (from k : ℕ) → k ≡ lengthOf (unitOf f r (drop from s)) → k ≡ 0 → false ≡ isCut (someUnits (cut f r (drop from s)))
-some-none f r s from k e z = sym (ap isCut (ap someUnits (over f r s from k e z) ∙ some-padding (allAre 94 (drop from s))) ∙ none-cut)
+pub some-none : (f r : ℕ) (s : List ℕ) (from k : ℕ) → k ≡ lengthOf (unitOf f r (drop from s)) → k ≡ 0
+    → false ≡ isCut (someUnits (cut f r (drop from s)))
+some-none f r s from k e z =
+    sym (ap isCut (ap someUnits (over f r s from k e z) ∙ some-padding (allAre 94 (drop from s))) ∙ none-cut)
 
-pub some-more : (f r : ℕ) (s : List ℕ) (from k : ℕ) (p : Bool) → k ≡ lengthOf (unitOf f r (drop from s)) → (k ≡ 0 → ⊥) → p ≡ isCut (cut f r (drop (from + k) s))
+pub some-more : (f r : ℕ) (s : List ℕ) (from k : ℕ) (p : Bool) → k ≡ lengthOf (unitOf f r (drop from s)) → (k ≡ 0 → ⊥)
+    → p ≡ isCut (cut f r (drop (from + k) s))
     → p ≡ isCut (someUnits (cut f r (drop from s)))
 some-more f r s from k p e z q =
     let n = after f r s from k e z in
@@ -192,4 +215,5 @@ pub some-last : (f r : ℕ) (s : List ℕ) (from k : ℕ) → k ≡ lengthOf (un
     → true ≡ isCut (someUnits (cut f r (drop from s)))
 unfolding isCut
 some-last f r s from k e z h =
-    some-more f r s from k true e z (sym (ap (λ (l : List ℕ). isCut (cut f r l)) (drop-of-length-le s h) ∙ ap isCut (cut-nothing f r)))
+    some-more f r s from k true e z
+    (sym (ap (λ (l : List ℕ). isCut (cut f r l)) (drop-of-length-le s h) ∙ ap isCut (cut-nothing f r)))

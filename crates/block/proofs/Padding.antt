@@ -41,7 +41,8 @@ all-split b n s i =
     ∙ ap (λ (t : List ℕ). allAre b (take n (drop i s)) && allAre b t) (drop-drop n i s)
 
 -- the byte at a place is another one
-pub all-other-head : (b n : ℕ) (s : List ℕ) (i : ℕ) → 0 < n → i < length s → (getD s i 0 ≡ b → ⊥) → allAre b (take n (drop i s)) ≡ false
+pub all-other-head : (b n : ℕ) (s : List ℕ) (i : ℕ) → 0 < n → i < length s → (getD s i 0 ≡ b → ⊥)
+    → allAre b (take n (drop i s)) ≡ false
 all-other-head b zero s i h l e = absurd (omega arith)
 all-other-head b (suc n) s i h l e =
     ap (λ (t : List ℕ). allAre b (take (suc n) t)) (drop-cons s i 0 l)
@@ -56,7 +57,8 @@ pub record Looked (b : ℕ) (s : List ℕ) (all : Bool) (i : ℕ) : Type 0 where
 pub looked-none : (b : ℕ) (s : List ℕ) → Looked b s true 0
 looked-none b s = record { within = omega arith; left = refl }
 
-pub looked-more : (b : ℕ) (s : List ℕ) (all : Bool) (i : ℕ) → Looked b s all i → i < length s → Looked b s (all && eqb (getD s i 0) b) (i + 1)
+pub looked-more : (b : ℕ) (s : List ℕ) (all : Bool) (i : ℕ) → Looked b s all i → i < length s
+    → Looked b s (all && eqb (getD s i 0) b) (i + 1)
 looked-more b s all i c h =
     let step : allAre b (drop i s) ≡ eqb (getD s i 0) b && allAre b (drop (i + 1) s)
     = ap (allAre b) (drop-cons s i 0 h) ∙ all-cons b (getD s i 0) (drop (suc i) s) ∙ ap (λ (k : ℕ). eqb (getD s i 0) b && allAre b (drop k s)) (sym (add-one i)) in
@@ -66,20 +68,27 @@ pub looked-all : (b : ℕ) (s : List ℕ) (all : Bool) (i : ℕ) → Looked b s 
 looked-all b s all i c h = sym (and-true all) ∙ ap (λ (u : Bool). all && u) (sym (all-end b s i h)) ∙ c .left
 
 -- a chunk of n bytes was looked at by a call that answered p
-pub chunk-more : (b n : ℕ) (s : List ℕ) (i : ℕ) (p : Bool) → Looked b s true i → n ≤ length s - i → p ≡ allAre b (take (i + n - i) (drop i s)) → not p ≡ false
+pub chunk-more : (b n : ℕ) (s : List ℕ) (i : ℕ) (p : Bool) → Looked b s true i → n ≤ length s - i
+    → p ≡ allAre b (take (i + n - i) (drop i s)) → not p ≡ false
     → Looked b s true (i + n)
 chunk-more b n s i p c h e t =
     let k : i + n - i ≡ n = omega arith in
     let q : allAre b (take n (drop i s)) ≡ true = ap (λ (j : ℕ). allAre b (take j (drop i s))) (sym k) ∙ sym e ∙ not-false p t in
-    record { within = omega arith; left = ap (λ (u : Bool). u && allAre b (drop (i + n) s)) (sym q) ∙ sym (all-split b n s i) ∙ c .left }
+    record {
+      within = omega arith;
+      left = ap (λ (u : Bool). u && allAre b (drop (i + n) s)) (sym q) ∙ sym (all-split b n s i)
+          ∙ c .left;
+    }
 
-pub chunk-other : (b n : ℕ) (s : List ℕ) (i : ℕ) (p : Bool) → Looked b s true i → p ≡ allAre b (take (i + n - i) (drop i s)) → not p ≡ true → false ≡ allAre b s
+pub chunk-other : (b n : ℕ) (s : List ℕ) (i : ℕ) (p : Bool) → Looked b s true i → p ≡ allAre b (take (i + n - i) (drop i s))
+    → not p ≡ true → false ≡ allAre b s
 chunk-other b n s i p c e f =
     let k : i + n - i ≡ n = omega arith in
     let q : allAre b (take n (drop i s)) ≡ false = ap (λ (j : ℕ). allAre b (take j (drop i s))) (sym k) ∙ sym e ∙ not-true p f in
     ap (λ (u : Bool). u && allAre b (drop (i + n) s)) (sym q) ∙ sym (all-split b n s i) ∙ c .left
 
-pub chunk-last : (b : ℕ) (s : List ℕ) (i : ℕ) (p : Bool) → Looked b s true i → p ≡ allAre b (take (length s - i) (drop i s)) → p ≡ allAre b s
+pub chunk-last : (b : ℕ) (s : List ℕ) (i : ℕ) (p : Bool) → Looked b s true i → p ≡ allAre b (take (length s - i) (drop i s))
+    → p ≡ allAre b s
 unfolding part
 chunk-last b s i p c e = e ∙ ap (allAre b) (part-to-end i s) ∙ c .left
 
@@ -97,7 +106,8 @@ pub ruleset looking = (looked-none, looked-more, looked-all, chunk-more, chunk-o
 pub padding-none : (b : ℕ) (s : List ℕ) (at : ℕ) → length s ≤ at → true ≡ allAre b (drop at s)
 padding-none b s at h = sym (all-end b s at h)
 
-pub padding-rest : (b : ℕ) (s : List ℕ) (at : ℕ) (p : Bool) → p ≡ allAre b (take (length s - at) (drop at s)) → p ≡ allAre b (drop at s)
+pub padding-rest : (b : ℕ) (s : List ℕ) (at : ℕ) (p : Bool) → p ≡ allAre b (take (length s - at) (drop at s))
+    → p ≡ allAre b (drop at s)
 unfolding part
 padding-rest b s at p e = e ∙ ap (allAre b) (part-to-end at s)
 

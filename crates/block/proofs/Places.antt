@@ -1,4 +1,5 @@
--- What the code reads at a place: a digit, four of them, and from these the length of the unit that stands there. Assumes nothing.
+-- What the code reads at a place: a digit, four of them, and from these the length of the unit that stands there. Assumes
+-- nothing.
 use mathlib.Core.Path.{_≡_, refl, sym, ap, _∙_}
 use mathlib.Core.Bool.{Bool, true, false, _&&_}
 use mathlib.Core.List.{List, [], _∷_}
@@ -66,7 +67,8 @@ unfolding allDigits
 right-here b p s e h w = if-true _ _ _ (sym e ∙ h) ∙ w
 
 -- the codes of three digits, at their places, are as much too high as is taken off
-pub four-least : (a b c t u v w : ℕ) (p q x : Bool) → p ≡ isDigit a → p ≡ true → q ≡ isDigit b → q ≡ true → x ≡ isDigit c → x ≡ true
+pub four-least : (a b c t u v w : ℕ) (p q x : Bool) → p ≡ isDigit a → p ≡ true → q ≡ isDigit b → q ≡ true → x ≡ isDigit c
+    → x ≡ true
     → t ≡ a → u ≡ b → v ≡ c → 53280 ≤ t * 1000 + u * 100 + (v * 10 + w)
 four-least a b c t u v w p q x e₁ h₁ e₂ h₂ e₃ h₃ q₁ q₂ q₃ =
     omega (arith, digit-least a (sym e₁ ∙ h₁), digit-least b (sym e₂ ∙ h₂), digit-least c (sym e₃ ∙ h₃))
@@ -93,10 +95,12 @@ fixed-zero r s h = sym (ap lengthOf (if-true _ _ _ (eq-eqb r 0 h)))
 pub fixed-short : (r : ℕ) (s : List ℕ) (at l : ℕ) → (r ≡ 0 → ⊥) → l ≡ length s - at → l < r → 0 ≡ lengthOf (fixed r (drop at s))
 unfolding fixed lengthOf
 fixed-short r s at l z e h =
-    sym (ap lengthOf (if-false _ _ _ (ne-eqb r 0 z) ∙ if-false _ _ _ (lt-leb r (length (drop at s)) (simp length-drop (omega arith)))))
+    sym (ap lengthOf (if-false _ _ _ (ne-eqb r 0 z)
+    ∙ if-false _ _ _ (lt-leb r (length (drop at s)) (simp length-drop (omega arith)))))
 
 -- where r bytes stand, they are a record unless all are padding
-fixed-there : (r : ℕ) (s : List ℕ) (at l : ℕ) → (r ≡ 0 → ⊥) → l ≡ length s - at → r ≤ l → lengthOf (fixed r (drop at s)) ≡ ifB (allAre 94 (take r (drop at s))) 0 r
+fixed-there : (r : ℕ) (s : List ℕ) (at l : ℕ) → (r ≡ 0 → ⊥) → l ≡ length s - at → r ≤ l
+    → lengthOf (fixed r (drop at s)) ≡ ifB (allAre 94 (take r (drop at s))) 0 r
 unfolding fixed lengthOf
 fixed-there r s at l z e h =
     let sum : 0 + r ≡ r = omega arith in
@@ -104,7 +108,8 @@ fixed-there r s at l z e h =
     ∙ ap-if lengthOf (allAre 94 (take r (drop at s))) None (Of 0 0 r)
     ∙ ap (λ (k : ℕ). ifB (allAre 94 (take r (drop at s))) 0 k) sum
 
-pub fixed-other : (r : ℕ) (s : List ℕ) (at l : ℕ) → (r ≡ 0 → ⊥) → l ≡ length s - at → r ≤ l → (getD s at 0 ≡ 94 → ⊥) → r ≡ lengthOf (fixed r (drop at s))
+pub fixed-other : (r : ℕ) (s : List ℕ) (at l : ℕ) → (r ≡ 0 → ⊥) → l ≡ length s - at → r ≤ l → (getD s at 0 ≡ 94 → ⊥)
+    → r ≡ lengthOf (fixed r (drop at s))
 fixed-other r s at l z e h b =
     sym (fixed-there r s at l z e h ∙ if-false _ _ _ (all-other-head 94 r s at (omega arith) (omega arith) b))
 
@@ -129,7 +134,8 @@ unfolding measured lengthOf
 measured-wrong i w m l x e = sym (ap (λ (y : Number). lengthOf (measured i w m l y)) e)
 
 -- a length field that says n
-measured-value : (i w m l n : ℕ) (x : Number) → x ≡ Value n → measured i w m l x ≡ ifB (leb w n) (ifB (leb n m) (ifB (leb n l) (Of i w (n - w)) None) None) None
+measured-value : (i w m l n : ℕ) (x : Number) → x ≡ Value n
+    → measured i w m l x ≡ ifB (leb w n) (ifB (leb n m) (ifB (leb n l) (Of i w (n - w)) None) None) None
 unfolding measured
 measured-value i w m l n x e = ap (measured i w m l) e
 
@@ -139,18 +145,21 @@ measured-low i w m l n x e h = sym (ap lengthOf (measured-value i w m l n x e �
 
 pub measured-high : (i w m l n : ℕ) (x : Number) → x ≡ Value n → w ≤ n → m < n → 0 ≡ lengthOf (measured i w m l x)
 unfolding lengthOf
-measured-high i w m l n x e h k = sym (ap lengthOf (measured-value i w m l n x e ∙ if-true _ _ _ (le-leb w n h) ∙ if-false _ _ _ (lt-leb n m k)))
+measured-high i w m l n x e h k =
+    sym (ap lengthOf (measured-value i w m l n x e ∙ if-true _ _ _ (le-leb w n h) ∙ if-false _ _ _ (lt-leb n m k)))
 
 pub measured-past : (i w m l n : ℕ) (x : Number) → x ≡ Value n → w ≤ n → n ≤ m → l < n → 0 ≡ lengthOf (measured i w m l x)
 unfolding lengthOf
 measured-past i w m l n x e h k p =
-    sym (ap lengthOf (measured-value i w m l n x e ∙ if-true _ _ _ (le-leb w n h) ∙ if-true _ _ _ (le-leb n m k) ∙ if-false _ _ _ (lt-leb n l p)))
+    sym (ap lengthOf (measured-value i w m l n x e ∙ if-true _ _ _ (le-leb w n h) ∙ if-true _ _ _ (le-leb n m k)
+    ∙ if-false _ _ _ (lt-leb n l p)))
 
 pub measured-some : (i w m l n : ℕ) (x : Number) → x ≡ Value n → w ≤ n → n ≤ m → n ≤ l → n ≡ lengthOf (measured i w m l x)
 unfolding lengthOf
 measured-some i w m l n x e h k p =
     let sum : n ≡ w + (n - w) = omega arith in
-    sum ∙ sym (ap lengthOf (measured-value i w m l n x e ∙ if-true _ _ _ (le-leb w n h) ∙ if-true _ _ _ (le-leb n m k) ∙ if-true _ _ _ (le-leb n l p)))
+    sum ∙ sym (ap lengthOf
+    (measured-value i w m l n x e ∙ if-true _ _ _ (le-leb w n h) ∙ if-true _ _ _ (le-leb n m k) ∙ if-true _ _ _ (le-leb n l p)))
 
 pub ruleset measureds = (measured-wrong, measured-low, measured-high, measured-past, measured-some, needs)
 
@@ -162,7 +171,8 @@ measured-alike i j w m l (Value n) =
     ap-if lengthOf (leb w n) _ None
     ∙ ap (λ (k : ℕ). ifB (leb w n) k 0)
     (ap-if lengthOf (leb n m) _ None
-    ∙ ap (λ (k : ℕ). ifB (leb n m) k 0) (ap-if lengthOf (leb n l) (Of i w (n - w)) None ∙ sym (ap-if lengthOf (leb n l) (Of j w (n - w)) None))
+    ∙ ap (λ (k : ℕ). ifB (leb n m) k 0)
+    (ap-if lengthOf (leb n l) (Of i w (n - w)) None ∙ sym (ap-if lengthOf (leb n l) (Of j w (n - w)) None))
     ∙ sym (ap-if lengthOf (leb n m) (ifB (leb n l) (Of j w (n - w)) None) None))
     ∙ sym (ap-if lengthOf (leb w n) (ifB (leb n m) (ifB (leb n l) (Of j w (n - w)) None) None) None)
 
@@ -183,7 +193,8 @@ four-bytes s a b c d h p q t =
 pub variable-short : (r : ℕ) (s : List ℕ) (at l : ℕ) → l ≡ length s - at → l < 4 → 0 ≡ lengthOf (variable r (drop at s))
 unfolding variable lengthOf
 variable-short r s at l e h =
-    sym (ap lengthOf (measured-short 0 4 r (length (drop at s)) (numberIn (part 0 4 (drop at s))) (simp length-drop (omega arith))))
+    sym (ap lengthOf (measured-short 0 4 r (length (drop at s)) (numberIn (part 0 4 (drop at s)))
+    (simp length-drop (omega arith))))
 
 pub variable-some : (r : ℕ) (s : List ℕ) (at l : ℕ) (x : Number) (k : ℕ) → l ≡ length s - at → 4 ≤ l
     → x ≡ numberIn (getD s at 0 ∷ getD s (at + 1) 0 ∷ getD s (at + 2) 0 ∷ getD s (at + 3) 0 ∷ [])
@@ -210,7 +221,8 @@ unfolding segment lengthOf
 segment-short s at l e h =
     sym (ap lengthOf (if-case (λ (u : Unit). u ≡ None) (leb 48 (getD (drop at s) 0 0)) _ None
     (λ a. if-case (λ (u : Unit). u ≡ None) (leb (getD (drop at s) 0 0) 51) _ None
-    (λ b. measured-short (getD (drop at s) 0 0 - 48) 5 9999 (length (drop at s)) (numberIn (part 1 4 (drop at s))) (simp length-drop (omega arith)))
+    (λ b. measured-short (getD (drop at s) 0 0 - 48) 5 9999 (length (drop at s)) (numberIn (part 1 4 (drop at s)))
+    (simp length-drop (omega arith)))
     (λ b. refl))
     (λ a. refl)))
 
@@ -222,7 +234,8 @@ pub segment-high : (s : List ℕ) (at : ℕ) → 51 < getD s at 0 → 0 ≡ leng
 unfolding segment lengthOf
 segment-high s at h =
     let e = head-at s at in
-    sym (ap lengthOf (if-true _ _ _ (le-leb 48 (getD (drop at s) 0 0) (omega arith)) ∙ if-false _ _ _ (lt-leb (getD (drop at s) 0 0) 51 (omega arith))))
+    sym (ap lengthOf (if-true _ _ _ (le-leb 48 (getD (drop at s) 0 0) (omega arith))
+    ∙ if-false _ _ _ (lt-leb (getD (drop at s) 0 0) 51 (omega arith))))
 
 pub segment-some : (s : List ℕ) (at l : ℕ) (x : Number) (k : ℕ) → l ≡ length s - at → 5 ≤ l → 48 ≤ getD s at 0 → getD s at 0 ≤ 51
     → x ≡ numberIn (getD s (at + 1) 0 ∷ getD s (at + 2) 0 ∷ getD s (at + 3) 0 ∷ getD s (at + 4) 0 ∷ [])
@@ -236,6 +249,7 @@ segment-some s at l x k e h a b q m =
     ∙ measured-alike 0 (getD (drop at s) 0 0 - 48) 5 9999 l x
     ∙ ap (λ (j : ℕ). lengthOf (measured (getD (drop at s) 0 0 - 48) 5 9999 j x)) (e ∙ sym (length-drop at s))
     ∙ ap (λ (y : Number). lengthOf (measured (getD (drop at s) 0 0 - 48) 5 9999 (length (drop at s)) y)) (q ∙ ap numberIn word)
-    ∙ sym (ap lengthOf (if-true _ _ _ (le-leb 48 (getD (drop at s) 0 0) (omega arith)) ∙ if-true _ _ _ (le-leb (getD (drop at s) 0 0) 51 (omega arith))))
+    ∙ sym (ap lengthOf (if-true _ _ _ (le-leb 48 (getD (drop at s) 0 0) (omega arith))
+    ∙ if-true _ _ _ (le-leb (getD (drop at s) 0 0) 51 (omega arith))))
 
 pub ruleset segments = (segment-short, segment-low, segment-high, segment-some, needs)

@@ -15,7 +15,8 @@ use Rattle.block.specs.Unit.{fixed, measured, variable, segment, unitOf}
 use Rattle.block.specs.declared.Unit.{Unit}
 use Rattle.block.specs.declared.Unit.the-variants.{Of, None}
 
--- a unit of indicator i, with w bytes of control word and n of record or segment, in l bytes; in a format other than S it is a whole record of at most r bytes
+-- a unit of indicator i, with w bytes of control word and n of record or segment, in l bytes; in a format other than S it is a
+-- whole record of at most r bytes
 pub record Stands (f r l i w n : ℕ) : Type 0 where
   pub some : 1 ≤ w + n
   pub within : w + n ≤ l
@@ -63,7 +64,14 @@ segment-any f r s e =
     (λ a. if-case (If-any (Stands f r (length s))) (leb (getD s 0 0) 51) _ None
     (λ b. measured-any (Stands f r (length s)) (getD s 0 0 - 48) 5 9999 (length s) (numberIn (part 1 4 s))
     (λ k p q t. let most : getD s 0 0 ≤ 51 = leb-true (getD s 0 0) 51 b in
-    record { some = omega arith; within = omega arith; indicator = omega arith; whole = λ h. absurd (h e); short = λ h. absurd (h e) }))
+    record {
+      some = omega arith;
+      within = omega arith;
+      indicator = omega arith;
+      whole = λ h. absurd (h e);
+      short = λ h. absurd
+          (h e);
+    }))
     (λ b. refl))
     (λ a. refl)
 

@@ -24,11 +24,13 @@ whole-any f r l (Of i w n) h c = sym (if-true _ _ _ (eq-eqb i 0 (c .whole h)) �
 whole-any f r l None h c = refl
 
 pub whole-fixed : (f r : ℕ) (s : List ℕ) (k : ℕ) → f ≡ 70 → k ≡ lengthOf (fixed r s) → k ≡ wholeOf r (unitOf f r s)
-whole-fixed f r s k g e = e ∙ whole-any f r (length s) (fixed r s) (λ h. omega arith) (fixed-any f r s) ∙ ap (wholeOf r) (sym (unit-fixed f r s g))
+whole-fixed f r s k g e =
+    e ∙ whole-any f r (length s) (fixed r s) (λ h. omega arith) (fixed-any f r s) ∙ ap (wholeOf r) (sym (unit-fixed f r s g))
 
 pub whole-variable : (f r : ℕ) (s : List ℕ) (k : ℕ) → f ≡ 68 → k ≡ lengthOf (variable r s) → k ≡ wholeOf r (unitOf f r s)
 whole-variable f r s k g e =
-    e ∙ whole-any f r (length s) (variable r s) (λ h. omega arith) (variable-any f r s) ∙ ap (wholeOf r) (sym (unit-variable f r s g))
+    e ∙ whole-any f r (length s) (variable r s) (λ h. omega arith) (variable-any f r s)
+    ∙ ap (wholeOf r) (sym (unit-variable f r s g))
 
 pub whole-segmented : (f r : ℕ) (s : List ℕ) (k : ℕ) → f ≡ 83 → k ≡ wholeOf r (segment s) → k ≡ wholeOf r (unitOf f r s)
 whole-segmented f r s k g e = e ∙ ap (wholeOf r) (sym (unit-segment f r s g))
@@ -41,11 +43,13 @@ pub ruleset wholes = (whole-fixed, whole-variable, whole-segmented, whole-other,
 
 -- ---- a segment
 
-pub whole-none : (r : ℕ) (s : List ℕ) (at k : ℕ) → k ≡ lengthOf (segment (drop at s)) → k ≡ 0 → 0 ≡ wholeOf r (segment (drop at s))
+pub whole-none : (r : ℕ) (s : List ℕ) (at k : ℕ) → k ≡ lengthOf (segment (drop at s)) → k ≡ 0
+    → 0 ≡ wholeOf r (segment (drop at s))
 unfolding wholeOf
 whole-none r s at k e z = ap (wholeOf r) (segment-none (drop at s) k e z)
 
-pub whole-begun : (r : ℕ) (s : List ℕ) (at k : ℕ) → k ≡ lengthOf (segment (drop at s)) → (k ≡ 0 → ⊥) → (getD s at 0 ≡ 48 → ⊥) → 0 ≡ wholeOf r (segment (drop at s))
+pub whole-begun : (r : ℕ) (s : List ℕ) (at k : ℕ) → k ≡ lengthOf (segment (drop at s)) → (k ≡ 0 → ⊥) → (getD s at 0 ≡ 48 → ⊥)
+    → 0 ≡ wholeOf r (segment (drop at s))
 unfolding wholeOf
 whole-begun r s at k e z h =
     let first = segment-first s at k e z in
@@ -55,7 +59,8 @@ whole-begun r s at k e z h =
 whole-led : (r : ℕ) (s : List ℕ) (at k : ℕ) → k ≡ lengthOf (segment (drop at s)) → (k ≡ 0 → ⊥) → getD s at 0 ≡ 48
     → wholeOf r (segment (drop at s)) ≡ ifB (leb (k - 5) r) (5 + (k - 5)) 0
 unfolding wholeOf
-whole-led r s at k e z h = ap (wholeOf r) (sym (segment-of s at k e z)) ∙ if-true _ _ _ (eq-eqb (getD s at 0 - 48) 0 (omega arith))
+whole-led r s at k e z h =
+    ap (wholeOf r) (sym (segment-of s at k e z)) ∙ if-true _ _ _ (eq-eqb (getD s at 0 - 48) 0 (omega arith))
 
 pub whole-over : (r : ℕ) (s : List ℕ) (at k : ℕ) → k ≡ lengthOf (segment (drop at s)) → (k ≡ 0 → ⊥) → getD s at 0 ≡ 48 → r < k - 5
     → 0 ≡ wholeOf r (segment (drop at s))
@@ -98,9 +103,11 @@ unit-worded f r s =
     if-case (If-any (Worded f)) (eqb f 70) _ _
     (λ a. map-any (Led 0 0) (Worded f) (λ i w n c. c .word ∙ sym (word-fixed f (eqb-true f 70 a))) (fixed r s) (fixed-led r s))
     (λ a. if-case (If-any (Worded f)) (eqb f 68) _ _
-    (λ b. map-any (Led 0 4) (Worded f) (λ i w n c. c .word ∙ sym (word-variable f (eqb-true f 68 b))) (variable r s) (variable-led r s))
+    (λ b. map-any (Led 0 4) (Worded f) (λ i w n c. c .word ∙ sym (word-variable f (eqb-true f 68 b))) (variable r s)
+    (variable-led r s))
     (λ b. if-case (If-any (Worded f)) (eqb f 83) _ None
-    (λ d. map-any (Indicated s) (Worded f) (λ i w n c. c .led-by .word ∙ sym (word-segmented f (eqb-true f 83 d))) (segment s) (segment-indicated s))
+    (λ d. map-any (Indicated s) (Worded f) (λ i w n c. c .led-by .word ∙ sym (word-segmented f (eqb-true f 83 d))) (segment s)
+    (segment-indicated s))
     (λ d. refl)))
 
 pub unit-word : (f r : ℕ) (s : List ℕ) (i w n : ℕ) → unitOf f r s ≡ Of i w n → w ≡ wordOf f

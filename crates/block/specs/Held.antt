@@ -1,4 +1,5 @@
--- What one data block holds, in numbers. Document 02, P13: data bytes split exactly into record, control word, padding and offset bytes.
+-- What one data block holds, in numbers. Document 02, P13: data bytes split exactly into record, control word, padding and offset
+-- bytes.
 -- A record counts in the block in which it ends; a block that cannot be cut holds nothing that counts.
 -- `held-adds` (proofs/Helds.antt): the four kinds of bytes of a block that can be cut add up to its length.
 use mathlib.Core.Path.{_≡_}
@@ -26,7 +27,8 @@ segmentBytes xs = sum (map (λ (x : Segment). length (x .bytes)) xs)
 abbrev pub empty : Held
 empty = record { records = 0; bytes = 0; words = 0; padding = 0; offset = 0 }
 
--- what a block of l bytes holds: o offset bytes, then u units with control words of w bytes, in which n records end, and b bytes of records
+-- what a block of l bytes holds: o offset bytes, then u units with control words of w bytes, in which n records end, and b bytes
+-- of records
 abbrev pub holding : ℕ → ℕ → ℕ → ℕ → ℕ → ℕ → Held
 holding w o l u n b = record { records = n; bytes = b; words = u * w; padding = l - (o + u * w + b); offset = o }
 

@@ -1,6 +1,7 @@
 -- The unit at the head of what is left of a data block. Document 01, "Blocks and records":
 -- F: a unit is R bytes, not all of them 5E.
--- D: four digits, the length with these four, then the record. R counts the control word (8.5.2.6 of ECMA-13), so the length is at most R.
+-- D: four digits, the length with these four, then the record. R counts the control word (8.5.2.6 of ECMA-13), so the length is
+-- at most R.
 -- S: an indicator, four digits giving the length with these five, then the segment. Any indicator 0 to 3 will do here.
 use mathlib.Core.List.{List}
 use Prim.Native.Nat.{ℕ, _+_, _-_}
@@ -23,7 +24,8 @@ pad = 94
 unfoldable pub fixed : ℕ → List ℕ → Unit
 fixed r s = ifB (eqb r 0) None (ifB (leb r (length s)) (ifB (allAre pad (take r s)) None (Of 0 0 r)) None)
 
--- a unit with indicator i, led by a control word of w bytes, whose length field says n; l bytes are left, and the length is at most m
+-- a unit with indicator i, led by a control word of w bytes, whose length field says n; l bytes are left, and the length is at
+-- most m
 unfoldable pub measured : ℕ → ℕ → ℕ → ℕ → Number → Unit
 measured i w m l Wrong = None
 measured i w m l (Value n) = ifB (leb w n) (ifB (leb n m) (ifB (leb n l) (Of i w (n - w)) None) None) None
@@ -35,7 +37,8 @@ variable r s = measured 0 4 r (length s) (numberIn (part 0 4 s))
 -- a segment: its length field, of four digits, is not bounded here
 unfoldable pub segment : List ℕ → Unit
 segment s =
-    ifB (leb 48 (getD s 0 0)) (ifB (leb (getD s 0 0) 51) (measured (getD s 0 0 - 48) 5 9999 (length s) (numberIn (part 1 4 s))) None) None
+    ifB (leb 48 (getD s 0 0))
+    (ifB (leb (getD s 0 0) 51) (measured (getD s 0 0 - 48) 5 9999 (length s) (numberIn (part 1 4 s))) None) None
 
 -- the unit at the head of s in a file of format f and record length r
 unfoldable pub unitOf : ℕ → ℕ → List ℕ → Unit

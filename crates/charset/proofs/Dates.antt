@@ -44,7 +44,8 @@ pub date-century : (s : List ℕ) (p : Bool) → length s ≡ 6 → p ≡ isCent
 unfolding isDate
 date-century s p h e t = sym (if-true _ _ _ (eq-eqb (length s) 6 h) ∙ if-false _ _ _ (sym e ∙ not-true p t))
 
-pub date-year : (s : List ℕ) (p r : Bool) (t u : List ℕ) (all day : Number) → length s ≡ 6 → p ≡ isCentury (getD s 0 0) → not p ≡ false
+pub date-year : (s : List ℕ) (p r : Bool) (t u : List ℕ) (all day : Number) → length s ≡ 6 → p ≡ isCentury (getD s 0 0)
+    → not p ≡ false
     → t ≡ part 1 5 s → all ≡ numberIn t → u ≡ part 3 3 s → day ≡ numberIn u → r ≡ isYearDay all day → r ≡ isDate s
 unfolding isDate
 date-year s p r t u all day h e f k a l d q =

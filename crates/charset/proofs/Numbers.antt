@@ -37,7 +37,8 @@ number-value s h e = if-true _ _ _ (le-leb (length s) 9 h) ∙ if-true _ _ _ e
 -- a number that fits its width is read back from its digits
 pub number-digits : (w n : ℕ) → w ≤ 9 → n < 10 ^ w → numberIn (digits w n) ≡ Value n
 number-digits w n h k =
-    number-value (digits w n) (subst (λ (l : ℕ). l ≤ 9) (sym (length-digits w n)) h) (digits-digits w n) ∙ ap Value (value-digits w n k)
+    number-value (digits w n) (subst (λ (l : ℕ). l ≤ 9) (sym (length-digits w n)) h) (digits-digits w n)
+    ∙ ap Value (value-digits w n k)
 
 -- ---- the size of a number: below 10 ^ i behind i digits
 
@@ -100,7 +101,8 @@ read-long s h = sym (number-long s h)
 pub read-times : (s : List ℕ) (n i : ℕ) → Read s n i → length s ≤ 9 → i < length s → Fits w32 (n * 10)
 read-times s n i c l h = let room : n < 100000000 = power-room n i (c .small) (omega arith) in record { fits = omega arith }
 
-pub read-plus : (s : List ℕ) (n i : ℕ) → Read s n i → length s ≤ 9 → i < length s → getD s i 0 ≤ 57 → Fits w32 (n * 10 + (getD s i 0 - 48))
+pub read-plus : (s : List ℕ) (n i : ℕ) → Read s n i → length s ≤ 9 → i < length s → getD s i 0 ≤ 57
+    → Fits w32 (n * 10 + (getD s i 0 - 48))
 read-plus s n i c l h high = let room : n < 100000000 = power-room n i (c .small) (omega arith) in record { fits = omega arith }
 
 pub ruleset reading = (read-none, read-more, read-below, read-above, read-all, read-long, read-times, read-plus, needs)

@@ -56,7 +56,8 @@ pub passed-other : (is : ℕ → Bool) (all : List ℕ → Bool) (s : List ℕ) 
     → i < length s → p ≡ is (getD s i 0) → not p ≡ true → false ≡ all s
 passed-other is all s i p each c h e t = sym (each-other is all each s i h (sym e ∙ not-true p t)) ∙ c .left
 
-pub passed-all : (is : ℕ → Bool) (all : List ℕ → Bool) (s : List ℕ) (i : ℕ) → EachByte is all → PassedUpTo all s i → length s ≤ i → true ≡ all s
+pub passed-all : (is : ℕ → Bool) (all : List ℕ → Bool) (s : List ℕ) (i : ℕ) → EachByte is all → PassedUpTo all s i → length s ≤ i
+    → true ≡ all s
 passed-all is all s i each c h = sym (each-end is all each s i h) ∙ c .left
 
 pub ruleset passing = (each-digit, each-character, passed-none, passed-more, needs)

@@ -58,14 +58,20 @@ pub told-character : (b : ℕ) (p q : Bool) → p ≡ isDigit b → p ≡ false 
 unfolding classOf
 told-character b p q e f g h = sym (if-false _ _ _ (sym e ∙ f) ∙ if-true _ _ _ (ranges-character b (sym g ∙ h)))
 
-pub looked-up : (table : List ℕ) (b : ℕ) (q : Bool) → RightElsewhere table → b < 256 → q ≡ inRanges b → q ≡ false → getD table b 0 ≡ classOf b
+pub looked-up : (table : List ℕ) (b : ℕ) (q : Bool) → RightElsewhere table → b < 256 → q ≡ inRanges b → q ≡ false
+    → getD table b 0 ≡ classOf b
 looked-up table b q t s e h = t .entry b s (sym e ∙ h)
 
 -- ---- a field by its ranges
 
-pub passed-ranges : (s : List ℕ) (i : ℕ) (p : Bool) → Passed allA s i → i < length s → p ≡ inRanges (getD s i 0) → p ≡ true → Passed allA s (i + 1)
+pub passed-ranges : (s : List ℕ) (i : ℕ) (p : Bool) → Passed allA s i → i < length s → p ≡ inRanges (getD s i 0) → p ≡ true
+    → Passed allA s (i + 1)
 passed-ranges s i p c h e t =
-    record { within = omega arith; left = sym (each-more isA allA each-character s i h (ranges-character (getD s i 0) (sym e ∙ t))) ∙ c .left }
+    record {
+      within = omega arith;
+      left = sym
+          (each-more isA allA each-character s i h (ranges-character (getD s i 0) (sym e ∙ t))) ∙ c .left;
+    }
 
 -- from the first byte outside them on, what is left is judged as the whole
 pub passed-rest : (s : List ℕ) (i : ℕ) (r : Bool) → Passed allA s i → r ≡ allA (take (length s - i) (drop i s)) → r ≡ allA s

@@ -17,7 +17,8 @@ between a z b = leb a b && leb b z
 
 unfoldable pub isA : ℕ → Bool
 isA b =
-    between (code 2 0) (code 2 2) b || between (code 2 5) (code 2 15) b || between (code 3 0) (code 3 15) b || between (code 4 1) (code 4 15) b || between (code 5 0) (code 5 10) b || eqb b (code 5 15)
+    between (code 2 0) (code 2 2) b || between (code 2 5) (code 2 15) b || between (code 3 0) (code 3 15) b ||
+    between (code 4 1) (code 4 15) b || between (code 5 0) (code 5 10) b || eqb b (code 5 15)
 
 -- the class numbers of the table: a digit, another a-character, neither
 abbrev pub neither : ℕ

@@ -22,4 +22,5 @@ isYearDay Wrong day = false
 
 -- a field of six characters; the year and the day stand in BP 2-6 of it, the day in BP 4-6
 unfoldable pub isDate : List ℕ → Bool
-isDate s = ifB (eqb (length s) 6) (ifB (isCentury (getD s 0 0)) (isYearDay (numberIn (part 1 5 s)) (numberIn (part 3 3 s))) false) false
+isDate s =
+    ifB (eqb (length s) 6) (ifB (isCentury (getD s 0 0)) (isYearDay (numberIn (part 1 5 s)) (numberIn (part 3 3 s))) false) false

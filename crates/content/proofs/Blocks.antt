@@ -1,4 +1,5 @@
--- The records of a block, by its segments in turn: what is handed out behind it, with a record open or not, is carried backwards over them.
+-- The records of a block, by its segments in turn: what is handed out behind it, with a record open or not, is carried backwards
+-- over them.
 -- Assumes nothing.
 use mathlib.Core.Path.{_≡_, refl, sym, ap, ap₂, _∙_, subst}
 use mathlib.Core.Bool.{Bool, true, false}
@@ -76,7 +77,8 @@ behind v c n = moved v (v .at + c + n) (v .left - (c + n))
 good-in : (s : List ℕ) (w : Walk) → Readable s w → Inside s w
 good-in s w g = inside-true s w true (sym (g .inside)) refl
 
-good-behind : (s : List ℕ) (v : Walk) (i c n : ℕ) → Readable s v → unitOf (v .format) (v .size) (leftOf s v) ≡ Of i c n → Readable s (behind v c n)
+good-behind : (s : List ℕ) (v : Walk) (i c n : ℕ) → Readable s v → unitOf (v .format) (v .size) (leftOf s v) ≡ Of i c n
+    → Readable s (behind v c n)
 good-behind s v i c n g e =
     let k = unit-at s v i c n e in
     let a = k .left in
@@ -95,7 +97,8 @@ left-behind s v c n =
 abbrev nextOf : List ℕ → Walk → Taken
 nextOf s v = unitIn s (opened v (dataFrom Data (v .at + v .left) (decode (drop (v .at + v .left) s))))
 
-opened-lengths : (v w : Walk) (e : Extent) → v .format ≡ w .format → v .size ≡ w .size → v .offset ≡ w .offset → opened v e ≡ opened w e
+opened-lengths : (v w : Walk) (e : Extent) → v .format ≡ w .format → v .size ≡ w .size → v .offset ≡ w .offset
+    → opened v e ≡ opened w e
 unfolding opened
 opened-lengths v w (Block start n) f r o =
     λ i. ifB (leb (o i) n) (At (record { format = f i; size = r i; offset = o i; at = start + o i; left = n - o i })) Off
@@ -105,7 +108,8 @@ next-behind : (s : List ℕ) (v : Walk) (c n : ℕ) → c + n ≤ v .left → ne
 next-behind s v c n h =
     let sum : v .at + c + n + (v .left - (c + n)) ≡ v .at + v .left = omega arith in
     ap (λ (m : ℕ). unitIn s (opened (behind v c n) (dataFrom Data m (decode (drop m s))))) sum
-    ∙ ap (unitIn s) (opened-lengths (behind v c n) v (dataFrom Data (v .at + v .left) (decode (drop (v .at + v .left) s))) refl refl refl)
+    ∙ ap (unitIn s) (opened-lengths (behind v c n) v
+    (dataFrom Data (v .at + v .left) (decode (drop (v .at + v .left) s))) refl refl refl)
 
 next-padding : (s : List ℕ) (v : Walk) → allAre pad (leftOf s v) ≡ true → unitNext s v ≡ nextOf s v
 unfolding unitNext blockNext
@@ -119,7 +123,8 @@ record-one s v i c n g e =
     record-begun s v (unitFrom s v) g refl
     ∙ ap (λ (u : Unit). begunBy s (v .size) (orNext (taken v u) (unitNext s v))) e
 
-record-next : (s : List ℕ) (v : Walk) → Readable s v → unitOf (v .format) (v .size) (leftOf s v) ≡ None → allAre pad (leftOf s v) ≡ true
+record-next : (s : List ℕ) (v : Walk) → Readable s v → unitOf (v .format) (v .size) (leftOf s v) ≡ None
+    → allAre pad (leftOf s v) ≡ true
     → recordAt s v ≡ begunBy s (v .size) (nextOf s v)
 unfolding unitFrom unitHere orNext taken
 record-next s v g e h =
@@ -187,28 +192,35 @@ cut-over f r l h = by-unit (unitOf f r l) refl
 turn-shut : (r k i n : ℕ) → isTurn r (suc k) false i n ≡ false
 unfolding isTurn
 turn-shut r k i n =
-    if-case (λ (b : Bool). b ≡ false) (leb i 1) (ifB (eqb (suc k) 0) (leb n r) false) (ifB false (ifB (eqb (suc k) 0) false (leb (suc k - 1 + n) r)) false)
+    if-case (λ (b : Bool). b ≡ false) (leb i 1) (ifB (eqb (suc k) 0) (leb n r) false)
+    (ifB false (ifB (eqb (suc k) 0) false (leb (suc k - 1 + n) r)) false)
     (λ _. if-false _ _ _ (ne-eqb (suc k) 0 (λ z. omega arith))) (λ _. if-false _ _ _ refl)
 
-pub turns-shut : (r k : ℕ) (xs : List Segment) → turnsFrom r (suc k) false xs .number ≡ 0 → (xs ≡ []) × (turnsFrom r (suc k) false xs .pending ≡ suc k)
+pub turns-shut : (r k : ℕ) (xs : List Segment) → turnsFrom r (suc k) false xs .number ≡ 0
+    → (xs ≡ []) × (turnsFrom r (suc k) false xs .pending ≡ suc k)
 unfolding turnsFrom outcome
 turns-shut r k [] h = (refl, refl)
 turns-shut r k (x ∷ xs) h =
     absurd (eqb-false 8 0 refl
-    (ap (λ (o : Outcome). o .number) (sym (if-false _ (turnsFrom r (openAfter (suc k) (x .indicator) (length (x .bytes))) false xs) (outcome 8 0) (turn-shut r k (x .indicator) (length (x .bytes))))) ∙ h))
+    (ap (λ (o : Outcome). o .number)
+    (sym (if-false _ (turnsFrom r (openAfter (suc k) (x .indicator) (length (x .bytes))) false xs) (outcome 8 0)
+    (turn-shut r k (x .indicator) (length (x .bytes))))) ∙ h))
 
 -- ---- records from a place inside a block on, with none open
 
 -- the bytes of a unit, in the image and in what is left of the block
-unit-bytes : (s : List ℕ) (v : Walk) (i c n : ℕ) → unitOf (v .format) (v .size) (leftOf s v) ≡ Of i c n → part (v .at + c) n s ≡ part c n (leftOf s v)
+unit-bytes : (s : List ℕ) (v : Walk) (i c n : ℕ) → unitOf (v .format) (v .size) (leftOf s v) ≡ Of i c n
+    → part (v .at + c) n s ≡ part c n (leftOf s v)
 unfolding leftOf
 unit-bytes s v i c n e = sym (part-part (v .at) c n (v .left) s (unit-at s v i c n e .left))
 
-unit-long : (s : List ℕ) (v : Walk) (i c n : ℕ) → unitOf (v .format) (v .size) (leftOf s v) ≡ Of i c n → length (part c n (leftOf s v)) ≡ n
+unit-long : (s : List ℕ) (v : Walk) (i c n : ℕ) → unitOf (v .format) (v .size) (leftOf s v) ≡ Of i c n
+    → length (part c n (leftOf s v)) ≡ n
 unit-long s v i c n e = length-part c n (leftOf s v) (unit-stands (v .format) (v .size) (leftOf s v) i c n e .within)
 
 -- a whole record, and those behind it
-whole-walks : (s : List ℕ) (v : Walk) (i c n : ℕ) (rs : List (List ℕ)) → Readable s v → unitOf (v .format) (v .size) (leftOf s v) ≡ Of i c n → i ≡ 0 → n ≤ v .size
+whole-walks : (s : List ℕ) (v : Walk) (i c n : ℕ) (rs : List (List ℕ)) → Readable s v
+    → unitOf (v .format) (v .size) (leftOf s v) ≡ Of i c n → i ≡ 0 → n ≤ v .size
     → Walks s (behind v c n) rs → Walks s v (part c n (leftOf s v) ∷ rs)
 unfolding begunBy handed
 whole-walks s v i c n rs g e z m h = (
@@ -224,28 +236,35 @@ handed-split s bs cs x v e = ap (λ (y : Rest). handed s (splitBy bs y)) e
 
 -- behind a segment that leaves a record open, the next unit is that of the next block
 rest-next : (s : List ℕ) (v : Walk) (i c n room : ℕ) → unitOf (v .format) (v .size) (leftOf s v) ≡ Of i c n
-    → CutEnd (v .format) (v .size) (drop (c + n) (leftOf s v)) → restAt s room (behind v c n) ≡ restBy s room (nextOf s v) (λ m u. restAt s m u)
+    → CutEnd (v .format) (v .size) (drop (c + n) (leftOf s v))
+    → restAt s room (behind v c n) ≡ restBy s room (nextOf s v) (λ m u. restAt s m u)
 rest-next s v i c n room e k =
     rest-at s room (behind v c n)
     ∙ ap (λ (t : Taken). restBy s room t (λ m u. restAt s m u))
-    (next-padding s (behind v c n) (ap (allAre pad) (left-behind s v c n) ∙ k .padding) ∙ next-behind s v c n (unit-at s v i c n e .left))
+    (next-padding s (behind v c n) (ap (allAre pad) (left-behind s v c n) ∙ k .padding)
+    ∙ next-behind s v c n (unit-at s v i c n e .left))
 
 -- a record that begins, and goes on in the next block
-split-walks : (s : List ℕ) (v : Walk) (i c n : ℕ) (rs : List (List ℕ)) → Readable s v → unitOf (v .format) (v .size) (leftOf s v) ≡ Of i c n → i ≡ 1 → n ≤ v .size
-    → CutEnd (v .format) (v .size) (drop (c + n) (leftOf s v)) → Hands s (v .size) (suc n) (nextOf s v) rs → Walks s v (onFirst (part c n (leftOf s v)) rs)
+split-walks : (s : List ℕ) (v : Walk) (i c n : ℕ) (rs : List (List ℕ)) → Readable s v
+    → unitOf (v .format) (v .size) (leftOf s v) ≡ Of i c n → i ≡ 1 → n ≤ v .size
+    → CutEnd (v .format) (v .size) (drop (c + n) (leftOf s v)) → Hands s (v .size) (suc n) (nextOf s v) rs
+    → Walks s v (onFirst (part c n (leftOf s v)) rs)
 unfolding begunBy onFirst
 split-walks s v i c n [] g e z m k h = absurd h
 split-walks s v i c n (r ∷ rs) g e z m k (u, q, h) = (
   u,
   ap (handed s)
-      (record-one s v i c n g e ∙ if-true _ _ _ (le-leb n (v .size) m) ∙ if-false _ _ _ (ne-eqb i 0 (λ y. omega arith)) ∙ if-true _ _ _ (eq-eqb i 1 z)
+      (record-one s v i c n g e ∙ if-true _ _ _ (le-leb n (v .size) m) ∙ if-false _ _ _ (ne-eqb i 0 (λ y. omega arith))
+      ∙ if-true _ _ _ (eq-eqb i 1 z)
       ∙ ap (λ (bs : List ℕ). splitBy bs (restAt s (v .size - n) (behind v c n))) (unit-bytes s v i c n e))
-      ∙ handed-split s (part c n (leftOf s v)) r (restAt s (v .size - n) (behind v c n)) u (rest-next s v i c n (v .size - n) e k ∙ q),
+      ∙ handed-split s (part c n (leftOf s v)) r (restAt s (v .size - n) (behind v c n)) u
+      (rest-next s v i c n (v .size - n) e k ∙ q),
   h,
 )
 
 -- what the records are where a segment stands before others
-pub joined-whole : (x : Segment) (xs : List Segment) → (x .indicator ≡ 1 → ⊥) → (x .indicator ≡ 2 → ⊥) → joined (x ∷ xs) ≡ x .bytes ∷ joined xs
+pub joined-whole : (x : Segment) (xs : List Segment) → (x .indicator ≡ 1 → ⊥) → (x .indicator ≡ 2 → ⊥)
+    → joined (x ∷ xs) ≡ x .bytes ∷ joined xs
 unfolding joined
 joined-whole x xs a b = if-false _ _ _ (ne-eqb (x .indicator) 1 a) ∙ if-false _ _ _ (ne-eqb (x .indicator) 2 b)
 
@@ -253,7 +272,8 @@ pub joined-one : (x : Segment) (xs : List Segment) → x .indicator ≡ 1 → jo
 unfolding joined
 joined-one x xs a = if-true _ _ _ (eq-eqb (x .indicator) 1 a)
 
-pub joined-two : (x : Segment) (xs : List Segment) → (x .indicator ≡ 1 → ⊥) → x .indicator ≡ 2 → joined (x ∷ xs) ≡ onFirst (x .bytes) (joined xs)
+pub joined-two : (x : Segment) (xs : List Segment) → (x .indicator ≡ 1 → ⊥) → x .indicator ≡ 2
+    → joined (x ∷ xs) ≡ onFirst (x .bytes) (joined xs)
 unfolding joined
 joined-two x xs a b = if-false _ _ _ (ne-eqb (x .indicator) 1 a) ∙ if-true _ _ _ (eq-eqb (x .indicator) 2 b)
 
@@ -276,9 +296,11 @@ Handing s v o head xs t ys =
     → Walks s v (joined (xs ++ ys))
 
 -- behind a whole record
-after-whole : (s : List ℕ) (v : Walk) (i c n o : ℕ) (xs ys : List Segment) → Readable s v → unitOf (v .format) (v .size) (leftOf s v) ≡ Of i c n → i ≡ 0 → n ≤ v .size
+after-whole : (s : List ℕ) (v : Walk) (i c n o : ℕ) (xs ys : List Segment) → Readable s v
+    → unitOf (v .format) (v .size) (leftOf s v) ≡ Of i c n → i ≡ 0 → n ≤ v .size
     → Handing s (behind v c n) 0 false xs (nextOf s v) ys → o ≡ 0 → turnsFrom (v .size) o false xs .number ≡ 0
-    → Hands s (v .size) (turnsFrom (v .size) o false xs .pending) (nextOf s v) (joined ys) → Walks s v (joined (segmentOf i (part c n (leftOf s v)) ∷ (xs ++ ys)))
+    → Hands s (v .size) (turnsFrom (v .size) o false xs .pending) (nextOf s v) (joined ys)
+    → Walks s v (joined (segmentOf i (part c n (leftOf s v)) ∷ (xs ++ ys)))
 after-whole s v i c n o xs ys g e z m again w h k =
     subst (Walks s v) (sym (joined-whole (segmentOf i (part c n (leftOf s v))) (xs ++ ys) (λ y. omega arith) (λ y. omega arith)))
     (whole-walks s v i c n (joined (xs ++ ys)) g e z m
@@ -286,24 +308,30 @@ after-whole s v i c n o xs ys g e z m again w h k =
     (subst (λ (j : ℕ). Hands s (v .size) (turnsFrom (v .size) j false xs .pending) (nextOf s v) (joined ys)) w k)))
 
 -- behind a segment that begins a record
-after-one : (s : List ℕ) (v : Walk) (i c n o : ℕ) (xs ys : List Segment) → Readable s v → unitOf (v .format) (v .size) (leftOf s v) ≡ Of i c n → i ≡ 1 → n ≤ v .size
+after-one : (s : List ℕ) (v : Walk) (i c n o : ℕ) (xs ys : List Segment) → Readable s v
+    → unitOf (v .format) (v .size) (leftOf s v) ≡ Of i c n → i ≡ 1 → n ≤ v .size
     → cut (v .format) (v .size) (drop (c + n) (leftOf s v)) ≡ some xs → o ≡ suc n → turnsFrom (v .size) o false xs .number ≡ 0
-    → Hands s (v .size) (turnsFrom (v .size) o false xs .pending) (nextOf s v) (joined ys) → Walks s v (joined (segmentOf i (part c n (leftOf s v)) ∷ (xs ++ ys)))
+    → Hands s (v .size) (turnsFrom (v .size) o false xs .pending) (nextOf s v) (joined ys)
+    → Walks s v (joined (segmentOf i (part c n (leftOf s v)) ∷ (xs ++ ys)))
 after-one s v i c n o xs ys g e z m rest w h k =
     let shut = turns-shut (v .size) n xs (subst (λ (j : ℕ). turnsFrom (v .size) j false xs .number ≡ 0) w h) in
     let over : CutEnd (v .format) (v .size) (drop (c + n) (leftOf s v)) = cut-over _ _ _ (rest ∙ ap some (shut .0)) in
     subst (Walks s v)
-    (sym (joined-one (segmentOf i (part c n (leftOf s v))) (xs ++ ys) z ∙ ap (λ (l : List Segment). onFirst (part c n (leftOf s v)) (joined (l ++ ys))) (shut .0)))
+    (sym (joined-one (segmentOf i (part c n (leftOf s v))) (xs ++ ys) z
+    ∙ ap (λ (l : List Segment). onFirst (part c n (leftOf s v)) (joined (l ++ ys))) (shut .0)))
     (split-walks s v i c n (joined ys) g e z m over
-    (subst (λ (j : ℕ). Hands s (v .size) j (nextOf s v) (joined ys)) (ap (λ (j : ℕ). turnsFrom (v .size) j false xs .pending) w ∙ shut .1) k))
+    (subst (λ (j : ℕ). Hands s (v .size) j (nextOf s v) (joined ys))
+    (ap (λ (j : ℕ). turnsFrom (v .size) j false xs .pending) w ∙ shut .1) k))
 
 -- a segment before others, with none open
-segment-walks : (s : List ℕ) (v : Walk) (i c n : ℕ) (head : Bool) (xs ys : List Segment) → Readable s v → unitOf (v .format) (v .size) (leftOf s v) ≡ Of i c n
+segment-walks : (s : List ℕ) (v : Walk) (i c n : ℕ) (head : Bool) (xs ys : List Segment) → Readable s v
+    → unitOf (v .format) (v .size) (leftOf s v) ≡ Of i c n
     → cut (v .format) (v .size) (drop (c + n) (leftOf s v)) ≡ some xs → Handing s (behind v c n) 0 false xs (nextOf s v) ys
     → Handing s v 0 head (segmentOf i (part c n (leftOf s v)) ∷ xs) (nextOf s v) ys
 unfolding turnsFrom outcome
 segment-walks s v i c n head xs ys g e rest again =
-    if-case P (isTurn (v .size) 0 head i (length bytes)) (turnsFrom (v .size) (openAfter 0 i (length bytes)) false xs) (outcome 8 0)
+    if-case P (isTurn (v .size) 0 head i (length bytes)) (turnsFrom (v .size) (openAfter 0 i (length bytes)) false xs)
+    (outcome 8 0)
     (λ t. by-turn (in-turn (v .size) 0 head i (length bytes) t)) (λ _ q. absurd (eqb-false 8 0 refl q))
   where
     bytes : List ℕ
@@ -313,9 +341,12 @@ segment-walks s v i c n head xs ys g e rest again =
     long = unit-long s v i c n e
 
     P : Outcome → Type 0
-    P o = o .number ≡ 0 → Hands s (v .size) (o .pending) (nextOf s v) (joined ys) → Walks s v (joined (segmentOf i bytes ∷ (xs ++ ys)))
+    P o =
+        o .number ≡ 0 → Hands s (v .size) (o .pending) (nextOf s v) (joined ys)
+        → Walks s v (joined (segmentOf i bytes ∷ (xs ++ ys)))
 
-    by-one : (b : Bool) → eqb i 1 ≡ b → i ≤ 1 → length bytes ≤ v .size → P (turnsFrom (v .size) (openAfter 0 i (length bytes)) false xs)
+    by-one : (b : Bool) → eqb i 1 ≡ b → i ≤ 1 → length bytes ≤ v .size
+        → P (turnsFrom (v .size) (openAfter 0 i (length bytes)) false xs)
     by-one true a p m =
         after-one s v i c n (openAfter 0 i (length bytes)) xs ys g e (eqb-true i 1 a) (omega (arith, long)) rest
         (open-one 0 i (length bytes) (eqb-true i 1 a) ∙ ap suc long)
@@ -329,26 +360,30 @@ segment-walks s v i c n head xs ys g e rest again =
     by-turn (follows p q m) = absurd (omega arith)
 
 -- all that is left of a block
-rest-walks : (s : List ℕ) (xs : List Segment) (v : Walk) (head : Bool) (ys : List Segment) → Readable s v → cut (v .format) (v .size) (leftOf s v) ≡ some xs
+rest-walks : (s : List ℕ) (xs : List Segment) (v : Walk) (head : Bool) (ys : List Segment) → Readable s v
+    → cut (v .format) (v .size) (leftOf s v) ≡ some xs
     → Handing s v 0 head xs (nextOf s v) ys
 unfolding turnsFrom outcome
 rest-walks s [] v head ys g h = λ _ k.
     let c = cut-over (v .format) (v .size) (leftOf s v) h in
-    walks-by s v (joined ys) (subst (λ (x : Record). Gives s (handed s x) (joined ys)) (sym (record-next s v g (c .unit) (c .padding))) k)
+    walks-by s v (joined ys)
+    (subst (λ (x : Record). Gives s (handed s x) (joined ys)) (sym (record-next s v g (c .unit) (c .padding))) k)
 rest-walks s (x ∷ xs) v head ys g h =
     let k = cut-one (v .format) (v .size) (leftOf s v) x xs h in
     let here = k .unit in
     let rest = k .rest in
     subst (λ (y : Segment). Handing s v 0 head (y ∷ xs) (nextOf s v) ys) (k .is)
     (segment-walks s v (k .i) (k .c) (k .n) head xs ys g here rest
-    (subst (λ (t : Taken). Handing s (behind v (k .c) (k .n)) 0 false xs t ys) (next-behind s v (k .c) (k .n) (unit-at s v (k .i) (k .c) (k .n) here .left))
+    (subst (λ (t : Taken). Handing s (behind v (k .c) (k .n)) 0 false xs t ys)
+    (next-behind s v (k .c) (k .n) (unit-at s v (k .i) (k .c) (k .n) here .left))
     (rest-walks s xs (behind v (k .c) (k .n)) false ys (good-behind s v (k .i) (k .c) (k .n) g here)
     (ap (cut (v .format) (v .size)) (left-behind s v (k .c) (k .n)) ∙ rest))))
 
 -- ---- a whole block, with a record open or not
 
 -- the rest of a record ends with this segment
-ends-hands : (s : List ℕ) (v : Walk) (i c n j o : ℕ) (xs ys : List Segment) → Readable s v → unitOf (v .format) (v .size) (leftOf s v) ≡ Of i c n → i ≡ 3
+ends-hands : (s : List ℕ) (v : Walk) (i c n j o : ℕ) (xs ys : List Segment) → Readable s v
+    → unitOf (v .format) (v .size) (leftOf s v) ≡ Of i c n → i ≡ 3
     → j + n ≤ v .size → Handing s (behind v c n) 0 false xs (nextOf s v) ys → o ≡ 0 → turnsFrom (v .size) o false xs .number ≡ 0
     → Hands s (v .size) (turnsFrom (v .size) o false xs .pending) (nextOf s v) (joined ys)
     → Hands s (v .size) (suc j) (One i (v .at + c) n (behind v c n)) (joined (segmentOf i (part c n (leftOf s v)) ∷ (xs ++ ys)))
@@ -357,7 +392,8 @@ ends-hands s v i c n j o xs ys g e z m again w h k =
     subst (RestIs s (restBy s (v .size - j) (One i (v .at + c) n (behind v c n)) (λ a b. restAt s a b)))
     (sym (joined-whole (segmentOf i (part c n (leftOf s v))) (xs ++ ys) (λ y. omega arith) (λ y. omega arith))) (
       behind v c n,
-      if-true _ _ _ (le-leb n (v .size - j) (omega arith)) ∙ if-true _ _ _ (eq-eqb i 3 z) ∙ ap (λ (bs : List ℕ). ends bs (behind v c n)) (unit-bytes s v i c n e),
+      if-true _ _ _ (le-leb n (v .size - j) (omega arith)) ∙ if-true _ _ _ (eq-eqb i 3 z)
+          ∙ ap (λ (bs : List ℕ). ends bs (behind v c n)) (unit-bytes s v i c n e),
       again (subst (λ (a : ℕ). turnsFrom (v .size) a false xs .number ≡ 0) w h)
           (subst (λ (a : ℕ). Hands s (v .size) (turnsFrom (v .size) a false xs .pending) (nextOf s v) (joined ys)) w k),
     )
@@ -367,7 +403,8 @@ unfolding before
 before-ends bs cs x u e = ap (before bs) e
 
 -- it goes on in the next block
-on-hands : (s : List ℕ) (v : Walk) (i c n j : ℕ) (rs : List (List ℕ)) → Readable s v → unitOf (v .format) (v .size) (leftOf s v) ≡ Of i c n → i ≡ 2
+on-hands : (s : List ℕ) (v : Walk) (i c n j : ℕ) (rs : List (List ℕ)) → Readable s v
+    → unitOf (v .format) (v .size) (leftOf s v) ≡ Of i c n → i ≡ 2
     → j + n ≤ v .size → CutEnd (v .format) (v .size) (drop (c + n) (leftOf s v)) → Hands s (v .size) (suc (j + n)) (nextOf s v) rs
     → Hands s (v .size) (suc j) (One i (v .at + c) n (behind v c n)) (onFirst (part c n (leftOf s v)) rs)
 unfolding restBy onFirst
@@ -375,33 +412,42 @@ on-hands s v i c n j [] g e z m k h = absurd h
 on-hands s v i c n j (r ∷ rs) g e z m k (u, q, h) =
     let less : v .size - j - n ≡ v .size - (j + n) = omega arith in (
       u,
-      if-true _ _ _ (le-leb n (v .size - j) (omega arith)) ∙ if-false _ _ _ (ne-eqb i 3 (λ y. omega arith)) ∙ if-true _ _ _ (eq-eqb i 2 z)
+      if-true _ _ _ (le-leb n (v .size - j) (omega arith)) ∙ if-false _ _ _ (ne-eqb i 3 (λ y. omega arith))
+          ∙ if-true _ _ _ (eq-eqb i 2 z)
           ∙ ap₂ (λ (bs : List ℕ) (a : ℕ). before bs (restAt s a (behind v c n))) (unit-bytes s v i c n e) less
-          ∙ before-ends (part c n (leftOf s v)) r (restAt s (v .size - (j + n)) (behind v c n)) u (rest-next s v i c n (v .size - (j + n)) e k ∙ q),
+          ∙ before-ends (part c n (leftOf s v)) r (restAt s (v .size - (j + n)) (behind v c n)) u
+          (rest-next s v i c n (v .size - (j + n)) e k ∙ q),
       h,
     )
 
-after-two : (s : List ℕ) (v : Walk) (i c n j o : ℕ) (xs ys : List Segment) → Readable s v → unitOf (v .format) (v .size) (leftOf s v) ≡ Of i c n → i ≡ 2
-    → j + n ≤ v .size → cut (v .format) (v .size) (drop (c + n) (leftOf s v)) ≡ some xs → o ≡ suc (j + n) → turnsFrom (v .size) o false xs .number ≡ 0
+after-two : (s : List ℕ) (v : Walk) (i c n j o : ℕ) (xs ys : List Segment) → Readable s v
+    → unitOf (v .format) (v .size) (leftOf s v) ≡ Of i c n → i ≡ 2
+    → j + n ≤ v .size → cut (v .format) (v .size) (drop (c + n) (leftOf s v)) ≡ some xs → o ≡ suc (j + n)
+    → turnsFrom (v .size) o false xs .number ≡ 0
     → Hands s (v .size) (turnsFrom (v .size) o false xs .pending) (nextOf s v) (joined ys)
     → Hands s (v .size) (suc j) (One i (v .at + c) n (behind v c n)) (joined (segmentOf i (part c n (leftOf s v)) ∷ (xs ++ ys)))
 after-two s v i c n j o xs ys g e z m rest w h k =
     let shut = turns-shut (v .size) (j + n) xs (subst (λ (a : ℕ). turnsFrom (v .size) a false xs .number ≡ 0) w h) in
     let over : CutEnd (v .format) (v .size) (drop (c + n) (leftOf s v)) = cut-over _ _ _ (rest ∙ ap some (shut .0)) in
     subst (Hands s (v .size) (suc j) (One i (v .at + c) n (behind v c n)))
-    (sym (joined-two (segmentOf i (part c n (leftOf s v))) (xs ++ ys) (λ y. omega arith) z ∙ ap (λ (l : List Segment). onFirst (part c n (leftOf s v)) (joined (l ++ ys))) (shut .0)))
+    (sym (joined-two (segmentOf i (part c n (leftOf s v))) (xs ++ ys) (λ y. omega arith) z
+    ∙ ap (λ (l : List Segment). onFirst (part c n (leftOf s v)) (joined (l ++ ys))) (shut .0)))
     (on-hands s v i c n j (joined ys) g e z m over
-    (subst (λ (a : ℕ). Hands s (v .size) a (nextOf s v) (joined ys)) (ap (λ (a : ℕ). turnsFrom (v .size) a false xs .pending) w ∙ shut .1) k))
+    (subst (λ (a : ℕ). Hands s (v .size) a (nextOf s v) (joined ys))
+    (ap (λ (a : ℕ). turnsFrom (v .size) a false xs .pending) w ∙ shut .1) k))
 
 -- the first segment of a block, with a record open
-first-hands : (s : List ℕ) (v : Walk) (i c n j : ℕ) (xs ys : List Segment) → Readable s v → unitOf (v .format) (v .size) (leftOf s v) ≡ Of i c n
+first-hands : (s : List ℕ) (v : Walk) (i c n j : ℕ) (xs ys : List Segment) → Readable s v
+    → unitOf (v .format) (v .size) (leftOf s v) ≡ Of i c n
     → cut (v .format) (v .size) (drop (c + n) (leftOf s v)) ≡ some xs → Handing s (behind v c n) 0 false xs (nextOf s v) ys
     → turnsFrom (v .size) (suc j) true (segmentOf i (part c n (leftOf s v)) ∷ xs) .number ≡ 0
-    → Hands s (v .size) (turnsFrom (v .size) (suc j) true (segmentOf i (part c n (leftOf s v)) ∷ xs) .pending) (nextOf s v) (joined ys)
+    → Hands s (v .size) (turnsFrom (v .size) (suc j) true (segmentOf i (part c n (leftOf s v)) ∷ xs) .pending) (nextOf s v)
+    (joined ys)
     → Hands s (v .size) (suc j) (One i (v .at + c) n (behind v c n)) (joined (segmentOf i (part c n (leftOf s v)) ∷ (xs ++ ys)))
 unfolding turnsFrom outcome
 first-hands s v i c n j xs ys g e rest again =
-    if-case P (isTurn (v .size) (suc j) true i (length bytes)) (turnsFrom (v .size) (openAfter (suc j) i (length bytes)) false xs) (outcome 8 0)
+    if-case P (isTurn (v .size) (suc j) true i (length bytes)) (turnsFrom (v .size) (openAfter (suc j) i (length bytes)) false xs)
+    (outcome 8 0)
     (λ t. by-turn (in-turn (v .size) (suc j) true i (length bytes) t)) (λ _ q. absurd (eqb-false 8 0 refl q))
   where
     bytes : List ℕ
@@ -417,7 +463,8 @@ first-hands s v i c n j xs ys g e rest again =
     P o = o .number ≡ 0 → Hands s (v .size) (o .pending) (nextOf s v) (joined ys)
         → Hands s (v .size) (suc j) (One i (v .at + c) n (behind v c n)) (joined (segmentOf i bytes ∷ (xs ++ ys)))
 
-    by-two : (b : Bool) → eqb i 2 ≡ b → 2 ≤ i → suc j - 1 + length bytes ≤ v .size → P (turnsFrom (v .size) (openAfter (suc j) i (length bytes)) false xs)
+    by-two : (b : Bool) → eqb i 2 ≡ b → 2 ≤ i → suc j - 1 + length bytes ≤ v .size
+        → P (turnsFrom (v .size) (openAfter (suc j) i (length bytes)) false xs)
     by-two true a p m =
         let two : i ≡ 2 = eqb-true i 2 a in
         let sum : suc (j + length bytes) ≡ suc (j + n) = omega (arith, long) in
@@ -433,8 +480,10 @@ first-hands s v i c n j xs ys g e rest again =
     by-turn (follows p q m) = by-two (eqb i 2) refl p m
 
 -- the units of a block from its first on, with q open
-units-hands : (s : List ℕ) (v : Walk) (q : ℕ) (x : Segment) (xs ys : List Segment) → Readable s v → cut (v .format) (v .size) (leftOf s v) ≡ some (x ∷ xs)
-    → turnsFrom (v .size) q true (x ∷ xs) .number ≡ 0 → Hands s (v .size) (turnsFrom (v .size) q true (x ∷ xs) .pending) (nextOf s v) (joined ys)
+units-hands : (s : List ℕ) (v : Walk) (q : ℕ) (x : Segment) (xs ys : List Segment) → Readable s v
+    → cut (v .format) (v .size) (leftOf s v) ≡ some (x ∷ xs)
+    → turnsFrom (v .size) q true (x ∷ xs) .number ≡ 0
+    → Hands s (v .size) (turnsFrom (v .size) q true (x ∷ xs) .pending) (nextOf s v) (joined ys)
     → Hands s (v .size) q (unitHere s v) (joined ((x ∷ xs) ++ ys))
 unfolding unitHere taken
 units-hands s v q x xs ys g h = by-open q
@@ -450,11 +499,13 @@ units-hands s v q x xs ys g h = by-open q
 
     again : Handing s (behind v (k .c) (k .n)) 0 false xs (nextOf s v) ys
     again =
-        subst (λ (a : Taken). Handing s (behind v (k .c) (k .n)) 0 false xs a ys) (next-behind s v (k .c) (k .n) (unit-at s v (k .i) (k .c) (k .n) (k .unit) .left))
+        subst (λ (a : Taken). Handing s (behind v (k .c) (k .n)) 0 false xs a ys)
+        (next-behind s v (k .c) (k .n) (unit-at s v (k .i) (k .c) (k .n) (k .unit) .left))
         (rest-walks s xs (behind v (k .c) (k .n)) false ys (good-behind s v (k .i) (k .c) (k .n) g (k .unit))
         (ap (cut (v .format) (v .size)) (left-behind s v (k .c) (k .n)) ∙ k .rest))
 
-    by-open : (o : ℕ) → turnsFrom (v .size) o true (x ∷ xs) .number ≡ 0 → Hands s (v .size) (turnsFrom (v .size) o true (x ∷ xs) .pending) (nextOf s v) (joined ys)
+    by-open : (o : ℕ) → turnsFrom (v .size) o true (x ∷ xs) .number ≡ 0
+        → Hands s (v .size) (turnsFrom (v .size) o true (x ∷ xs) .pending) (nextOf s v) (joined ys)
         → Hands s (v .size) o (taken v (unitOf (v .format) (v .size) (leftOf s v))) (joined ((x ∷ xs) ++ ys))
     by-open zero a b =
         subst (λ (y : Record). Gives s (handed s y) (joined ((x ∷ xs) ++ ys)))
@@ -463,7 +514,8 @@ units-hands s v q x xs ys g h = by-open q
     by-open (suc j) a b =
         subst (λ (y : Taken). Hands s (v .size) (suc j) y (joined ((x ∷ xs) ++ ys))) (sym here)
         (subst (λ (y : Segment).
-        turnsFrom (v .size) (suc j) true (y ∷ xs) .number ≡ 0 → Hands s (v .size) (turnsFrom (v .size) (suc j) true (y ∷ xs) .pending) (nextOf s v) (joined ys)
+        turnsFrom (v .size) (suc j) true (y ∷ xs) .number ≡ 0
+        → Hands s (v .size) (turnsFrom (v .size) (suc j) true (y ∷ xs) .pending) (nextOf s v) (joined ys)
         → Hands s (v .size) (suc j) t (joined (y ∷ (xs ++ ys)))) (k .is)
         (first-hands s v (k .i) (k .c) (k .n) j xs ys g (k .unit) (k .rest) again) a b)
 
@@ -486,12 +538,14 @@ some-empty none h = let z : _≡_ {A = ℕ} 0 1 = cc in omega arith
 some-empty (some []) h = let z : _≡_ {A = ℕ} 0 1 = cc in omega arith
 some-empty (some (y ∷ ys)) h = let z : _≡_ {A = ℕ} 0 1 = cc in omega arith
 
-pub units-of : (f b r o : ℕ) (l : List ℕ) (x : Segment) (xs : List Segment) → units f b r o l ≡ some (x ∷ xs) → UnitsOf f r o l x xs
+pub units-of : (f b r o : ℕ) (l : List ℕ) (x : Segment) (xs : List Segment) → units f b r o l ≡ some (x ∷ xs)
+    → UnitsOf f r o l x xs
 unfolding units
 units-of f b r o l x xs =
     if-case P (leb (length l) b) _ none
     (λ _. if-case P (leb o (length l)) (someUnits (cut f r (drop o l))) none
-    (λ t q. record { long = leb-true o (length l) t; cuts = some-of (cut f r (drop o l)) x xs q }) (λ _ q. never q)) (λ _ q. never q)
+    (λ t q. record { long = leb-true o (length l) t; cuts = some-of (cut f r (drop o l)) x xs q }) (λ _ q. never q))
+    (λ _ q. never q)
   where
     P : Option (List Segment) → Type 0
     P c = c ≡ some (x ∷ xs) → UnitsOf f r o l x xs
@@ -503,7 +557,8 @@ pub units-empty : (f b r o : ℕ) (l : List ℕ) → units f b r o l ≡ some []
 unfolding units
 units-empty f b r o l =
     if-case P (leb (length l) b) _ none
-    (λ _. if-case P (leb o (length l)) (someUnits (cut f r (drop o l))) none (λ _ q. some-empty (cut f r (drop o l)) q) (λ _ q. never q)) (λ _ q. never q)
+    (λ _. if-case P (leb o (length l)) (someUnits (cut f r (drop o l))) none (λ _ q. some-empty (cut f r (drop o l)) q)
+    (λ _ q. never q)) (λ _ q. never q)
   where
     P : Option (List Segment) → Type 0
     P c = c ≡ some [] → ⊥
@@ -516,7 +571,8 @@ pub block-hands : (s : List ℕ) (w : Walk) (b start n q : ℕ) (ys : List Segme
     → blockOutcome (w .format) b (w .size) (w .offset) q (part start n s) .number ≡ 0
     → Hands s (w .size) (blockOutcome (w .format) b (w .size) (w .offset) q (part start n s) .pending)
     (unitIn s (opened w (dataFrom Data (start + n) (decode (drop (start + n) s))))) (joined ys)
-    → Hands s (w .size) q (unitIn s (opened w (Block start n))) (joined (segmentsOf (units (w .format) b (w .size) (w .offset) (part start n s)) ++ ys))
+    → Hands s (w .size) q (unitIn s (opened w (Block start n)))
+    (joined (segmentsOf (units (w .format) b (w .size) (w .offset) (part start n s)) ++ ys))
 unfolding blockOutcome turned segmentsOf unitIn opened outcome
 block-hands s w b start n q ys some' inside = by-units (units (w .format) b (w .size) (w .offset) (part start n s)) refl
   where
@@ -526,8 +582,10 @@ block-hands s w b start n q ys some' inside = by-units (units (w .format) b (w .
     long : length l ≡ n
     long = length-part start n s inside
 
-    by-units : (c : Option (List Segment)) → units (w .format) b (w .size) (w .offset) l ≡ c → turned (w .size) q true c .number ≡ 0
-        → Hands s (w .size) (turned (w .size) q true c .pending) (unitIn s (opened w (dataFrom Data (start + n) (decode (drop (start + n) s))))) (joined ys)
+    by-units : (c : Option (List Segment)) → units (w .format) b (w .size) (w .offset) l ≡ c
+        → turned (w .size) q true c .number ≡ 0
+        → Hands s (w .size) (turned (w .size) q true c .pending)
+        (unitIn s (opened w (dataFrom Data (start + n) (decode (drop (start + n) s))))) (joined ys)
         → Hands s (w .size) q (unitIn s (opened w (Block start n))) (joined (segmentsOf c ++ ys))
     by-units none e h k = absurd (eqb-false 7 0 refl h)
     by-units (some []) e h k = absurd (units-empty (w .format) b (w .size) (w .offset) l e)
@@ -541,7 +599,8 @@ block-hands s w b start n q ys some' inside = by-units (units (w .format) b (w .
         let next : unitIn s (opened w (dataFrom Data (start + n) (decode (drop (start + n) s)))) ≡ nextOf s v
         = ap (λ (m : ℕ). unitIn s (opened w (dataFrom Data m (decode (drop m s))))) (sym place)
         ∙ ap (unitIn s) (opened-lengths w v (dataFrom Data (v .at + v .left) (decode (drop (v .at + v .left) s))) refl refl refl) in
-        subst (λ (p : Place). Hands s (w .size) q (unitIn s p) (joined ((x ∷ xs) ++ ys))) (sym (if-true (leb (w .offset) n) (At v) Off (le-leb (w .offset) n fits)))
+        subst (λ (p : Place). Hands s (w .size) q (unitIn s p) (joined ((x ∷ xs) ++ ys)))
+        (sym (if-true (leb (w .offset) n) (At v) Off (le-leb (w .offset) n fits)))
         (units-hands s v q x xs ys good (ap (cut (w .format) (w .size)) left ∙ u .cuts) h
         (subst (λ (t : Taken). Hands s (w .size) (turnsFrom (w .size) q true (x ∷ xs) .pending) t (joined ys)) next k))
       where

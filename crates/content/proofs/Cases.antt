@@ -23,7 +23,8 @@ use Rattle.content.specs.declared.numbers.Stepped.{Stepped}
 abbrev recordWith : Verdict → ℕ → ℕ → ℕ → Located
 recordWith v joined start n = record { verdict = v; joined = joined; start = start; len = n }
 
-pub record-there : (f : Found) (start n : ℕ) (v : Verdict) → f ≡ InImage start n → v ≡ verdict 0 0 0 → recordWith v 0 start n ≡ recordOf f
+pub record-there : (f : Found) (start n : ℕ) (v : Verdict) → f ≡ InImage start n → v ≡ verdict 0 0 0
+    → recordWith v 0 start n ≡ recordOf f
 unfolding recordOf
 record-there f start n v e h = ap (λ (a : Verdict). recordWith a 0 start n) h ∙ sym (ap recordOf e)
 
@@ -38,7 +39,8 @@ record-none f v e = sym (ap recordOf e)
 abbrev beginningWith : Verdict → ℕ → ℕ → Walk → Beginning
 beginningWith v first second w = record { verdict = v; first = first; second = second; walk = w }
 
-pub begins : (b : Begun) (f : FileAt) (v : Verdict) → b ≡ At f → v ≡ verdict 0 0 0 → beginningWith v (f .first) (f .second) (f .walk) ≡ beginningOf b
+pub begins : (b : Begun) (f : FileAt) (v : Verdict) → b ≡ At f → v ≡ verdict 0 0 0
+    → beginningWith v (f .first) (f .second) (f .walk) ≡ beginningOf b
 unfolding beginningOf
 begins b f v e h = ap (λ (a : Verdict). beginningWith a (f .first) (f .second) (f .walk)) h ∙ sym (ap beginningOf e)
 
@@ -60,7 +62,8 @@ file-by x b r e h = h ∙ ap beginningOf e
 abbrev steppedWith : ℕ → ℕ → ℕ → ℕ → Walk → Stepped
 steppedWith number joined start n w = record { number = number; joined = joined; start = start; len = n; walk = w }
 
-pub step-there : (w : Walk) (x : Step) (start n : ℕ) (v : Walk) → x ≡ StepInImage start n v → steppedWith 0 0 start n v ≡ steppedOf w x
+pub step-there : (w : Walk) (x : Step) (start n : ℕ) (v : Walk) → x ≡ StepInImage start n v
+    → steppedWith 0 0 start n v ≡ steppedOf w x
 unfolding steppedOf
 step-there w x start n v e = sym (ap (steppedOf w) e)
 
@@ -72,7 +75,8 @@ pub step-none : (w : Walk) (x : Step) (k : ℕ) → x ≡ NoStep k → steppedWi
 unfolding steppedOf
 step-none w x k e = sym (ap (steppedOf w) e)
 
-pub ruleset cases = (record-there, record-here, record-none, begins, begins-not, file-there, file-nowhere, file-by, step-there, step-here, step-none, needs)
+pub ruleset cases =
+    (record-there, record-here, record-none, begins, begins-not, file-there, file-nowhere, file-by, step-there, step-here, step-none, needs)
 
 -- a promise of a case is one of its numbers
 pub said : {A B : Type 0} (numbers : A → B) (answer given : A) → answer ≡ given → Said numbers answer given

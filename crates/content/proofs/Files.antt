@@ -41,7 +41,8 @@ pub record Marking (s : List ℕ) (from at : ℕ) : Type 0 where
 pub marking-none : (s : List ℕ) (from : ℕ) → length s < 18446744073709551616 → Marking s from from
 marking-none s from h = record { room = h; same = refl }
 
-pub marking-block : (s : List ℕ) (from at n : ℕ) (p : Shape) → Marking s from at → p ≡ shape (drop at s) → p ≡ Bytes n → Marking s from (at + 3 + n)
+pub marking-block : (s : List ℕ) (from at n : ℕ) (p : Shape) → Marking s from at → p ≡ shape (drop at s) → p ≡ Bytes n
+    → Marking s from (at + 3 + n)
 unfolding markFrom placeBehind bytesIn
 marking-block s from at n p c e q =
     let w = block-within s at n p e q in
@@ -52,19 +53,22 @@ marking-block s from at n p c e q =
           ∙ sym (ap (markFrom at) (decode-block s at n p (omega arith) e q)) ∙ c .same;
     }
 
-pub marking-mark : (s : List ℕ) (from at : ℕ) (p : Shape) → Marking s from at → p ≡ shape (drop at s) → p ≡ Mark → at + 3 ≡ markFrom from (decode (drop from s))
+pub marking-mark : (s : List ℕ) (from at : ℕ) (p : Shape) → Marking s from at → p ≡ shape (drop at s) → p ≡ Mark
+    → at + 3 ≡ markFrom from (decode (drop from s))
 unfolding markFrom
 marking-mark s from at p c e q =
     let w = mark-within s at p e q in
     sym (ap (markFrom at) (decode-mark s at p (omega arith) e q)) ∙ c .same
 
-pub marking-reel-end : (s : List ℕ) (from at : ℕ) (p : Shape) → Marking s from at → p ≡ shape (drop at s) → p ≡ ReelEnd → at ≡ markFrom from (decode (drop from s))
+pub marking-reel-end : (s : List ℕ) (from at : ℕ) (p : Shape) → Marking s from at → p ≡ shape (drop at s) → p ≡ ReelEnd
+    → at ≡ markFrom from (decode (drop from s))
 unfolding markFrom
 marking-reel-end s from at p c e q =
     let w = reel-end-within s at p e q in
     sym (ap (markFrom at) (decode-reel-end s at p (omega arith) e q)) ∙ c .same
 
-pub marking-broken : (s : List ℕ) (from at : ℕ) (p : Shape) → Marking s from at → p ≡ shape (drop at s) → p ≡ Broken → at ≡ markFrom from (decode (drop from s))
+pub marking-broken : (s : List ℕ) (from at : ℕ) (p : Shape) → Marking s from at → p ≡ shape (drop at s) → p ≡ Broken
+    → at ≡ markFrom from (decode (drop from s))
 unfolding markFrom
 marking-broken s from at p c e q = by-end (decLt at (length s)) ∙ c .same
   where
@@ -75,7 +79,8 @@ marking-broken s from at p c e q = by-end (decLt at (length s)) ∙ c .same
 pub mark-fits : (s : List ℕ) (from at : ℕ) (p : Shape) → Marking s from at → p ≡ shape (drop at s) → p ≡ Mark → Fits w64 (at + 3)
 mark-fits s from at p c e q = record { fits = omega (arith, mark-within s at p e q, c .room) }
 
-pub block-falls : (s : List ℕ) (at n : ℕ) (p : Shape) → p ≡ shape (drop at s) → p ≡ Bytes n → length s - (at + 3 + n) < length s - at
+pub block-falls : (s : List ℕ) (at n : ℕ) (p : Shape) → p ≡ shape (drop at s) → p ≡ Bytes n
+    → length s - (at + 3 + n) < length s - at
 block-falls s at n p e q = omega (arith, block-within s at n p e q)
 
 pub ruleset markings =
@@ -83,7 +88,8 @@ pub ruleset markings =
 
 -- ---- up to a file
 
-pub file-made : (s : List ℕ) (hdr1 hdr2 m : ℕ) (l : List ℕ) (w : Walk) → l ≡ part hdr2 80 s → m ≡ markFrom (hdr2 + 80) (decode (drop (hdr2 + 80) s)) → w ≡ walkFrom l m
+pub file-made : (s : List ℕ) (hdr1 hdr2 m : ℕ) (l : List ℕ) (w : Walk) → l ≡ part hdr2 80 s
+    → m ≡ markFrom (hdr2 + 80) (decode (drop (hdr2 + 80) s)) → w ≡ walkFrom l m
     → _≡_ {A = FileAt} (record { first = hdr1; second = hdr2; walk = w }) (fileAt s hdr1 hdr2)
 file-made s hdr1 hdr2 m l w e f g = ap (λ (v : Walk). record { first = hdr1; second = hdr2; walk = v }) (g ∙ ap₂ walkFrom e f)
 
@@ -92,25 +98,30 @@ file-by : (s : List ℕ) (c : Position) (r : PartAt) → r ≡ firstFrom c false
 unfolding fileFrom fileIn
 file-by s c r e = ap (asFile s) (ap (λ (y : PartAt). y .part) e ∙ found-part c false false (partsAt s c))
 
-pub file-there : (s : List ℕ) (c : Position) (r : PartAt) (hdr1 hdr2 : ℕ) (f : FileAt) → r ≡ firstFrom c false false (partsAt s c) → r .part ≡ File hdr1 hdr2
+pub file-there : (s : List ℕ) (c : Position) (r : PartAt) (hdr1 hdr2 : ℕ) (f : FileAt) → r ≡ firstFrom c false false (partsAt s c)
+    → r .part ≡ File hdr1 hdr2
     → f ≡ fileAt s hdr1 hdr2 → At f ≡ fileFrom s c
 unfolding asFile
 file-there s c r hdr1 hdr2 f e q m = ap At m ∙ sym (ap (asFile s) q) ∙ file-by s c r e
 
-pub file-section : (s : List ℕ) (c : Position) (r : PartAt) (a b : ℕ) → r ≡ firstFrom c false false (partsAt s c) → r .part ≡ Section a b → Nowhere ≡ fileFrom s c
+pub file-section : (s : List ℕ) (c : Position) (r : PartAt) (a b : ℕ) → r ≡ firstFrom c false false (partsAt s c)
+    → r .part ≡ Section a b → Nowhere ≡ fileFrom s c
 unfolding asFile
 file-section s c r a b e q = sym (ap (asFile s) q) ∙ file-by s c r e
 
-pub file-block : (s : List ℕ) (c : Position) (r : PartAt) (start n : ℕ) → r ≡ firstFrom c false false (partsAt s c) → r .part ≡ Block start n → Nowhere ≡ fileFrom s c
+pub file-block : (s : List ℕ) (c : Position) (r : PartAt) (start n : ℕ) → r ≡ firstFrom c false false (partsAt s c)
+    → r .part ≡ Block start n → Nowhere ≡ fileFrom s c
 unfolding asFile
 file-block s c r start n e q = sym (ap (asFile s) q) ∙ file-by s c r e
 
-pub file-none : (s : List ℕ) (c : Position) (r : PartAt) → r ≡ firstFrom c false false (partsAt s c) → r .part ≡ None → Nowhere ≡ fileFrom s c
+pub file-none : (s : List ℕ) (c : Position) (r : PartAt) → r ≡ firstFrom c false false (partsAt s c) → r .part ≡ None
+    → Nowhere ≡ fileFrom s c
 unfolding asFile
 file-none s c r e q = sym (ap (asFile s) q) ∙ file-by s c r e
 
 -- the HDR2 of a file that is found lies in the image
-pub file-within : (s : List ℕ) (c : Position) (r : PartAt) (hdr1 hdr2 : ℕ) → r ≡ firstFrom c false false (partsAt s c) → r .part ≡ File hdr1 hdr2 → hdr2 + 80 ≤ length s
+pub file-within : (s : List ℕ) (c : Position) (r : PartAt) (hdr1 hdr2 : ℕ) → r ≡ firstFrom c false false (partsAt s c)
+    → r .part ≡ File hdr1 hdr2 → hdr2 + 80 ≤ length s
 file-within s c r hdr1 hdr2 e q =
     subst (IsAhead s (c .at)) (sym (ap (λ (y : PartAt). y .part) e ∙ found-part c false false (partsAt s c)) ∙ q)
     (first-ahead s false false (c .at) (c .hdr1) (c .phase) (c .continues)) .within
@@ -127,7 +138,8 @@ first-file s x e = e
 next-past : (s : List ℕ) (f : FileAt) → length s ≤ f .second + 80 → Nowhere ≡ nextFile s f
 unfolding nextFile fileFrom fileIn firstIn asFile partsFrom
 next-past s f h =
-    sym (ap (λ (xs : List Item). fileIn s (parts (stands (f .second + 80) (f .first) (Header 2) false) xs)) (decode-past s (f .second + 80) h))
+    sym (ap (λ (xs : List Item). fileIn s (parts (stands (f .second + 80) (f .first) (Header 2) false) xs))
+    (decode-past s (f .second + 80) h))
 
 pub next-outside : (s : List ℕ) (f : FileAt) → length s < f .second → Nowhere ≡ nextFile s f
 next-outside s f h = next-past s f (omega arith)
@@ -135,15 +147,18 @@ next-outside s f h = next-past s f (omega arith)
 pub next-cut : (s : List ℕ) (f : FileAt) → f .second ≤ length s → length s - f .second < 80 → Nowhere ≡ nextFile s f
 next-cut s f h k = next-past s f (omega arith)
 
-pub next-file : (s : List ℕ) (f : FileAt) (x : NextFile) → x ≡ fileFrom s (stands (f .second + 80) (f .first) (Header 2) false) → x ≡ nextFile s f
+pub next-file : (s : List ℕ) (f : FileAt) (x : NextFile) → x ≡ fileFrom s (stands (f .second + 80) (f .first) (Header 2) false)
+    → x ≡ nextFile s f
 unfolding nextFile
 next-file s f x e = e
 
-pub file-behind : (s : List ℕ) (f : FileAt) (at : ℕ) (x : NextFile) → x ≡ fileFrom s (stands at (f .first) Data false) → x ≡ fileBehind s f at
+pub file-behind : (s : List ℕ) (f : FileAt) (at : ℕ) (x : NextFile) → x ≡ fileFrom s (stands at (f .first) Data false)
+    → x ≡ fileBehind s f at
 unfolding fileBehind
 file-behind s f at x e = e
 
-pub behind-fits : (s : List ℕ) (f : FileAt) → length s < 18446744073709551616 → f .second ≤ length s → 80 ≤ length s - f .second → Fits w64 (f .second + 80)
+pub behind-fits : (s : List ℕ) (f : FileAt) → length s < 18446744073709551616 → f .second ≤ length s → 80 ≤ length s - f .second
+    → Fits w64 (f .second + 80)
 behind-fits s f h a b = record { fits = omega arith }
 
 pub ruleset follows = (first-file, next-outside, next-cut, next-file, file-behind, behind-fits, said, needs)
@@ -156,26 +171,30 @@ pub record Going (s : List ℕ) (from : FileAt) (files left : ℕ) (f : FileAt) 
 pub going-none : (s : List ℕ) (from : FileAt) (files : ℕ) → Going s from files files from
 going-none s from files = record { same = refl }
 
-going-one : (s : List ℕ) (left : ℕ) (f : FileAt) (x : NextFile) → 0 < left → x ≡ nextFile s f → filesOn s left f ≡ fromFile x (λ g. filesOn s (left - 1) g)
+going-one : (s : List ℕ) (left : ℕ) (f : FileAt) (x : NextFile) → 0 < left → x ≡ nextFile s f
+    → filesOn s left f ≡ fromFile x (λ g. filesOn s (left - 1) g)
 unfolding filesOn
 going-one s zero f x h e = absurd (omega arith)
 going-one s (suc k) f x h e =
     let l : k ≡ suc k - 1 = omega arith in
     ap₂ (λ (y : NextFile) (j : ℕ). fromFile y (λ g. filesOn s j g)) (sym e) l
 
-pub going-more : (s : List ℕ) (from : FileAt) (files left : ℕ) (f g : FileAt) (x : NextFile) → Going s from files left f → 0 < left → x ≡ nextFile s f → x ≡ At g
+pub going-more : (s : List ℕ) (from : FileAt) (files left : ℕ) (f g : FileAt) (x : NextFile) → Going s from files left f
+    → 0 < left → x ≡ nextFile s f → x ≡ At g
     → Going s from files (left - 1) g
 unfolding fromFile
 going-more s from files left f g x c h e q =
     record { same = sym (going-one s left f x h e ∙ ap (λ (y : NextFile). fromFile y (λ g. filesOn s (left - 1) g)) q) ∙ c .same }
 
-pub going-nowhere : (s : List ℕ) (from : FileAt) (files left : ℕ) (f : FileAt) (x : NextFile) → Going s from files left f → 0 < left → x ≡ nextFile s f → x ≡ Nowhere
+pub going-nowhere : (s : List ℕ) (from : FileAt) (files left : ℕ) (f : FileAt) (x : NextFile) → Going s from files left f
+    → 0 < left → x ≡ nextFile s f → x ≡ Nowhere
     → Nowhere ≡ filesOn s files from
 unfolding fromFile
 going-nowhere s from files left f x c h e q =
     sym (going-one s left f x h e ∙ ap (λ (y : NextFile). fromFile y (λ g. filesOn s (left - 1) g)) q) ∙ c .same
 
-pub going-all : (s : List ℕ) (from : FileAt) (files left : ℕ) (f : FileAt) → Going s from files left f → left ≤ 0 → At f ≡ filesOn s files from
+pub going-all : (s : List ℕ) (from : FileAt) (files left : ℕ) (f : FileAt) → Going s from files left f → left ≤ 0
+    → At f ≡ filesOn s files from
 unfolding filesOn
 going-all s from files zero f c h = c .same
 going-all s from files (suc k) f c h = absurd (omega arith)
@@ -186,7 +205,8 @@ pub numbered-zero : (s : List ℕ) (n : ℕ) → n ≡ 0 → Nowhere ≡ fileNum
 unfolding fileNumbered
 numbered-zero s n h = sym (if-true _ _ _ (eq-eqb n 0 h))
 
-from-first : (s : List ℕ) (n : ℕ) (x : NextFile) → (n ≡ 0 → ⊥) → x ≡ firstFile s → fromFile x (λ f. filesOn s (n - 1) f) ≡ fileNumbered s n
+from-first : (s : List ℕ) (n : ℕ) (x : NextFile) → (n ≡ 0 → ⊥) → x ≡ firstFile s
+    → fromFile x (λ f. filesOn s (n - 1) f) ≡ fileNumbered s n
 unfolding fileNumbered
 from-first s n x h e = ap (λ (y : NextFile). fromFile y (λ f. filesOn s (n - 1) f)) e ∙ sym (if-false _ _ _ (ne-eqb n 0 h))
 
@@ -194,7 +214,8 @@ pub numbered-none : (s : List ℕ) (n : ℕ) (x : NextFile) → (n ≡ 0 → ⊥
 unfolding fromFile
 numbered-none s n x h e q = ap (λ (y : NextFile). fromFile y (λ f. filesOn s (n - 1) f)) (sym q) ∙ from-first s n x h e
 
-pub numbered-on : (s : List ℕ) (n : ℕ) (x y : NextFile) (f : FileAt) → (n ≡ 0 → ⊥) → x ≡ firstFile s → x ≡ At f → y ≡ filesOn s (n - 1) f → y ≡ fileNumbered s n
+pub numbered-on : (s : List ℕ) (n : ℕ) (x y : NextFile) (f : FileAt) → (n ≡ 0 → ⊥) → x ≡ firstFile s → x ≡ At f
+    → y ≡ filesOn s (n - 1) f → y ≡ fileNumbered s n
 unfolding fromFile
 numbered-on s n x y f h e q m = m ∙ ap (λ (z : NextFile). fromFile z (λ f. filesOn s (n - 1) f)) (sym q) ∙ from-first s n x h e
 
@@ -217,7 +238,8 @@ unfolding filesOn fromFile
 on-next s zero f g e = let same : f ≡ g = cc in found-self (nextFile s f) ∙ ap (nextFile s) same
 on-next s (suc k) f g e = by-next (λ h q. on-next s k h g q) (nextFile s f) e
   where
-    by-next : ((h : FileAt) → filesOn s k h ≡ At g → filesOn s (suc k) h ≡ nextFile s g) → (x : NextFile) → fromFile x (λ h. filesOn s k h) ≡ At g
+    by-next : ((h : FileAt) → filesOn s k h ≡ At g → filesOn s (suc k) h ≡ nextFile s g) → (x : NextFile)
+        → fromFile x (λ h. filesOn s k h) ≡ At g
         → fromFile x (λ h. filesOn s (suc k) h) ≡ nextFile s g
     by-next again (At h) q = again h q
     by-next again Nowhere q = let z : _≡_ {A = ℕ} 0 1 = cc in absurd (omega arith)
@@ -227,9 +249,11 @@ pub numbered-next : (s : List ℕ) (n : ℕ) (f : FileAt) → fileNumbered s n �
 unfolding fromFile
 numbered-next s zero f e = let none : Nowhere ≡ fileNumbered s 0 = numbered-zero s 0 refl in let z : _≡_ {A = ℕ} 0 1 = cc in absurd (omega arith)
 numbered-next s (suc k) f e =
-    by-first (firstFile s) (from-first s (suc k) (firstFile s) (λ z. omega arith) refl ∙ e) ∙ from-first s (suc k + 1) (firstFile s) (λ z. omega arith) refl
+    by-first (firstFile s) (from-first s (suc k) (firstFile s) (λ z. omega arith) refl ∙ e)
+    ∙ from-first s (suc k + 1) (firstFile s) (λ z. omega arith) refl
   where
-    by-first : (x : NextFile) → fromFile x (λ h. filesOn s (suc k - 1) h) ≡ At f → nextFile s f ≡ fromFile x (λ h. filesOn s (suc k + 1 - 1) h)
+    by-first : (x : NextFile) → fromFile x (λ h. filesOn s (suc k - 1) h) ≡ At f
+        → nextFile s f ≡ fromFile x (λ h. filesOn s (suc k + 1 - 1) h)
     by-first (At h) q =
         let here : suc k - 1 ≡ k = omega arith in
         let behind : suc k ≡ suc k + 1 - 1 = omega arith in

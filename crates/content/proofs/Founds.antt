@@ -36,12 +36,14 @@ unfolding begunAt
 begin-refused s n v e h =
     ap NotBegun e ∙ sym (if-false _ _ _ (ne-eqb (imageVerdict s .number) 0 (λ z. h (ap (λ (x : Verdict). x .number) e ∙ z))))
 
-begun-by : (s : List ℕ) (n : ℕ) (v : Verdict) (x : NextFile) → v ≡ imageVerdict s → v .number ≡ 0 → x ≡ fileNumbered s n → begunBy x ≡ begunAt s n
+begun-by : (s : List ℕ) (n : ℕ) (v : Verdict) (x : NextFile) → v ≡ imageVerdict s → v .number ≡ 0 → x ≡ fileNumbered s n
+    → begunBy x ≡ begunAt s n
 unfolding begunAt
 begun-by s n v x e h k =
     ap begunBy k ∙ sym (if-true _ _ _ (eq-eqb (imageVerdict s .number) 0 (ap (λ (x : Verdict). x .number) (sym e) ∙ h)))
 
-pub begin-done : (s : List ℕ) (n : ℕ) (v : Verdict) (x : NextFile) (b : Begun) → v ≡ imageVerdict s → v .number ≡ 0 → x ≡ fileNumbered s n → b ≡ begunBy x
+pub begin-done : (s : List ℕ) (n : ℕ) (v : Verdict) (x : NextFile) (b : Begun) → v ≡ imageVerdict s → v .number ≡ 0
+    → x ≡ fileNumbered s n → b ≡ begunBy x
     → b ≡ begunAt s n
 begin-done s n v x b e h k q = q ∙ begun-by s n v x e h k
 
@@ -55,7 +57,8 @@ pub record RecordsBehind (s : List ℕ) (from : Walk) (records left : ℕ) (w : 
 pub passed-none : (s : List ℕ) (from : Walk) (records : ℕ) → RecordsBehind s from records records from
 passed-none s from records = record { same = refl }
 
-passed-one : (s : List ℕ) (left : ℕ) (w : Walk) → 0 < left → passed s left w ≡ passedBy (recordAt s w) (λ v. passed s (left - 1) v)
+passed-one : (s : List ℕ) (left : ℕ) (w : Walk) → 0 < left
+    → passed s left w ≡ passedBy (recordAt s w) (λ v. passed s (left - 1) v)
 unfolding passed
 passed-one s zero w h = absurd (omega arith)
 passed-one s (suc k) w h = let e : k ≡ suc k - 1 = omega arith in ap (λ (j : ℕ). passedBy (recordAt s w) (λ v. passed s j v)) e
@@ -78,22 +81,29 @@ by-nothing (whole a m u) f e = let z : _≡_ {A = ℕ} 0 1 = cc in absurd (omega
 by-nothing (split bs u) f e = let z : _≡_ {A = ℕ} 0 1 = cc in absurd (omega arith)
 by-nothing nothing f e = refl
 
-pub passed-whole : (s : List ℕ) (from : Walk) (records left : ℕ) (w : Walk) (start n : ℕ) (v : Walk) (m : Measured) → RecordsBehind s from records left w → 0 < left
+pub passed-whole : (s : List ℕ) (from : Walk) (records left : ℕ) (w : Walk) (start n : ℕ) (v : Walk) (m : Measured)
+    → RecordsBehind s from records left w → 0 < left
     → m ≡ measuredBy (recordAt s w) → m ≡ Whole start n v → RecordsBehind s from records (left - 1) v
 passed-whole s from records left w start n v m c h e q =
-    record { same = sym (passed-one s left w h ∙ by-whole start n v (recordAt s w) (λ u. passed s (left - 1) u) (sym e ∙ q)) ∙ c .same }
+    record {
+      same = sym (passed-one s left w h ∙ by-whole start n v (recordAt s w) (λ u. passed s (left - 1) u) (sym e ∙ q))
+          ∙ c .same;
+    }
 
-pub passed-split : (s : List ℕ) (from : Walk) (records left : ℕ) (w : Walk) (n : ℕ) (v : Walk) (m : Measured) → RecordsBehind s from records left w → 0 < left
+pub passed-split : (s : List ℕ) (from : Walk) (records left : ℕ) (w : Walk) (n : ℕ) (v : Walk) (m : Measured)
+    → RecordsBehind s from records left w → 0 < left
     → m ≡ measuredBy (recordAt s w) → m ≡ Split n v → RecordsBehind s from records (left - 1) v
 passed-split s from records left w n v m c h e q =
     record { same = sym (passed-one s left w h ∙ by-split n v (recordAt s w) (λ u. passed s (left - 1) u) (sym e ∙ q)) ∙ c .same }
 
-pub passed-nothing : (s : List ℕ) (from : Walk) (records left : ℕ) (w : Walk) (m : Measured) → RecordsBehind s from records left w → 0 < left
+pub passed-nothing : (s : List ℕ) (from : Walk) (records left : ℕ) (w : Walk) (m : Measured) → RecordsBehind s from records left w
+    → 0 < left
     → m ≡ measuredBy (recordAt s w) → m ≡ Nothing → Nowhere ≡ passed s records from
 passed-nothing s from records left w m c h e q =
     sym (passed-one s left w h ∙ by-nothing (recordAt s w) (λ u. passed s (left - 1) u) (sym e ∙ q)) ∙ c .same
 
-pub passed-all : (s : List ℕ) (from : Walk) (records left : ℕ) (w : Walk) → RecordsBehind s from records left w → left ≤ 0 → Behind w ≡ passed s records from
+pub passed-all : (s : List ℕ) (from : Walk) (records left : ℕ) (w : Walk) → RecordsBehind s from records left w → left ≤ 0
+    → Behind w ≡ passed s records from
 unfolding passed
 passed-all s from records zero w c h = c .same
 passed-all s from records (suc k) w c h = absurd (omega arith)
@@ -134,11 +144,13 @@ pub from-no : (s : List ℕ) (r room : ℕ) (b : Begun) (v : Verdict) → b ≡ 
 unfolding foundFrom
 from-no s r room b v e = sym (ap (foundFrom s r room) e)
 
-pub from-zero : (s : List ℕ) (r room : ℕ) (b : Begun) (g : FileAt) (a : Verdict) → b ≡ At g → r ≡ 0 → a ≡ verdict 13 0 0 → No a ≡ foundFrom s r room b
+pub from-zero : (s : List ℕ) (r room : ℕ) (b : Begun) (g : FileAt) (a : Verdict) → b ≡ At g → r ≡ 0 → a ≡ verdict 13 0 0
+    → No a ≡ foundFrom s r room b
 unfolding foundFrom
 from-zero s r room b g a e z h = ap No h ∙ sym (ap (foundFrom s r room) e ∙ if-true _ _ _ (eq-eqb r 0 z))
 
-pub from-at : (s : List ℕ) (r room : ℕ) (b : Begun) (g : FileAt) (p : Place) (f : Found) → b ≡ At g → (r ≡ 0 → ⊥) → p ≡ passed s (r - 1) (g .walk) → f ≡ foundIn s room p
+pub from-at : (s : List ℕ) (r room : ℕ) (b : Begun) (g : FileAt) (p : Place) (f : Found) → b ≡ At g → (r ≡ 0 → ⊥)
+    → p ≡ passed s (r - 1) (g .walk) → f ≡ foundIn s room p
     → f ≡ foundFrom s r room b
 unfolding foundFrom
 from-at s r room b g p f e z h k = k ∙ ap (foundIn s room) h ∙ sym (ap (foundFrom s r room) e ∙ if-false _ _ _ (ne-eqb r 0 z))
@@ -151,12 +163,14 @@ pub kept-zero : (s old : List ℕ) (r : ℕ) (b : Begun) (g : FileAt) → b ≡ 
 unfolding leftFrom
 kept-zero s old r b g e z = sym (ap (leftFrom s r old) e ∙ if-true _ _ _ (eq-eqb r 0 z))
 
-pub left-from : (s old new : List ℕ) (r : ℕ) (b : Begun) (g : FileAt) (p : Place) → b ≡ At g → (r ≡ 0 → ⊥) → p ≡ passed s (r - 1) (g .walk) → new ≡ leftIn s old p
+pub left-from : (s old new : List ℕ) (r : ℕ) (b : Begun) (g : FileAt) (p : Place) → b ≡ At g → (r ≡ 0 → ⊥)
+    → p ≡ passed s (r - 1) (g .walk) → new ≡ leftIn s old p
     → new ≡ leftFrom s r old b
 unfolding leftFrom
 left-from s old new r b g p e z h k = k ∙ ap (leftIn s old) h ∙ sym (ap (leftFrom s r old) e ∙ if-false _ _ _ (ne-eqb r 0 z))
 
-pub found-at : (s : List ℕ) (n r room : ℕ) (b : Begun) (f : Found) → b ≡ begunAt s n → f ≡ foundFrom s r room b → f ≡ foundAt s n r room
+pub found-at : (s : List ℕ) (n r room : ℕ) (b : Begun) (f : Found) → b ≡ begunAt s n → f ≡ foundFrom s r room b
+    → f ≡ foundAt s n r room
 unfolding foundAt
 found-at s n r room b f e h = h ∙ ap (foundFrom s r room) e
 
@@ -169,7 +183,8 @@ pub ruleset founds =
 
 -- ---- the part itself
 
-pub part-there : (s join : List ℕ) (f : Found) (start n : ℕ) (l : List ℕ) → f ≡ There start n → l ≡ part start n s → l ≡ partOf s join f
+pub part-there : (s join : List ℕ) (f : Found) (start n : ℕ) (l : List ℕ) → f ≡ There start n → l ≡ part start n s
+    → l ≡ partOf s join f
 unfolding partOf
 part-there s join f start n l e h = h ∙ sym (ap (partOf s join) e)
 

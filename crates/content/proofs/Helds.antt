@@ -1,4 +1,5 @@
--- Laws of what a file holds: the equations of `heldFrom`, the loop over its blocks, and that on an accepted image it is what the records come to.
+-- Laws of what a file holds: the equations of `heldFrom`, the loop over its blocks, and that on an accepted image it is what the
+-- records come to.
 -- Assumes nothing.
 use mathlib.Core.Path.{_≡_, refl, sym, ap, _∙_, subst}
 use mathlib.Core.Bool.{Bool, true, false}
@@ -42,7 +43,8 @@ use Rattle.content.proofs.Blocks.{Hands, turns-shut, joined-whole, join
 
 -- ---- the equations
 
-same-by : (s : List ℕ) (f r o at : ℕ) (x : Extent) (g h : ℕ → FileHeld) → ((start n : ℕ) → x ≡ Block start n → g (start + n) ≡ h (start + n))
+same-by : (s : List ℕ) (f r o at : ℕ) (x : Extent) (g h : ℕ → FileHeld)
+    → ((start n : ℕ) → x ≡ Block start n → g (start + n) ≡ h (start + n))
     → heldBy s f r o at x g ≡ heldBy s f r o at x h
 unfolding heldBy
 same-by s f r o at (Block start n) g h e = ap (adding (heldIn f r o (part start n s))) (e start n refl)
@@ -60,20 +62,24 @@ enough (suc j) (suc k) s f r o at a b =
     enough j k s f r o (start + n) (omega (arith, c .onward, c .within)) (omega (arith, c .onward, c .within)))
 
 -- what is held from a place on, by the next data block
-pub held-at : (s : List ℕ) (f r o at : ℕ) → heldFrom s f r o at ≡ heldBy s f r o at (dataFrom Data at (decode (drop at s))) (λ i. heldFrom s f r o i)
+pub held-at : (s : List ℕ) (f r o at : ℕ)
+    → heldFrom s f r o at ≡ heldBy s f r o at (dataFrom Data at (decode (drop at s))) (λ i. heldFrom s f r o i)
 unfolding heldFrom heldF
 held-at s f r o at =
-    same-by s f r o at (dataFrom Data at (decode (drop at s))) (λ i. heldF (length s) s f r o i) (λ i. heldF (suc (length s)) s f r o i)
+    same-by s f r o at (dataFrom Data at (decode (drop at s))) (λ i. heldF (length s) s f r o i)
+    (λ i. heldF (suc (length s)) s f r o i)
     (λ start n e.
     let c = data-within s Data at start n e in
-    enough (length s) (suc (length s)) s f r o (start + n) (omega (arith, c .onward, c .within)) (omega (arith, c .onward, c .within)))
+    enough (length s) (suc (length s)) s f r o (start + n) (omega (arith, c .onward, c .within))
+    (omega (arith, c .onward, c .within)))
 
 held-block : (s : List ℕ) (f r o at start n : ℕ) → dataFrom Data at (decode (drop at s)) ≡ Block start n
     → heldFrom s f r o at ≡ adding (heldIn f r o (part start n s)) (heldFrom s f r o (start + n))
 unfolding heldBy
 held-block s f r o at start n e = held-at s f r o at ∙ ap (λ (x : Extent). heldBy s f r o at x (λ i. heldFrom s f r o i)) e
 
-held-over : (s : List ℕ) (f r o at : ℕ) → dataFrom Data at (decode (drop at s)) ≡ Nowhere → heldFrom s f r o at ≡ record { held = empty; end = at }
+held-over : (s : List ℕ) (f r o at : ℕ) → dataFrom Data at (decode (drop at s)) ≡ Nowhere
+    → heldFrom s f r o at ≡ record { held = empty; end = at }
 unfolding heldBy
 held-over s f r o at e = held-at s f r o at ∙ ap (λ (x : Extent). heldBy s f r o at x (λ i. heldFrom s f r o i)) e
 
@@ -104,7 +110,8 @@ adding-two h k x =
     let e : h .offset + k .offset + y .offset ≡ h .offset + (k .offset + y .offset) = omega arith in
     λ i. record { held = record { records = a i; bytes = b i; words = c i; padding = d i; offset = e i }; end = x .end }
 
-adding-over : (h : Held) (at : ℕ) → _≡_ {A = FileHeld} (record { held = h; end = at }) (adding h (record { held = empty; end = at }))
+adding-over : (h : Held) (at : ℕ)
+    → _≡_ {A = FileHeld} (record { held = h; end = at }) (adding h (record { held = empty; end = at }))
 adding-over h at =
     let a : h .records ≡ h .records + 0 = omega arith in
     let b : h .bytes ≡ h .bytes + 0 = omega arith in
@@ -119,7 +126,13 @@ summing-none s w h l e =
     let a : h .records ≡ 0 = ap (λ (k : Held). k .records) e in
     let b : total h ≡ 0 = ap (λ (k : Held). total k) e in
     let x = heldFrom s (w .format) (w .size) (w .offset) (w .at) in
-    record { room = l; records = omega (arith, a); bytes = omega (arith, b); left = ap (λ (k : Held). adding k x) e ∙ adding-none x }
+    record {
+      room = l;
+      records = omega (arith, a);
+      bytes = omega (arith, b);
+      left = ap (λ (k : Held). adding k x) e
+          ∙ adding-none x;
+    }
 
 -- the block that was found, and what it holds
 record More (s : List ℕ) (w : Walk) (h : Held) (at start n : ℕ) (k : Held) : Type 0 where
@@ -127,7 +140,8 @@ record More (s : List ℕ) (w : Walk) (h : Held) (at start n : ℕ) (k : Held) :
   is : k ≡ heldIn (w .format) (w .size) (w .offset) (part start n s)
   fits : Fitting k n
 
-more-of : (s : List ℕ) (w : Walk) (h : Held) (at start n : ℕ) (x : Extent) (k : Held) → x ≡ dataFrom Data at (decode (drop at s)) → x ≡ Block start n
+more-of : (s : List ℕ) (w : Walk) (h : Held) (at start n : ℕ) (x : Extent) (k : Held) → x ≡ dataFrom Data at (decode (drop at s))
+    → x ≡ Block start n
     → k ≡ heldIn (w .format) (w .size) (w .offset) (take (start + n - start) (drop start s)) → More s w h at start n k
 more-of s w h at start n x k e q p =
     let c = data-within s Data at start n (sym e ∙ q) in
@@ -136,11 +150,14 @@ more-of s w h at start n x k e q p =
       ahead = c;
       is = is;
       fits = subst (Fitting k) (length-part start n s (c .within))
-          (subst (λ (y : Held). Fitting y (length (part start n s))) (sym is) (held-fits (w .format) (w .size) (w .offset) (part start n s)));
+          (subst (λ (y : Held). Fitting y (length (part start n s))) (sym is)
+          (held-fits (w .format) (w .size) (w .offset) (part start n s)));
     }
 
-pub summing-more : (s : List ℕ) (w : Walk) (h : Held) (at start n : ℕ) (x : Extent) (k g : Held) → Summing s w h at → x ≡ dataFrom Data at (decode (drop at s))
-    → x ≡ Block start n → k ≡ heldIn (w .format) (w .size) (w .offset) (take (start + n - start) (drop start s)) → g ≡ plus h k → Summing s w g (start + n)
+pub summing-more : (s : List ℕ) (w : Walk) (h : Held) (at start n : ℕ) (x : Extent) (k g : Held) → Summing s w h at
+    → x ≡ dataFrom Data at (decode (drop at s))
+    → x ≡ Block start n → k ≡ heldIn (w .format) (w .size) (w .offset) (take (start + n - start) (drop start s)) → g ≡ plus h k
+    → Summing s w g (start + n)
 summing-more s w h at start n x k g c e q p t =
     let m = more-of s w h at start n x k e q p in
     let a : g .records ≡ h .records + k .records = ap (λ (y : Held). y .records) t in
@@ -155,13 +172,16 @@ summing-more s w h at start n x k g c e q p t =
           ∙ ap (adding h) (sym (held-block s (w .format) (w .size) (w .offset) at start n (sym e ∙ q))) ∙ c .left;
     }
 
-pub summing-over : (s : List ℕ) (w : Walk) (h : Held) (at : ℕ) (x : Extent) → Summing s w h at → x ≡ dataFrom Data at (decode (drop at s)) → x ≡ Nowhere
+pub summing-over : (s : List ℕ) (w : Walk) (h : Held) (at : ℕ) (x : Extent) → Summing s w h at
+    → x ≡ dataFrom Data at (decode (drop at s)) → x ≡ Nowhere
     → _≡_ {A = FileHeld} (record { held = h; end = at }) (fileHeld s w)
 summing-over s w h at x c e q =
     adding-over h at ∙ ap (adding h) (sym (held-over s (w .format) (w .size) (w .offset) at (sym e ∙ q))) ∙ c .left
 
-pub sum-room : (s : List ℕ) (w : Walk) (h : Held) (at start n : ℕ) (x : Extent) (k : Held) → Summing s w h at → x ≡ dataFrom Data at (decode (drop at s))
-    → x ≡ Block start n → k ≡ heldIn (w .format) (w .size) (w .offset) (take (start + n - start) (drop start s)) → InRegister (plus h k)
+pub sum-room : (s : List ℕ) (w : Walk) (h : Held) (at start n : ℕ) (x : Extent) (k : Held) → Summing s w h at
+    → x ≡ dataFrom Data at (decode (drop at s))
+    → x ≡ Block start n → k ≡ heldIn (w .format) (w .size) (w .offset) (take (start + n - start) (drop start s))
+    → InRegister (plus h k)
 sum-room s w h at start n x k c e q p =
     let m = more-of s w h at start n x k e q p in
     record {
@@ -169,21 +189,25 @@ sum-room s w h at start n x k c e q p =
       bytes = omega (arith, c .room, c .bytes, m .fits .bytes, m .ahead .onward, m .ahead .within);
     }
 
-pub block-end : (s : List ℕ) (at start n : ℕ) (x : Extent) → x ≡ dataFrom Data at (decode (drop at s)) → x ≡ Block start n → start + n ≤ length s
+pub block-end : (s : List ℕ) (at start n : ℕ) (x : Extent) → x ≡ dataFrom Data at (decode (drop at s)) → x ≡ Block start n
+    → start + n ≤ length s
 block-end s at start n x e q = data-within s Data at start n (sym e ∙ q) .within
 
-pub block-fits : (s : List ℕ) (at start n : ℕ) (x : Extent) → length s < 18446744073709551616 → x ≡ dataFrom Data at (decode (drop at s)) → x ≡ Block start n
+pub block-fits : (s : List ℕ) (at start n : ℕ) (x : Extent) → length s < 18446744073709551616
+    → x ≡ dataFrom Data at (decode (drop at s)) → x ≡ Block start n
     → Fits w64 (start + n)
 block-fits s at start n x h e q = omega (arith, block-end s at start n x e q)
 
-pub block-falls : (s : List ℕ) (at start n : ℕ) (x : Extent) → x ≡ dataFrom Data at (decode (drop at s)) → x ≡ Block start n → length s - (start + n) < length s - at
+pub block-falls : (s : List ℕ) (at start n : ℕ) (x : Extent) → x ≡ dataFrom Data at (decode (drop at s)) → x ≡ Block start n
+    → length s - (start + n) < length s - at
 block-falls s at start n x e q = let c = data-within s Data at start n (sym e ∙ q) in omega (arith, c .onward, c .within)
 
 pub ruleset summings = (summing-none, summing-more, summing-over, sum-room, block-end, block-fits, block-falls, needs)
 
 -- ---- the place where the data ends: inside the image, and from there on the same file follows
 
-pub held-end : (s : List ℕ) (f r o at : ℕ) → at ≤ length s → (heldFrom s f r o at .end ≤ length s) × Leads s at (heldFrom s f r o at .end)
+pub held-end : (s : List ℕ) (f r o at : ℕ) → at ≤ length s
+    → (heldFrom s f r o at .end ≤ length s) × Leads s at (heldFrom s f r o at .end)
 held-end s f r o at = by-place s P each at
   where
     P : ℕ → Type 0
@@ -192,7 +216,8 @@ held-end s f r o at = by-place s P each at
     each : (i : ℕ) → ((m : ℕ) → i < m → m ≤ length s → P m) → P i
     each i again h = by-block (dataFrom Data i (decode (drop i s))) refl
       where
-        by-block : (x : Extent) → dataFrom Data i (decode (drop i s)) ≡ x → (heldFrom s f r o i .end ≤ length s) × Leads s i (heldFrom s f r o i .end)
+        by-block : (x : Extent) → dataFrom Data i (decode (drop i s)) ≡ x
+            → (heldFrom s f r o i .end ≤ length s) × Leads s i (heldFrom s f r o i .end)
         by-block (Block start n) e =
             let c = data-within s Data i start n e in
             let (a, b) = again (start + n) (omega (arith, c .onward)) (c .within) (c .within) in
@@ -206,7 +231,8 @@ held-end s f r o at = by-place s P each at
 pub held-within : (s : List ℕ) (f r o at : ℕ) → Fitting (heldFrom s f r o at .held) (length s - at)
 held-within s f r o at = by-place s (λ (i : ℕ). Fitting (heldFrom s f r o i .held) (length s - i)) each at
   where
-    each : (i : ℕ) → ((m : ℕ) → i < m → m ≤ length s → Fitting (heldFrom s f r o m .held) (length s - m)) → Fitting (heldFrom s f r o i .held) (length s - i)
+    each : (i : ℕ) → ((m : ℕ) → i < m → m ≤ length s → Fitting (heldFrom s f r o m .held) (length s - m))
+        → Fitting (heldFrom s f r o i .held) (length s - i)
     each i again = by-block (dataFrom Data i (decode (drop i s))) refl
       where
         by-block : (x : Extent) → dataFrom Data i (decode (drop i s)) ≡ x → Fitting (heldFrom s f r o i .held) (length s - i)
@@ -221,7 +247,8 @@ held-within s f r o at = by-place s (λ (i : ℕ). Fitting (heldFrom s f r o i .
               bytes = omega (arith, here .bytes, rest .bytes, long, c .onward, c .within);
             })
         by-block Nowhere e =
-            subst (λ (x : FileHeld). Fitting (x .held) (length s - i)) (sym (held-over s f r o i e)) (record { records = omega arith; bytes = omega arith })
+            subst (λ (x : FileHeld). Fitting (x .held) (length s - i)) (sym (held-over s f r o i e))
+            (record { records = omega arith; bytes = omega arith })
 
 -- ---- the records that segments in turn are joined to, counted
 
@@ -243,7 +270,8 @@ joined-bytes (x ∷ xs) ys =
     let first : sum (map length (onFirst (x .bytes) (joined (xs ++ ys)))) ≡ length (x .bytes) + segmentBytes xs + sum (map length (joined ys))
     = omega (arith, again, sum-first (x .bytes) (joined (xs ++ ys))) in
     if-case P (eqb (x .indicator) 1) (onFirst (x .bytes) (joined (xs ++ ys))) _ (λ _. first)
-    (λ _. if-case P (eqb (x .indicator) 2) (onFirst (x .bytes) (joined (xs ++ ys))) (x .bytes ∷ joined (xs ++ ys)) (λ _. first) (λ _. omega (arith, again)))
+    (λ _. if-case P (eqb (x .indicator) 2) (onFirst (x .bytes) (joined (xs ++ ys))) (x .bytes ∷ joined (xs ++ ys)) (λ _. first)
+    (λ _. omega (arith, again)))
   where
     P : List (List ℕ) → Type 0
     P rs = sum (map length rs) ≡ length (x .bytes) + segmentBytes xs + sum (map length (joined ys))
@@ -253,7 +281,8 @@ abbrev Goes : ℕ → List Segment → Type 0
 Goes q ys = (q ≡ 0 → ⊥) → joined ys ≡ [] → ⊥
 
 -- a segment that leaves its record open is the last of its block
-last-open : (r k : ℕ) (x : Segment) (xs ys : List Segment) → turnsFrom r (suc k) false xs .number ≡ 0 → Goes (turnsFrom r (suc k) false xs .pending) ys
+last-open : (r k : ℕ) (x : Segment) (xs ys : List Segment) → turnsFrom r (suc k) false xs .number ≡ 0
+    → Goes (turnsFrom r (suc k) false xs .pending) ys
     → joined (x ∷ (xs ++ ys)) ≡ onFirst (x .bytes) (joined (xs ++ ys)) → endsWith (x .indicator) ≡ 0
     → length (joined (x ∷ (xs ++ ys))) ≡ recordsEnding (x ∷ xs) + length (joined ys)
 unfolding recordsEnding sum
@@ -265,12 +294,14 @@ last-open r k x xs ys h g e z =
     let ending : sum (map (λ (y : Segment). endsWith (y .indicator)) xs) ≡ 0 = ap (λ (zs : List Segment). sum (map (λ (y : Segment). endsWith (y .indicator)) zs)) none' in
     ap length e ∙ ap (λ (rs : List (List ℕ)). length (onFirst (x .bytes) rs)) rest ∙ long ∙ omega (arith, ending, z)
 
-joined-number : (r : ℕ) (xs ys : List Segment) (q : ℕ) (head : Bool) → turnsFrom r q head xs .number ≡ 0 → Goes (turnsFrom r q head xs .pending) ys
+joined-number : (r : ℕ) (xs ys : List Segment) (q : ℕ) (head : Bool) → turnsFrom r q head xs .number ≡ 0
+    → Goes (turnsFrom r q head xs .pending) ys
     → length (joined (xs ++ ys)) ≡ recordsEnding xs + length (joined ys)
 unfolding turnsFrom outcome recordsEnding sum
 joined-number r [] ys q head = λ h g. omega arith
 joined-number r (x ∷ xs) ys q head =
-    if-case P (isTurn r q head (x .indicator) (length (x .bytes))) (turnsFrom r (openAfter q (x .indicator) (length (x .bytes))) false xs) (outcome 8 0)
+    if-case P (isTurn r q head (x .indicator) (length (x .bytes)))
+    (turnsFrom r (openAfter q (x .indicator) (length (x .bytes))) false xs) (outcome 8 0)
     (λ t. by-one (eqb (x .indicator) 1) refl (eqb (x .indicator) 2) refl (in-turn r q head (x .indicator) (length (x .bytes)) t)
     (λ h g. joined-number r xs ys (openAfter q (x .indicator) (length (x .bytes))) false h g))
     (λ _ z. absurd (eqb-false 8 0 refl z))
@@ -282,9 +313,13 @@ joined-number r (x ∷ xs) ys q head =
     n = length (x .bytes)
 
     P : Outcome → Type 0
-    P o = o .number ≡ 0 → Goes (o .pending) ys → length (joined (x ∷ (xs ++ ys))) ≡ endsWith (x .indicator) + sum (map (λ (y : Segment). endsWith (y .indicator)) xs) + length (joined ys)
+    P o =
+        o .number ≡ 0 → Goes (o .pending) ys
+        → length (joined (x ∷ (xs ++ ys)))
+        ≡ endsWith (x .indicator) + sum (map (λ (y : Segment). endsWith (y .indicator)) xs) + length (joined ys)
 
-    open-by : (k : ℕ) → openAfter q i n ≡ suc k → joined (x ∷ (xs ++ ys)) ≡ onFirst (x .bytes) (joined (xs ++ ys)) → endsWith i ≡ 0
+    open-by : (k : ℕ) → openAfter q i n ≡ suc k → joined (x ∷ (xs ++ ys)) ≡ onFirst (x .bytes) (joined (xs ++ ys))
+        → endsWith i ≡ 0
         → P (turnsFrom r (openAfter q i n) false xs)
     open-by k e j z = subst (λ (o : ℕ). P (turnsFrom r o false xs)) (sym e) (λ h g. unfold recordsEnding sum in last-open r k x xs ys h g j z)
 
@@ -298,7 +333,8 @@ joined-number r (x ∷ xs) ys q head =
         let other = eqb-false i 1 a in
         let two = eqb-true i 2 d in
         let some' : q ≡ suc (q - 1) = omega arith in
-        open-by (q - 1 + n) (ap (λ (k : ℕ). openAfter k i n) some' ∙ open-two (q - 1) i n other two) (joined-two x (xs ++ ys) other two) (ends-still i other two)
+        open-by (q - 1 + n) (ap (λ (k : ℕ). openAfter k i n) some' ∙ open-two (q - 1) i n other two)
+        (joined-two x (xs ++ ys) other two) (ends-still i other two)
     by-one false a false d t again = λ h g.
         let one = eqb-false i 1 a in
         let two = eqb-false i 2 d in
@@ -315,10 +351,15 @@ pub record Sums (h : Held) (rs : List (List ℕ)) : Type 0 where
 abbrev pub nextHeld : List ℕ → Walk → Extent → Held
 nextHeld s w x = heldBy s (w .format) (w .size) (w .offset) 0 x (λ i. heldFrom s (w .format) (w .size) (w .offset) i) .held
 
-pub held-next : (s : List ℕ) (w : Walk) (at : ℕ) → heldFrom s (w .format) (w .size) (w .offset) at .held ≡ nextHeld s w (dataFrom Data at (decode (drop at s)))
-held-next s w at = ap (λ (x : FileHeld). x .held) (held-at s (w .format) (w .size) (w .offset) at) ∙ anywhere (dataFrom Data at (decode (drop at s)))
+pub held-next : (s : List ℕ) (w : Walk) (at : ℕ)
+    → heldFrom s (w .format) (w .size) (w .offset) at .held ≡ nextHeld s w (dataFrom Data at (decode (drop at s)))
+held-next s w at =
+    ap (λ (x : FileHeld). x .held) (held-at s (w .format) (w .size) (w .offset) at)
+    ∙ anywhere (dataFrom Data at (decode (drop at s)))
   where
-    anywhere : (x : Extent) → heldBy s (w .format) (w .size) (w .offset) at x (λ i. heldFrom s (w .format) (w .size) (w .offset) i) .held ≡ nextHeld s w x
+    anywhere : (x : Extent)
+        → heldBy s (w .format) (w .size) (w .offset) at x (λ i. heldFrom s (w .format) (w .size) (w .offset) i) .held
+        ≡ nextHeld s w x
     anywhere (Block start n) = unfold heldBy in refl
     anywhere Nowhere = unfold heldBy in refl
 
@@ -345,8 +386,10 @@ block-sums s w b start n q ys t = by-units (units (w .format) b (w .size) (w .of
     l : List ℕ
     l = part start n s
 
-    by-units : (c : Option (List Segment)) → units (w .format) b (w .size) (w .offset) l ≡ c → turned (w .size) q true c .number ≡ 0
-        → Hands s (w .size) (turned (w .size) q true c .pending) t (joined ys) → Sums (nextHeld s w (dataFrom Data (start + n) (decode (drop (start + n) s)))) (joined ys)
+    by-units : (c : Option (List Segment)) → units (w .format) b (w .size) (w .offset) l ≡ c
+        → turned (w .size) q true c .number ≡ 0
+        → Hands s (w .size) (turned (w .size) q true c .pending) t (joined ys)
+        → Sums (nextHeld s w (dataFrom Data (start + n) (decode (drop (start + n) s)))) (joined ys)
         → Sums (nextHeld s w (Block start n)) (joined (segmentsOf c ++ ys))
     by-units none e h k c = absurd (eqb-false 7 0 refl h)
     by-units (some []) e h k c = absurd (units-empty (w .format) b (w .size) (w .offset) l e)

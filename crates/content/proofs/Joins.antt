@@ -53,14 +53,19 @@ Ways s i start n v x =
     (i ≡ 3 → restBytes x ≡ part start n s)
     × ((i ≡ 3 → ⊥) → (restBytes x ≡ part start n s ++ bytesBehind s v) × (isEnded (restAt s (v .size) v) ≡ true))
 
-goes-by : (s : List ℕ) (room i start n : ℕ) (v : Walk) → room ≤ v .size → isEnded (restBy s room (One i start n v) (λ r u. restAt s r u)) ≡ true
+goes-by : (s : List ℕ) (room i start n : ℕ) (v : Walk) → room ≤ v .size
+    → isEnded (restBy s room (One i start n v) (λ r u. restAt s r u)) ≡ true
     → Ways s i start n v (restBy s room (One i start n v) (λ r u. restAt s r u))
 unfolding restBy isEnded restBytes
 goes-by s room i start n v small =
     if-case P (leb n room) _ fails
     (λ a. if-case P (eqb i 3) (ends (part start n s) v) _ (λ e _. ((λ _. refl), (λ x. absurd (x (eqb-true i 3 e)))))
     (λ e. if-case P (eqb i 2) (before (part start n s) (restAt s (room - n) v)) fails
-    (λ f q. ((λ x. absurd (eqb-false i 3 e x)), (λ _. goes-on (leb-true n room a) (ended-before (part start n s) (restAt s (room - n) v) q))))
+    (λ f q. (
+      (λ x. absurd (eqb-false i 3 e x)),
+      (λ _. goes-on (leb-true n room a)
+          (ended-before (part start n s) (restAt s (room - n) v) q)),
+    ))
     (λ _ q. absurd (false≢true q))))
     (λ _ q. absurd (false≢true q))
   where
@@ -68,12 +73,14 @@ goes-by s room i start n v small =
     P x = isEnded x ≡ true → Ways s i start n v x
 
     goes-on : n ≤ room → isEnded (restAt s (room - n) v) ≡ true
-        → (restBytes (before (part start n s) (restAt s (room - n) v)) ≡ part start n s ++ bytesBehind s v) × (isEnded (restAt s (v .size) v) ≡ true)
+        → (restBytes (before (part start n s) (restAt s (room - n) v)) ≡ part start n s ++ bytesBehind s v)
+        × (isEnded (restAt s (v .size) v) ≡ true)
     goes-on k q =
         let both = ended-roomy s (room - n) v (omega arith) q in
         (bytes-before (part start n s) (restAt s (room - n) v) q ∙ ap (λ (l : List ℕ). part start n s ++ l) (both .0), both .1)
 
-pub going : (s : List ℕ) (w : Walk) (at m i start n : ℕ) (v : Walk) (t : Taken) → RestFits s w at m → t ≡ unitNext s w → t ≡ One i start n v → JoinGoing s w i start n v
+pub going : (s : List ℕ) (w : Walk) (at m i start n : ℕ) (v : Walk) (t : Taken) → RestFits s w at m → t ≡ unitNext s w
+    → t ≡ One i start n v → JoinGoing s w i start n v
 unfolding bytesBehind
 going s w at m i start n v t c e q = record {
   long = long;
@@ -101,7 +108,13 @@ going s w at m i start n v t c e q = record {
     by-flag : (x : Bool) → eqb i 3 ≡ x → n ≤ length (restBytes (restAt s (w .size) w))
     by-flag true z = omega (arith, ap length (ap restBytes k ∙ ways .0 (eqb-true i 3 z)), long)
     by-flag false z =
-        omega (arith, ap length (ap restBytes k ∙ ways .1 (eqb-false i 3 z) .0), length-append (part start n s) (restBytes (restAt s (v .size) v)), long)
+        omega (
+          arith,
+          ap length (ap restBytes k ∙ ways .1 (eqb-false i 3 z) .0),
+          length-append (part start n s)
+              (restBytes (restAt s (v .size) v)),
+          long,
+        )
 
     some : n ≤ length (restBytes (restAt s (w .size) w))
     some = by-flag (eqb i 3) refl
@@ -109,7 +122,8 @@ going s w at m i start n v t c e q = record {
 pub not-nothing : (s : List ℕ) (w : Walk) (at m : ℕ) (t : Taken) → RestFits s w at m → t ≡ unitNext s w → t ≡ Nothing → ⊥
 unfolding isEnded restBy
 not-nothing s w at m t c e q =
-    false≢true (ap isEnded (sym (rest-at s (w .size) w ∙ ap (λ (x : Taken). restBy s (w .size) x (λ r u. restAt s r u)) (sym e ∙ q))) ∙ c .ended)
+    false≢true (ap isEnded
+    (sym (rest-at s (w .size) w ∙ ap (λ (x : Taken). restBy s (w .size) x (λ r u. restAt s r u)) (sym e ∙ q))) ∙ c .ended)
 
 -- with what is behind w put from `at` on, the buffer is as with what is behind the first walk put from its place on
 pub record Joining (s old : List ℕ) (place : ℕ) (from : Walk) (out : List ℕ) (at : ℕ) (w : Walk) : Type 0 where
@@ -117,15 +131,18 @@ pub record Joining (s old : List ℕ) (place : ℕ) (from : Walk) (out : List �
   pub long : length out ≡ length old
   pub same : putAt out at (bytesBehind s w) ≡ putAt old place (bytesBehind s from)
 
-pub joining-none : (s old : List ℕ) (place : ℕ) (from : Walk) → RestFits s from place (length old) → Joining s old place from old place from
+pub joining-none : (s old : List ℕ) (place : ℕ) (from : Walk) → RestFits s from place (length old)
+    → Joining s old place from old place from
 joining-none s old place from h = record { goes = h; long = refl; same = refl }
 
-pub joining-nothing : (s old : List ℕ) (place : ℕ) (from : Walk) (out : List ℕ) (at : ℕ) (w : Walk) (t : Taken) → Joining s old place from out at w → t ≡ unitNext s w
+pub joining-nothing : (s old : List ℕ) (place : ℕ) (from : Walk) (out : List ℕ) (at : ℕ) (w : Walk) (t : Taken)
+    → Joining s old place from out at w → t ≡ unitNext s w
     → t ≡ Nothing → out ≡ putAt old place (bytesBehind s from)
 joining-nothing s old place from out at w t c e q = absurd (not-nothing s w at (length out) t (c .goes) e q)
 
 -- a segment has room
-pub segment-room : (s old : List ℕ) (place : ℕ) (from : Walk) (out : List ℕ) (at : ℕ) (w : Walk) (i start n : ℕ) (v : Walk) (t : Taken) (l : List ℕ)
+pub segment-room : (s old : List ℕ) (place : ℕ) (from : Walk) (out : List ℕ) (at : ℕ) (w : Walk) (i start n : ℕ) (v : Walk)
+    (t : Taken) (l : List ℕ)
     → Joining s old place from out at w → t ≡ unitNext s w → t ≡ One i start n v → l ≡ part start n s → at + length l ≤ length out
 segment-room s old place from out at w i start n v t l c e q h =
     let g = going s w at (length out) i start n v t (c .goes) e q in
@@ -135,15 +152,19 @@ segment-room s old place from out at w i start n v t l c e q h =
     let k : length l ≡ length (part start n s) = ap length h in
     omega arith
 
-pub joining-last : (s old : List ℕ) (place : ℕ) (from : Walk) (out : List ℕ) (at : ℕ) (w : Walk) (i start n : ℕ) (v : Walk) (t : Taken) (l new : List ℕ)
-    → Joining s old place from out at w → t ≡ unitNext s w → t ≡ One i start n v → l ≡ part start n s → new ≡ putIn out at l → i ≡ 3
+pub joining-last : (s old : List ℕ) (place : ℕ) (from : Walk) (out : List ℕ) (at : ℕ) (w : Walk) (i start n : ℕ) (v : Walk)
+    (t : Taken) (l new : List ℕ)
+    → Joining s old place from out at w → t ≡ unitNext s w → t ≡ One i start n v → l ≡ part start n s → new ≡ putIn out at l
+    → i ≡ 3
     → new ≡ putAt old place (bytesBehind s from)
 joining-last s old place from out at w i start n v t l new c e q h p z =
     let g = going s w at (length out) i start n v t (c .goes) e q in
     p ∙ put-in out at l (segment-room s old place from out at w i start n v t l c e q h) ∙ ap (putAt out at) (h ∙ sym (g .last z)) ∙ c .same
 
-pub joining-more : (s old : List ℕ) (place : ℕ) (from : Walk) (out : List ℕ) (at : ℕ) (w : Walk) (i start n : ℕ) (v : Walk) (t : Taken) (l new : List ℕ)
-    → Joining s old place from out at w → t ≡ unitNext s w → t ≡ One i start n v → l ≡ part start n s → new ≡ putIn out at l → (i ≡ 3 → ⊥)
+pub joining-more : (s old : List ℕ) (place : ℕ) (from : Walk) (out : List ℕ) (at : ℕ) (w : Walk) (i start n : ℕ) (v : Walk)
+    (t : Taken) (l new : List ℕ)
+    → Joining s old place from out at w → t ≡ unitNext s w → t ≡ One i start n v → l ≡ part start n s → new ≡ putIn out at l
+    → (i ≡ 3 → ⊥)
     → Joining s old place from new (at + n) v
 joining-more s old place from out at w i start n v t l new c e q h p z =
     let g = going s w at (length out) i start n v t (c .goes) e q in
@@ -165,8 +186,10 @@ joining-more s old place from out at w i start n v t l new c e q h p z =
           ∙ c .same;
     }
 
-pub joining-fits : (s old : List ℕ) (place : ℕ) (from : Walk) (out : List ℕ) (at : ℕ) (w : Walk) (i start n : ℕ) (v : Walk) (t : Taken)
-    → Joining s old place from out at w → t ≡ unitNext s w → t ≡ One i start n v → length old < 18446744073709551616 → Fits w64 (at + n)
+pub joining-fits : (s old : List ℕ) (place : ℕ) (from : Walk) (out : List ℕ) (at : ℕ) (w : Walk) (i start n : ℕ) (v : Walk)
+    (t : Taken)
+    → Joining s old place from out at w → t ≡ unitNext s w → t ≡ One i start n v → length old < 18446744073709551616
+    → Fits w64 (at + n)
 joining-fits s old place from out at w i start n v t c e q h =
     let g = going s w at (length out) i start n v t (c .goes) e q in
     let b = g .some in
@@ -175,10 +198,12 @@ joining-fits s old place from out at w i start n v t c e q h =
     omega arith
 
 -- the buffer keeps its length
-pub joining-length : (s old : List ℕ) (place : ℕ) (from : Walk) (out : List ℕ) (at : ℕ) (w : Walk) → Joining s old place from out at w → length out ≡ length old
+pub joining-length : (s old : List ℕ) (place : ℕ) (from : Walk) (out : List ℕ) (at : ℕ) (w : Walk)
+    → Joining s old place from out at w → length out ≡ length old
 joining-length s old place from out at w c = c .long
 
-pub ruleset joinings = (joining-none, joining-nothing, segment-room, joining-last, joining-more, joining-fits, unit-falls, joining-length, needs)
+pub ruleset joinings =
+    (joining-none, joining-nothing, segment-room, joining-last, joining-more, joining-fits, unit-falls, joining-length, needs)
 
 -- ---- the whole record
 
@@ -203,7 +228,8 @@ split-bytes bs fails h = absurd (false≢true h)
 abbrev Begins : List ℕ → ℕ → ℕ → Walk → Record → Type 0
 Begins s start n v x = (recordBytes x ≡ part start n s ++ bytesBehind s v) × (isEnded (restAt s (v .size) v) ≡ true)
 
-begins-by : (s : List ℕ) (r i start n : ℕ) (v : Walk) → r ≤ v .size → isSplit (begunBy s r (One i start n v)) ≡ true → Begins s start n v (begunBy s r (One i start n v))
+begins-by : (s : List ℕ) (r i start n : ℕ) (v : Walk) → r ≤ v .size → isSplit (begunBy s r (One i start n v)) ≡ true
+    → Begins s start n v (begunBy s r (One i start n v))
 unfolding begunBy isSplit
 begins-by s r i start n v small =
     if-case P (leb n r) _ nothing
@@ -221,11 +247,13 @@ begins-by s r i start n v small =
         (split-bytes (part start n s) (restAt s (r - n) v) q ∙ ap (λ (l : List ℕ). part start n s ++ l) (both .0), both .1)
 
 -- a record that is not nothing is that which the unit at the walk's place begins
-begun-split : (s : List ℕ) (w : Walk) → isSplit (recordAt s w) ≡ true → (Inside s w) × (recordAt s w ≡ begunBy s (w .size) (unitFrom s w))
+begun-split : (s : List ℕ) (w : Walk) → isSplit (recordAt s w) ≡ true
+    → (Inside s w) × (recordAt s w ≡ begunBy s (w .size) (unitFrom s w))
 unfolding recordAt isSplit
 begun-split s w =
     if-case P (eqb (w .size) 0) nothing _ (λ _ q. absurd (false≢true q))
-    (λ _. if-case P (isInside s w) (begunBy s (w .size) (unitFrom s w)) nothing (λ a q. (inside-true s w true (sym a) refl, refl)) (λ _ q. absurd (false≢true q)))
+    (λ _. if-case P (isInside s w) (begunBy s (w .size) (unitFrom s w)) nothing (λ a q. (inside-true s w true (sym a) refl, refl))
+    (λ _ q. absurd (false≢true q)))
   where
     P : Record → Type 0
     P x = isSplit x ≡ true → (Inside s w) × (x ≡ begunBy s (w .size) (unitFrom s w))
@@ -233,7 +261,8 @@ begun-split s w =
 pub split-inside : (s : List ℕ) (w : Walk) → isSplit (recordAt s w) ≡ true → Inside s w
 split-inside s w h = begun-split s w h .0
 
-pub splitting : (s : List ℕ) (w : Walk) (m i start n : ℕ) (v : Walk) (t : Taken) → SplitAt s w m → t ≡ unitFrom s w → t ≡ One i start n v → Splitting s w start n v
+pub splitting : (s : List ℕ) (w : Walk) (m i start n : ℕ) (v : Walk) (t : Taken) → SplitAt s w m → t ≡ unitFrom s w
+    → t ≡ One i start n v → Splitting s w start n v
 splitting s w m i start n v t c e q = record {
   long = length-part start n s (b .within);
   inside = b .inside;
@@ -252,13 +281,16 @@ splitting s w m i start n v t c e q = record {
 
 pub split-not-nothing : (s : List ℕ) (w : Walk) (m : ℕ) (t : Taken) → SplitAt s w m → t ≡ unitFrom s w → t ≡ Nothing → ⊥
 unfolding begunBy isSplit
-split-not-nothing s w m t c e q = false≢true (ap isSplit (sym (begun-split s w (c .is) .1 ∙ ap (begunBy s (w .size)) (sym e ∙ q))) ∙ c .is)
+split-not-nothing s w m t c e q =
+    false≢true (ap isSplit (sym (begun-split s w (c .is) .1 ∙ ap (begunBy s (w .size)) (sym e ∙ q))) ∙ c .is)
 
-pub join-nothing : (s old : List ℕ) (w : Walk) (t : Taken) → SplitAt s w (length old) → t ≡ unitFrom s w → t ≡ Nothing → old ≡ putAt old 0 (recordBytes (recordAt s w))
+pub join-nothing : (s old : List ℕ) (w : Walk) (t : Taken) → SplitAt s w (length old) → t ≡ unitFrom s w → t ≡ Nothing
+    → old ≡ putAt old 0 (recordBytes (recordAt s w))
 join-nothing s old w t c e q = absurd (split-not-nothing s w (length old) t c e q)
 
 -- the record in numbers
-split-sum : (s : List ℕ) (w : Walk) (m i start n : ℕ) (v : Walk) (t : Taken) → SplitAt s w m → t ≡ unitFrom s w → t ≡ One i start n v
+split-sum : (s : List ℕ) (w : Walk) (m i start n : ℕ) (v : Walk) (t : Taken) → SplitAt s w m → t ≡ unitFrom s w
+    → t ≡ One i start n v
     → n + length (bytesBehind s v) ≤ m
 split-sum s w m i start n v t c e q =
     let g = splitting s w m i start n v t c e q in
@@ -267,16 +299,19 @@ split-sum s w m i start n v t c e q =
     = ap length (g .bytes) ∙ length-append (part start n s) (bytesBehind s v) in
     omega (arith, c .fits)
 
-pub first-within : (s : List ℕ) (w : Walk) (m i start n : ℕ) (v : Walk) (t : Taken) → SplitAt s w m → t ≡ unitFrom s w → t ≡ One i start n v → start + n ≤ length s
+pub first-within : (s : List ℕ) (w : Walk) (m i start n : ℕ) (v : Walk) (t : Taken) → SplitAt s w m → t ≡ unitFrom s w
+    → t ≡ One i start n v → start + n ≤ length s
 first-within s w m i start n v t c e q = from-behind s w i start n v (c .inside) (sym e ∙ q) .within
 
-pub rest-goes : (s old : List ℕ) (w : Walk) (i start n : ℕ) (v : Walk) (t : Taken) → SplitAt s w (length old) → t ≡ unitFrom s w → t ≡ One i start n v
+pub rest-goes : (s old : List ℕ) (w : Walk) (i start n : ℕ) (v : Walk) (t : Taken) → SplitAt s w (length old) → t ≡ unitFrom s w
+    → t ≡ One i start n v
     → RestFits s v n (length old)
 rest-goes s old w i start n v t c e q =
     let g = splitting s w (length old) i start n v t c e q in
     record { inside = g .inside; ended = g .ended; fits = split-sum s w (length old) i start n v t c e q }
 
-pub join-whole : (s old : List ℕ) (w : Walk) (i start n : ℕ) (v : Walk) (t : Taken) (new : List ℕ) → SplitAt s w (length old) → t ≡ unitFrom s w
+pub join-whole : (s old : List ℕ) (w : Walk) (i start n : ℕ) (v : Walk) (t : Taken) (new : List ℕ) → SplitAt s w (length old)
+    → t ≡ unitFrom s w
     → t ≡ One i start n v → new ≡ putAt old 0 (part start n s ++ bytesBehind s v) → new ≡ putAt old 0 (recordBytes (recordAt s w))
 join-whole s old w i start n v t new c e q p = p ∙ ap (putAt old 0) (sym (splitting s w (length old) i start n v t c e q .bytes))
 
@@ -287,7 +322,8 @@ pub ruleset joins = (join-nothing, first-within, rest-goes, join-whole, split-he
 
 -- ---- from the first segment on
 
-pub first-room : (s old : List ℕ) (start n : ℕ) (v : Walk) (l : List ℕ) → start + n ≤ length s → RestFits s v n (length old) → l ≡ part start n s
+pub first-room : (s old : List ℕ) (start n : ℕ) (v : Walk) (l : List ℕ) → start + n ≤ length s → RestFits s v n (length old)
+    → l ≡ part start n s
     → 0 + length l ≤ length old
 first-room s old start n v l h c e =
     let a : length (part start n s) ≡ n = length-part start n s h in
@@ -295,10 +331,12 @@ first-room s old start n v l h c e =
     let f = c .fits in
     omega arith
 
-pub still-goes : (s old out : List ℕ) (n : ℕ) (v : Walk) → RestFits s v n (length old) → length out ≡ length old → RestFits s v n (length out)
+pub still-goes : (s old out : List ℕ) (n : ℕ) (v : Walk) → RestFits s v n (length old) → length out ≡ length old
+    → RestFits s v n (length out)
 still-goes s old out n v c e = let f = c .fits in record { inside = c .inside; ended = c .ended; fits = omega arith }
 
-pub joined-behind : (s old : List ℕ) (start n : ℕ) (v : Walk) (l out new : List ℕ) → start + n ≤ length s → RestFits s v n (length old) → l ≡ part start n s
+pub joined-behind : (s old : List ℕ) (start n : ℕ) (v : Walk) (l out new : List ℕ) → start + n ≤ length s
+    → RestFits s v n (length old) → l ≡ part start n s
     → out ≡ putIn old 0 l → new ≡ putAt out n (bytesBehind s v) → new ≡ putAt old 0 (part start n s ++ bytesBehind s v)
 joined-behind s old start n v l out new h c e p q =
     let a : length (part start n s) ≡ n = length-part start n s h in
@@ -313,8 +351,10 @@ pub ruleset joins-from = (first-room, still-goes, joined-behind, needs)
 
 -- ---- two segments
 
-pub joined-two : (s old : List ℕ) (start n next m : ℕ) (a b out new : List ℕ) → start + n ≤ length s → next + m ≤ length s → n + m ≤ length old
-    → a ≡ part start n s → out ≡ putIn old 0 a → b ≡ part next m s → new ≡ putIn out n b → new ≡ putAt old 0 (part start n s ++ part next m s)
+pub joined-two : (s old : List ℕ) (start n next m : ℕ) (a b out new : List ℕ) → start + n ≤ length s → next + m ≤ length s
+    → n + m ≤ length old
+    → a ≡ part start n s → out ≡ putIn old 0 a → b ≡ part next m s → new ≡ putIn out n b
+    → new ≡ putAt old 0 (part start n s ++ part next m s)
 joined-two s old start n next m a b out new g h k e p f q =
     let c : length (part start n s) ≡ n = length-part start n s g in
     let d : length (part next m s) ≡ m = length-part next m s h in

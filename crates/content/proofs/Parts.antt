@@ -42,13 +42,15 @@ pub seen-block : (s : List ℕ) (p : Phase) (at n : ℕ) (q : Shape) (k : Kind) 
     → k ≡ kindIn p (block (take (at + 3 + n - (at + 3)) (drop (at + 3) s))) → Of k n ≡ seenAt s p at
 unfolding seenAt seenBy
 seen-block s p at n q k e b h =
-    ap (λ (j : Kind). Of j n) (h ∙ ap (λ (l : List ℕ). kindIn p (block l)) (part-within (at + 3) n s)) ∙ ap (seenBy s p at) (sym b ∙ e)
+    ap (λ (j : Kind). Of j n) (h ∙ ap (λ (l : List ℕ). kindIn p (block l)) (part-within (at + 3) n s))
+    ∙ ap (seenBy s p at) (sym b ∙ e)
 
 pub seen-mark : (s : List ℕ) (p : Phase) (at : ℕ) (q : Shape) → q ≡ shape (drop at s) → q ≡ Mark → Of tapeMark 0 ≡ seenAt s p at
 unfolding seenAt seenBy
 seen-mark s p at q e b = ap (seenBy s p at) (sym b ∙ e)
 
-pub seen-reel-end : (s : List ℕ) (p : Phase) (at : ℕ) (q : Shape) → q ≡ shape (drop at s) → q ≡ ReelEnd → Of endOfReel 0 ≡ seenAt s p at
+pub seen-reel-end : (s : List ℕ) (p : Phase) (at : ℕ) (q : Shape) → q ≡ shape (drop at s) → q ≡ ReelEnd
+    → Of endOfReel 0 ≡ seenAt s p at
 unfolding seenAt seenBy
 seen-reel-end s p at q e b = ap (seenBy s p at) (sym b ∙ e)
 
@@ -56,10 +58,12 @@ pub seen-nothing : (s : List ℕ) (p : Phase) (at : ℕ) (q : Shape) → q ≡ s
 unfolding seenAt seenBy
 seen-nothing s p at q e b = ap (seenBy s p at) (sym b ∙ e)
 
-pub start-fits : (s : List ℕ) (at n : ℕ) (q : Shape) → q ≡ shape (drop at s) → q ≡ Bytes n → length s < 18446744073709551616 → Fits w64 (at + 3)
+pub start-fits : (s : List ℕ) (at n : ℕ) (q : Shape) → q ≡ shape (drop at s) → q ≡ Bytes n → length s < 18446744073709551616
+    → Fits w64 (at + 3)
 start-fits s at n q e b h = record { fits = omega (arith, block-within s at n q e b) }
 
-pub end-fits : (s : List ℕ) (at n : ℕ) (q : Shape) → q ≡ shape (drop at s) → q ≡ Bytes n → length s < 18446744073709551616 → Fits w64 (at + 3 + n)
+pub end-fits : (s : List ℕ) (at n : ℕ) (q : Shape) → q ≡ shape (drop at s) → q ≡ Bytes n → length s < 18446744073709551616
+    → Fits w64 (at + 3 + n)
 end-fits s at n q e b h = record { fits = omega (arith, block-within s at n q e b) }
 
 pub ruleset seens = (seen-block, seen-mark, seen-reel-end, seen-nothing, start-fits, end-fits, block-within, needs)
@@ -73,7 +77,8 @@ pub record Sees (s : List ℕ) (p : Phase) (at : ℕ) (k : Kind) (n : ℕ) : Typ
   pub long : length (bytesIn item) ≡ n
   pub within : at + 3 + n ≤ length s
 
-block-seen : (s : List ℕ) (p : Phase) (at n : ℕ) → shape (drop at s) ≡ Bytes n → Sees s p at (kindIn p (block (part (at + 3) n s))) n
+block-seen : (s : List ℕ) (p : Phase) (at n : ℕ) → shape (drop at s) ≡ Bytes n
+    → Sees s p at (kindIn p (block (part (at + 3) n s))) n
 unfolding bytesIn
 block-seen s p at n e =
     let w : at + 3 + n ≤ length s = block-within s at n (Bytes n) (sym e) refl in
@@ -86,12 +91,21 @@ block-seen s p at n e =
       within = w;
     }
 
-bare-seen : (s : List ℕ) (p : Phase) (at : ℕ) (x : Item) (k : Kind) → decode (drop at s) ≡ x ∷ decode (drop (at + 3) s) → kindIn p x ≡ k → bytesIn x ≡ []
+bare-seen : (s : List ℕ) (p : Phase) (at : ℕ) (x : Item) (k : Kind) → decode (drop at s) ≡ x ∷ decode (drop (at + 3) s)
+    → kindIn p x ≡ k → bytesIn x ≡ []
     → at + 3 ≤ length s → Sees s p at k 0
 unfolding part
 bare-seen s p at x k h e b w =
     let z : at + 3 ≡ at + 3 + 0 = omega arith in
-    record { item = x; here = h ∙ ap (λ (i : ℕ). x ∷ decode (drop i s)) z; kind = e; bytes = b; long = ap length b; within = omega arith }
+    record {
+      item = x;
+      here = h
+          ∙ ap (λ (i : ℕ). x ∷ decode (drop i s)) z;
+      kind = e;
+      bytes = b;
+      long = ap length b;
+      within = omega arith;
+    }
 
 -- what is said of the item at a place is said where there is one
 abbrev If-seen : (Kind → ℕ → Type 0) → Seen → Type 0
@@ -114,7 +128,8 @@ unfolding seenAt
 sees s p at n k x e q = subst (If-seen (Sees s p at)) (sym e ∙ q) (seen-any s p at (shape (drop at s)) refl)
 
 -- no item stands there: the image ends, or the item is broken
-pub unseen : (s : List ℕ) (p : Phase) (at : ℕ) (x : Seen) → x ≡ seenAt s p at → x ≡ Nothing → (P : List Item → Type 0) → P [] → P (broken ∷ []) → P (decode (drop at s))
+pub unseen : (s : List ℕ) (p : Phase) (at : ℕ) (x : Seen) → x ≡ seenAt s p at → x ≡ Nothing → (P : List Item → Type 0) → P []
+    → P (broken ∷ []) → P (decode (drop at s))
 unfolding seenAt seenBy
 unseen s p at x e q P none one = by-shape (shape (drop at s)) refl (sym e ∙ q)
   where
@@ -129,20 +144,25 @@ unseen s p at x e q P none one = by-shape (shape (drop at s)) refl (sym e ∙ q)
         by-end (no g) = let past : length s ≤ at = omega arith in subst P (sym (decode-past s at past)) none
 
 -- places that a search goes to
-pub item-within : (s : List ℕ) (p : Phase) (at n : ℕ) (k : Kind) (x : Seen) → x ≡ seenAt s p at → x ≡ Of k n → at + 3 + n ≤ length s
+pub item-within : (s : List ℕ) (p : Phase) (at n : ℕ) (k : Kind) (x : Seen) → x ≡ seenAt s p at → x ≡ Of k n
+    → at + 3 + n ≤ length s
 item-within s p at n k x e q = sees s p at n k x e q .within
 
-pub item-start : (s : List ℕ) (p : Phase) (at n : ℕ) (k : Kind) (x : Seen) → length s < 18446744073709551616 → x ≡ seenAt s p at → x ≡ Of k n → Fits w64 (at + 3)
+pub item-start : (s : List ℕ) (p : Phase) (at n : ℕ) (k : Kind) (x : Seen) → length s < 18446744073709551616 → x ≡ seenAt s p at
+    → x ≡ Of k n → Fits w64 (at + 3)
 item-start s p at n k x h e q = record { fits = omega (arith, item-within s p at n k x e q) }
 
-pub item-end : (s : List ℕ) (p : Phase) (at n : ℕ) (k : Kind) (x : Seen) → length s < 18446744073709551616 → x ≡ seenAt s p at → x ≡ Of k n → Fits w64 (at + 3 + n)
+pub item-end : (s : List ℕ) (p : Phase) (at n : ℕ) (k : Kind) (x : Seen) → length s < 18446744073709551616 → x ≡ seenAt s p at
+    → x ≡ Of k n → Fits w64 (at + 3 + n)
 item-end s p at n k x h e q = record { fits = omega (arith, item-within s p at n k x e q) }
 
-pub item-falls : (s : List ℕ) (p : Phase) (at n : ℕ) (k : Kind) (x : Seen) → x ≡ seenAt s p at → x ≡ Of k n → length s - (at + 3 + n) < length s - at
+pub item-falls : (s : List ℕ) (p : Phase) (at n : ℕ) (k : Kind) (x : Seen) → x ≡ seenAt s p at → x ≡ Of k n
+    → length s - (at + 3 + n) < length s - at
 item-falls s p at n k x e q = omega (arith, item-within s p at n k x e q)
 
 -- induction over the places of an image, from its end
-by-room : (s : List ℕ) (P : ℕ → Type 0) → ((at : ℕ) → ((m : ℕ) → at < m → m ≤ length s → P m) → P at) → (f at : ℕ) → length s - at < f → P at
+by-room : (s : List ℕ) (P : ℕ → Type 0) → ((at : ℕ) → ((m : ℕ) → at < m → m ≤ length s → P m) → P at) → (f at : ℕ)
+    → length s - at < f → P at
 by-room s P each zero at h = absurd (omega arith)
 by-room s P each (suc f) at h = each at (λ m l w. by-room s P each f m (omega arith))
 
@@ -157,14 +177,16 @@ stands at hdr1 p g = record { at = at; hdr1 = hdr1; phase = p; continues = g }
 -- an item of kind k and n bytes
 pub parts-seen : (s : List ℕ) (c : Position) (n : ℕ) (k : Kind) (x : Seen) → x ≡ seenAt s (c .phase) (c .at) → x ≡ Of k n
     → partsAt s c
-    ≡ partsBy (ledTo (c .continues) (c .phase) k) (λ q. onto (partIn (c .continues) (c .hdr1) (c .at + 3) n k) (after c k n q) (partsAt s (after c k n q)))
+    ≡ partsBy (ledTo (c .continues) (c .phase) k)
+    (λ q. onto (partIn (c .continues) (c .hdr1) (c .at + 3) n k) (after c k n q) (partsAt s (after c k n q)))
 unfolding partsFrom
 parts-seen s c n k x e q =
     let d = sees s (c .phase) (c .at) n k x e q in
     ap (partsFrom c) (d .here)
     ∙ ap₂ (λ (j : Kind) (m : ℕ).
     partsBy (ledTo (c .continues) (c .phase) j)
-    (λ r. onto (partIn (c .continues) (c .hdr1) (c .at + 3) m j) (after c j m r) (partsFrom (after c j m r) (decode (drop (c .at + 3 + n) s))))) (d .kind) (d .long)
+    (λ r. onto (partIn (c .continues) (c .hdr1) (c .at + 3) m j) (after c j m r)
+    (partsFrom (after c j m r) (decode (drop (c .at + 3 + n) s))))) (d .kind) (d .long)
 
 by-none : (d : Due) → partsBy d (λ q. []) ≡ []
 unfolding partsBy
@@ -181,7 +203,8 @@ parts-broken c = by-none (dueAfter (c .phase) other)
 
 -- where no item stands there is no part
 pub parts-unseen : (s : List ℕ) (c : Position) (x : Seen) → x ≡ seenAt s (c .phase) (c .at) → x ≡ Nothing → partsAt s c ≡ []
-parts-unseen s c x e q = unseen s (c .phase) (c .at) x e q (λ (xs : List Item). partsFrom c xs ≡ []) (parts-end c) (parts-broken c)
+parts-unseen s c x e q =
+    unseen s (c .phase) (c .at) x e q (λ (xs : List Item). partsFrom c xs ≡ []) (parts-end c) (parts-broken c)
 
 -- ---- the search
 
@@ -214,54 +237,68 @@ pub search-nothing : (s : List ℕ) (from : Position) (sections blocks : Bool) (
     → Searching s from sections blocks at hdr1 p g → x ≡ seenAt s p at → x ≡ Nothing
     → _≡_ {A = PartAt} (record { part = None; behind = from }) (firstFrom from sections blocks (partsAt s from))
 unfolding firstFrom
-search-nothing s from sections blocks at hdr1 p g x c e q = sym (ap (firstFrom from sections blocks) (parts-unseen s (stands at hdr1 p g) x e q)) ∙ c .same
+search-nothing s from sections blocks at hdr1 p g x c e q =
+    sym (ap (firstFrom from sections blocks) (parts-unseen s (stands at hdr1 p g) x e q)) ∙ c .same
 
-pub search-wrong : (s : List ℕ) (from : Position) (sections blocks : Bool) (at hdr1 n : ℕ) (p : Phase) (g : Bool) (k : Kind) (x : Seen) (d : Due)
+pub search-wrong : (s : List ℕ) (from : Position) (sections blocks : Bool) (at hdr1 n : ℕ) (p : Phase) (g : Bool) (k : Kind)
+    (x : Seen) (d : Due)
     → Searching s from sections blocks at hdr1 p g → x ≡ seenAt s p at → x ≡ Of k n → d ≡ ledTo g p k → d ≡ Wrong
     → _≡_ {A = PartAt} (record { part = None; behind = from }) (firstFrom from sections blocks (partsAt s from))
 unfolding firstFrom partsBy
 search-wrong s from sections blocks at hdr1 n p g k x d c e q u w =
     let here = stands at hdr1 p g in
     sym (ap (firstFrom from sections blocks)
-    (parts-seen s here n k x e q ∙ ap (λ (y : Due). partsBy y (λ r. onto (partIn g hdr1 (at + 3) n k) (after here k n r) (partsAt s (after here k n r)))) (sym u ∙ w)))
+    (parts-seen s here n k x e q
+    ∙ ap (λ (y : Due). partsBy y (λ r. onto (partIn g hdr1 (at + 3) n k) (after here k n r) (partsAt s (after here k n r))))
+    (sym u ∙ w)))
     ∙ c .same
 
 -- an item that leads on
-search-step : (s : List ℕ) (at hdr1 n : ℕ) (p r : Phase) (g : Bool) (k : Kind) (x : Seen) (d : Due) (part′ : Part) (hdr1′ : ℕ) (g′ : Bool)
-    → x ≡ seenAt s p at → x ≡ Of k n → d ≡ ledTo g p k → d ≡ To r → part′ ≡ partIn g hdr1 (at + 3) n k → hdr1′ ≡ firstBehind hdr1 (at + 3) k
+search-step : (s : List ℕ) (at hdr1 n : ℕ) (p r : Phase) (g : Bool) (k : Kind) (x : Seen) (d : Due) (part′ : Part) (hdr1′ : ℕ)
+    (g′ : Bool)
+    → x ≡ seenAt s p at → x ≡ Of k n → d ≡ ledTo g p k → d ≡ To r → part′ ≡ partIn g hdr1 (at + 3) n k
+    → hdr1′ ≡ firstBehind hdr1 (at + 3) k
     → g′ ≡ goesOnBehind g k
     → partsAt s (stands at hdr1 p g) ≡ onto part′ (stands (at + 3 + n) hdr1′ r g′) (partsAt s (stands (at + 3 + n) hdr1′ r g′))
 unfolding partsBy
 search-step s at hdr1 n p r g k x d part′ hdr1′ g′ e q u w m i j =
     let here = stands at hdr1 p g in
     parts-seen s here n k x e q
-    ∙ ap (λ (y : Due). partsBy y (λ z. onto (partIn g hdr1 (at + 3) n k) (after here k n z) (partsAt s (after here k n z)))) (sym u ∙ w)
+    ∙ ap (λ (y : Due). partsBy y (λ z. onto (partIn g hdr1 (at + 3) n k) (after here k n z) (partsAt s (after here k n z))))
+    (sym u ∙ w)
     ∙ (λ z. onto (sym m z) (stands (at + 3 + n) (sym i z) r (sym j z)) (partsAt s (stands (at + 3 + n) (sym i z) r (sym j z))))
 
-pub search-found : (s : List ℕ) (from : Position) (sections blocks : Bool) (at hdr1 n : ℕ) (p r : Phase) (g : Bool) (k : Kind) (x : Seen) (d : Due) (part′ : Part) (hdr1′ : ℕ)
+pub search-found : (s : List ℕ) (from : Position) (sections blocks : Bool) (at hdr1 n : ℕ) (p r : Phase) (g : Bool) (k : Kind)
+    (x : Seen) (d : Due) (part′ : Part) (hdr1′ : ℕ)
     (g′ b : Bool) → Searching s from sections blocks at hdr1 p g → x ≡ seenAt s p at → x ≡ Of k n → d ≡ ledTo g p k → d ≡ To r
-    → part′ ≡ partIn g hdr1 (at + 3) n k → hdr1′ ≡ firstBehind hdr1 (at + 3) k → g′ ≡ goesOnBehind g k → b ≡ isWanted sections blocks part′ → b ≡ true
+    → part′ ≡ partIn g hdr1 (at + 3) n k → hdr1′ ≡ firstBehind hdr1 (at + 3) k → g′ ≡ goesOnBehind g k
+    → b ≡ isWanted sections blocks part′ → b ≡ true
     → _≡_ {A = PartAt} (record { part = part′; behind = record { at = at + 3 + n; hdr1 = hdr1′; phase = r; continues = g′ } })
     (firstFrom from sections blocks (partsAt s from))
 search-found s from sections blocks at hdr1 n p r g k x d part′ hdr1′ g′ b c e q u w m i j f t =
     sym (ap (firstFrom from sections blocks) (search-step s at hdr1 n p r g k x d part′ hdr1′ g′ e q u w m i j)
-    ∙ first-onto from (stands (at + 3 + n) hdr1′ r g′) sections blocks part′ (partsAt s (stands (at + 3 + n) hdr1′ r g′)) (sym f ∙ t))
+    ∙ first-onto from (stands (at + 3 + n) hdr1′ r g′) sections blocks part′ (partsAt s (stands (at + 3 + n) hdr1′ r g′))
+    (sym f ∙ t))
     ∙ c .same
 
-pub search-more : (s : List ℕ) (from : Position) (sections blocks : Bool) (at hdr1 n : ℕ) (p r : Phase) (g : Bool) (k : Kind) (x : Seen) (d : Due) (part′ : Part) (hdr1′ : ℕ)
+pub search-more : (s : List ℕ) (from : Position) (sections blocks : Bool) (at hdr1 n : ℕ) (p r : Phase) (g : Bool) (k : Kind)
+    (x : Seen) (d : Due) (part′ : Part) (hdr1′ : ℕ)
     (g′ b : Bool) → Searching s from sections blocks at hdr1 p g → x ≡ seenAt s p at → x ≡ Of k n → d ≡ ledTo g p k → d ≡ To r
-    → part′ ≡ partIn g hdr1 (at + 3) n k → hdr1′ ≡ firstBehind hdr1 (at + 3) k → g′ ≡ goesOnBehind g k → b ≡ isWanted sections blocks part′ → b ≡ false
+    → part′ ≡ partIn g hdr1 (at + 3) n k → hdr1′ ≡ firstBehind hdr1 (at + 3) k → g′ ≡ goesOnBehind g k
+    → b ≡ isWanted sections blocks part′ → b ≡ false
     → Searching s from sections blocks (at + 3 + n) hdr1′ r g′
 search-more s from sections blocks at hdr1 n p r g k x d part′ hdr1′ g′ b c e q u w m i j f t =
     record {
       room = c .room;
       same =
           sym (ap (firstFrom from sections blocks) (search-step s at hdr1 n p r g k x d part′ hdr1′ g′ e q u w m i j)
-          ∙ first-past from (stands (at + 3 + n) hdr1′ r g′) sections blocks part′ (partsAt s (stands (at + 3 + n) hdr1′ r g′)) (sym f ∙ t))
+          ∙ first-past from (stands (at + 3 + n) hdr1′ r g′) sections blocks part′ (partsAt s (stands (at + 3 + n) hdr1′ r g′))
+          (sym f ∙ t))
           ∙ c .same;
     }
 
-pub ruleset searchings = (search-begun, search-nothing, search-wrong, search-found, search-more, item-start, item-end, item-falls, item-within, needs)
+pub ruleset searchings =
+    (search-begun, search-nothing, search-wrong, search-found, search-more, item-start, item-end, item-falls, item-within, needs)
 
 -- which parts are looked for
 pub wants-file : (sections blocks : Bool) (p : Part) (a b : ℕ) → p ≡ File a b → true ≡ isWanted sections blocks p
@@ -290,7 +327,8 @@ found-part c sections blocks [] = refl
 found-part c sections blocks (p ∷ ps) = by-wanted (isWanted sections blocks (p .part)) (found-part c sections blocks ps)
   where
     by-wanted : (b : Bool) → firstFrom c sections blocks ps .part ≡ firstIn sections blocks (map (λ (q : PartAt). q .part) ps)
-        → ifB b p (firstFrom c sections blocks ps) .part ≡ ifB b (p .part) (firstIn sections blocks (map (λ (q : PartAt). q .part) ps))
+        → ifB b p (firstFrom c sections blocks ps) .part
+        ≡ ifB b (p .part) (firstIn sections blocks (map (λ (q : PartAt). q .part) ps))
     by-wanted true again = unfold ifB in refl
     by-wanted false again = unfold ifB in again
 
@@ -318,7 +356,8 @@ kind-family : (k : Kind) → isKind k (hdr 2) ≡ true → k .family ≡ 3
 unfolding isKind
 kind-family k h = eqb-true (k .family) 3 (and-first (eqb (k .family) 3) (eqb (k .number) 2) h)
 
-item-ahead : (s : List ℕ) (p : Phase) (g : Bool) (hdr1 at n : ℕ) (k : Kind) → Sees s p at k n → IsAhead s at (partIn g hdr1 (at + 3) n k)
+item-ahead : (s : List ℕ) (p : Phase) (g : Bool) (hdr1 at n : ℕ) (k : Kind) → Sees s p at k n
+    → IsAhead s at (partIn g hdr1 (at + 3) n k)
 unfolding partIn
 item-ahead s p g hdr1 at n k c =
     if-case (IsAhead s at) (isKind k dataBlock) _ _ (λ _. record { onward = omega arith; within = c .within })
@@ -332,7 +371,8 @@ item-ahead s p g hdr1 at n k c =
     label e false = unfold ifB in record { onward = omega arith; within = omega (arith, e, c .within) }
 
 first-map : (sections blocks : Bool) (p : Part) (c : Position) (ps : List PartAt)
-    → firstIn sections blocks (map (λ (q : PartAt). q .part) (onto p c ps)) ≡ ifB (isWanted sections blocks p) p (firstIn sections blocks (map (λ (q : PartAt). q .part) ps))
+    → firstIn sections blocks (map (λ (q : PartAt). q .part) (onto p c ps))
+    ≡ ifB (isWanted sections blocks p) p (firstIn sections blocks (map (λ (q : PartAt). q .part) ps))
 unfolding firstIn onto
 first-map sections blocks (File a b) c ps = refl
 first-map sections blocks (Section a b) c ps = refl
@@ -365,10 +405,12 @@ first-ahead s sections blocks at = by-place s P each at
             there : Sees s p i k n
             there = sees s p i n k (Of k n) e refl
 
-            all : (d : Due) → ledTo g p k ≡ d → partsAt s c ≡ partsBy d (λ q. onto (partIn g hdr1 (i + 3) n k) (after c k n q) (partsAt s (after c k n q)))
+            all : (d : Due) → ledTo g p k ≡ d
+                → partsAt s c ≡ partsBy d (λ q. onto (partIn g hdr1 (i + 3) n k) (after c k n q) (partsAt s (after c k n q)))
             all d h =
                 parts-seen s c n k (Of k n) e refl
-                ∙ ap (λ (y : Due). partsBy y (λ q. onto (partIn g hdr1 (i + 3) n k) (after c k n q) (partsAt s (after c k n q)))) h
+                ∙ ap (λ (y : Due). partsBy y
+                (λ q. onto (partIn g hdr1 (i + 3) n k) (after c k n q) (partsAt s (after c k n q)))) h
 
             by-due : (d : Due) → ledTo g p k ≡ d → IsAhead s i (first c)
             by-due Wrong h = unfold partsBy in nothing (all Wrong h)
@@ -376,7 +418,8 @@ first-ahead s sections blocks at = by-place s P each at
                 subst (IsAhead s i)
                 (sym (ap (λ (ps : List PartAt). firstIn sections blocks (map (λ (r : PartAt). r .part) ps)) (all (To q) h)
                 ∙ first-map sections blocks (partIn g hdr1 (i + 3) n k) (after c k n q) (partsAt s (after c k n q))))
-                (if-case (IsAhead s i) (isWanted sections blocks (partIn g hdr1 (i + 3) n k)) (partIn g hdr1 (i + 3) n k) (first (after c k n q))
+                (if-case (IsAhead s i) (isWanted sections blocks (partIn g hdr1 (i + 3) n k)) (partIn g hdr1 (i + 3) n k)
+                (first (after c k n q))
                 (λ _. item-ahead s p g hdr1 i n k there)
                 (λ _.
                 ahead-more s i (i + 3 + n) (first (after c k n q)) (omega arith)

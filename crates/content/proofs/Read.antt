@@ -1,4 +1,5 @@
--- The parts of an accepted image are what its reading hands out, in order: a file that begins, by its labels, and the segments of each data block, by the lengths
+-- The parts of an accepted image are what its reading hands out, in order: a file that begins, by its labels, and the segments of
+-- each data block, by the lengths
 -- of its section's HDR2. Assumes nothing.
 use mathlib.Core.Path.{_≡_, refl, sym, ap, ap₂, _∙_, subst}
 use mathlib.Core.Bool.{Bool, true, false, false≢true}
@@ -77,14 +78,19 @@ pub record BlockRead (s second : List ℕ) (q start n : ℕ) (ps : List Part) : 
 
 -- the segments of a data block in a section with this HDR2
 abbrev pub segmentsBy : List ℕ → List ℕ → List Segment
-segmentsBy second l = segmentsOf (units (formatOf second) (valueOf (blockLengthOf second)) (valueOf (recordLengthOf second)) (valueOf (offsetOf second)) l)
+segmentsBy second l =
+    segmentsOf (units (formatOf second) (valueOf (blockLengthOf second)) (valueOf (recordLengthOf second))
+    (valueOf (offsetOf second)) l)
 
--- parts, and what their reading hands out, in a section with this HDR2 and with q open: where they end, and where a file begins, no record is
+-- parts, and what their reading hands out, in a section with this HDR2 and with q open: where they end, and where a file begins,
+-- no record is
 pub data Read : List ℕ → List ℕ → ℕ → List Part → List Event → Type 0 where
   readOver : {s second : List ℕ} → Read s second 0 [] []
-  readFile : {s second : List ℕ} {a b : ℕ} (l m : List ℕ) {ps : List Part} {es : List Event} → FileRead s a b l m ps → Read s m 0 ps es
+  readFile : {s second : List ℕ} {a b : ℕ} (l m : List ℕ) {ps : List Part} {es : List Event} → FileRead s a b l m ps
+      → Read s m 0 ps es
       → Read s second 0 (File a b ∷ ps) (begins l m ∷ es)
-  readSection : {s second : List ℕ} {q a b : ℕ} (l m : List ℕ) {ps : List Part} {es : List Event} → part a 80 s ≡ l → part b 80 s ≡ m
+  readSection : {s second : List ℕ} {q a b : ℕ} (l m : List ℕ) {ps : List Part} {es : List Event} → part a 80 s ≡ l
+      → part b 80 s ≡ m
       → walkFrom m 0 ≡ walkFrom second 0 → Read s m q ps es → Read s second q (Section a b ∷ ps) (continues l m ∷ es)
   readBlock : {s second : List ℕ} {q start n : ℕ} {ps : List Part} {es : List Event} → BlockRead s second q start n ps
       → Read s second (outcomeIn second q (part start n s) .pending) ps es
@@ -107,11 +113,13 @@ unfolding isKind
 kind-family k h = eqb-true (k .family) 3 (and-first (eqb (k .family) 3) (eqb (k .number) 1) h)
 
 -- an item of 80 bytes is the label at its place
-label-here : (s : List ℕ) (at : ℕ) (x : Item) (xs : List Item) → ItemStands s at x xs → length (bytesIn x) ≡ 80 → part (at + 3) 80 s ≡ bytesIn x
+label-here : (s : List ℕ) (at : ℕ) (x : Item) (xs : List Item) → ItemStands s at x xs → length (bytesIn x) ≡ 80
+    → part (at + 3) 80 s ≡ bytesIn x
 label-here s at x xs c h = ap (λ (n : ℕ). part (at + 3) n s) (sym h) ∙ sym (c .bytes)
 
 -- stateBehind an item, the last HDR1 is again at the place that is kept
-first-step : (s : List ℕ) (t : State) (p : Phase) (first at : ℕ) (x : Item) (xs : List Item) → ItemStands s at x xs → part first 80 s ≡ t .first
+first-step : (s : List ℕ) (t : State) (p : Phase) (first at : ℕ) (x : Item) (xs : List Item) → ItemStands s at x xs
+    → part first 80 s ≡ t .first
     → part (firstBehind first (at + 3) (kindIn p x)) 80 s ≡ firstAfter t (kindIn p x) (bytesIn x)
 unfolding firstBehind firstAfter ifB
 first-step s t p first at x xs c here = by-kind (isKind (kindIn p x) (hdr 1)) refl
@@ -124,20 +132,32 @@ first-step s t p first at x xs c here = by-kind (isKind (kindIn p x) (hdr 1)) re
 
 marked-by : (s : List ℕ) (ps qs : List Part) (m : ℕ) → Passes s ps qs → Marked s qs m → Marked s ps m
 marked-by s ps qs m c h =
-    record { datum = c .datum ∙ h .datum; fits = h .fits; follows = subst (λ (y : NextFile). Follows s y m) (sym (c .file)) (h .follows) }
+    record {
+      datum = c .datum
+          ∙ h .datum;
+      fits = h .fits;
+      follows = subst (λ (y : NextFile). Follows s y m) (sym (c .file)) (h .follows);
+    }
 
-nothing-left : (s : List ℕ) (g : Bool) (p : Phase) (hdr1 at : ℕ) → decode (drop at s) ≡ [] → at ≤ length s → Marked s (parts (stands at hdr1 p g) []) at
+nothing-left : (s : List ℕ) (g : Bool) (p : Phase) (hdr1 at : ℕ) → decode (drop at s) ≡ [] → at ≤ length s
+    → Marked s (parts (stands at hdr1 p g) []) at
 unfolding dataFrom blockIn asBlock fileIn asFile firstIn partsFrom
 nothing-left s g p hdr1 at e fits =
     record {
       datum = sym (ap (dataFrom Data at) e);
       fits = fits;
       follows =
-          record { ordered = subst (InOrder s Data at) (sym e) tt; same = λ h n. ap (λ (xs : List Item). fileIn s (parts (stands at n Data h) xs)) e };
+          record {
+            ordered = subst (InOrder s Data at) (sym e) tt;
+            same = λ h n. ap
+                (λ (xs : List Item). fileIn s (parts (stands at n Data h) xs)) e;
+          };
     }
 
-mark-body : (s : List ℕ) (g : Bool) (p q : Phase) (hdr1 at : ℕ) (xs : List Item) → Numbered p → labels p ≡ true → isOpen (stage p) g ≡ true
-    → dueAfter p (kindIn p mark) ≡ To q → ItemStands s at mark xs → InOrder s q (placeBehind at mark) xs → Marked s (parts (stands at hdr1 p g) (mark ∷ xs)) (at + 3)
+mark-body : (s : List ℕ) (g : Bool) (p q : Phase) (hdr1 at : ℕ) (xs : List Item) → Numbered p → labels p ≡ true
+    → isOpen (stage p) g ≡ true
+    → dueAfter p (kindIn p mark) ≡ To q → ItemStands s at mark xs → InOrder s q (placeBehind at mark) xs
+    → Marked s (parts (stands at hdr1 p g) (mark ∷ xs)) (at + 3)
 unfolding kindIn bytesIn placeBehind isKind
 mark-body s g p q hdr1 at xs num h open' d c o =
     let z : at + 3 + 0 ≡ at + 3 = omega arith in
@@ -160,7 +180,8 @@ no-broken : isItem broken ≡ true → ⊥
 unfolding isItem
 no-broken h = false≢true h
 
-body-of : (s : List ℕ) (xs : List Item) (g : Bool) (p : Phase) (hdr1 at : ℕ) → InOrder s p at xs → decode (drop at s) ≡ xs → at ≤ length s → labels p ≡ true → Numbered p
+body-of : (s : List ℕ) (xs : List Item) (g : Bool) (p : Phase) (hdr1 at : ℕ) → InOrder s p at xs → decode (drop at s) ≡ xs
+    → at ≤ length s → labels p ≡ true → Numbered p
     → isOpen (stage p) g ≡ true → Marked s (parts (stands at hdr1 p g) xs) (markFrom at xs)
 unfolding markFrom
 body-of s [] g p hdr1 at o e fits h num open' = nothing-left s g p hdr1 at e fits
@@ -172,7 +193,8 @@ body-of s (block l ∷ xs) g p hdr1 at (q, c, d, o) e fits h num open' =
     let go = due-goes p (kindIn p (block l)) q num d in
     let step = open-step s g p q hdr1 at (block l) xs (go .move) refl d open' (k .datum) (k .fileEnd) in
     marked-by s _ _ _ (step .0)
-    (body-of s xs (goesOnBehind g (kindIn p (block l))) q (firstBehind hdr1 (at + 3) (kindIn p (block l))) (placeBehind at (block l)) o (c .rest) (c .within) (k .phase)
+    (body-of s xs (goesOnBehind g (kindIn p (block l))) q (firstBehind hdr1 (at + 3) (kindIn p (block l)))
+    (placeBehind at (block l)) o (c .rest) (c .within) (k .phase)
     (go .numbered) (step .1))
 
 -- ---- one item without fault
@@ -187,7 +209,8 @@ same-lengths second l h =
 abbrev Sized : Stage → Bool → List ℕ → Type 0
 Sized a g second = isOpen a g ≡ true → valueOf (recordLengthOf second) ≡ 0 → ⊥
 
-sized-step : (t : State) (r : Phase) (l : List ℕ) {k : Kind} {a b : Stage} → Move k a b → Sized a (t .goesOn) (t .second) → itemFault t k l .number ≡ 0
+sized-step : (t : State) (r : Phase) (l : List ℕ) {k : Kind} {a b : Stage} → Move k a b → Sized a (t .goesOn) (t .second)
+    → itemFault t k l .number ≡ 0
     → Sized b (stateAfter t r k l .goesOn) (stateAfter t r k l .second)
 unfolding stateAfter goesOnAfter secondAfter isKind ifB
 sized-step t r l {k} (stays {a = a} c) h f = subst (λ (v : View). Sized a (v .goesOn) (v .second)) (sym (view-quiet t r k l c)) h
@@ -201,7 +224,8 @@ sized-step t r l eov1 h f = λ _. h refl
 sized-step t r l finish h f = h
 
 -- one that is no part
-read-on : (s : List ℕ) (t : State) (r : Phase) (at hdr1 : ℕ) (x : Item) (xs : List Item) (k : Kind) (es : List Event) → kindIn (t .phase) x ≡ k → dueAfter (t .phase) k ≡ To r
+read-on : (s : List ℕ) (t : State) (r : Phase) (at hdr1 : ℕ) (x : Item) (xs : List Item) (k : Kind) (es : List Event)
+    → kindIn (t .phase) x ≡ k → dueAfter (t .phase) k ≡ To r
     → isKind k dataBlock ≡ false → isKind k (hdr 2) ≡ false
     → Read s (stateAfter t r k (bytesIn x) .second) (stateAfter t r k (bytesIn x) .pending)
     (parts (after (stands at hdr1 (t .phase) (t .goesOn)) k (length (bytesIn x)) r) xs) es
@@ -210,22 +234,27 @@ unfolding stateAfter secondAfter pendingAfter eventsOf
 read-on s t r at hdr1 x xs k es e d a b h =
     let c = stands at hdr1 (t .phase) (t .goesOn) in
     let ps = parts (after c k (length (bytesIn x)) r) xs in
-    subst (λ (fs : List Event). Read s (t .second) (t .pending) (parts c (x ∷ xs)) (fs ++ es)) (sym (if-false _ _ _ a ∙ if-false _ _ _ b))
+    subst (λ (fs : List Event). Read s (t .second) (t .pending) (parts c (x ∷ xs)) (fs ++ es))
+    (sym (if-false _ _ _ a ∙ if-false _ _ _ b))
     (subst (λ (qs : List Part). Read s (t .second) (t .pending) qs es) (sym (parts-on c r x xs k e a b d))
     (subst (λ (m : List ℕ). Read s m (t .pending) ps es) (if-false (isKind k (hdr 2)) (bytesIn x) (t .second) b)
     (subst (λ (q : ℕ). Read s (ifB (isKind k (hdr 2)) (bytesIn x) (t .second)) q ps es)
     (if-false (isKind k dataBlock) (outcomeIn (t .second) (t .pending) (bytesIn x) .pending) (t .pending) a) h)))
 
 -- a data block
-read-block : (s : List ℕ) (g : Bool) (p r : Phase) (at hdr1 : ℕ) (second : List ℕ) (q : ℕ) (x : Item) (xs : List Item) (es : List Event) → ItemStands s at x xs
-    → InOrder s r (placeBehind at x) xs → kindIn p x ≡ dataBlock → dueAfter p dataBlock ≡ To r → (valueOf (recordLengthOf second) ≡ 0 → ⊥)
-    → outcomeIn second q (bytesIn x) .number ≡ 0 → Read s second (outcomeIn second q (bytesIn x) .pending) (parts (stands (placeBehind at x) hdr1 r g) xs) es
+read-block : (s : List ℕ) (g : Bool) (p r : Phase) (at hdr1 : ℕ) (second : List ℕ) (q : ℕ) (x : Item) (xs : List Item)
+    (es : List Event) → ItemStands s at x xs
+    → InOrder s r (placeBehind at x) xs → kindIn p x ≡ dataBlock → dueAfter p dataBlock ≡ To r
+    → (valueOf (recordLengthOf second) ≡ 0 → ⊥)
+    → outcomeIn second q (bytesIn x) .number ≡ 0
+    → Read s second (outcomeIn second q (bytesIn x) .pending) (parts (stands (placeBehind at x) hdr1 r g) xs) es
     → Read s second q (parts (stands at hdr1 p g) (x ∷ xs)) (holds (bytesIn x) (segmentsBy second (bytesIn x)) ∷ es)
 unfolding placeBehind
 read-block s g p r at hdr1 second q x xs es c o e d some' f h =
     let n = length (bytesIn x) in
     let ps = parts (stands (at + 3 + n) hdr1 r g) xs in
-    subst (λ (qs : List Part). Read s second q qs (holds (bytesIn x) (segmentsBy second (bytesIn x)) ∷ es)) (sym (parts-block p r g hdr1 at x xs e d))
+    subst (λ (qs : List Part). Read s second q qs (holds (bytesIn x) (segmentsBy second (bytesIn x)) ∷ es))
+    (sym (parts-block p r g hdr1 at x xs e d))
     (subst (λ (l : List ℕ). Read s second q (Block (at + 3) n ∷ ps) (holds l (segmentsBy second l) ∷ es)) (sym (c .bytes))
     (readBlock
     (record {
@@ -237,18 +266,23 @@ read-block s g p r at hdr1 second q x xs es c o e d some' f h =
     (subst (λ (l : List ℕ). Read s second (outcomeIn second q l .pending) ps es) (c .bytes) h)))
 
 -- HDR2: of a file that goes on, or of a new one with its HDR1 at `hdr1`
-read-second : (s : List ℕ) (g : Bool) (p r : Phase) (at hdr1 : ℕ) (first second : List ℕ) (q : ℕ) (x : Item) (xs : List Item) (es : List Event) → ItemStands s at x xs
-    → InOrder s r (placeBehind at x) xs → kindIn p x ≡ hdr 2 → dueAfter p (hdr 2) ≡ To r → (g ≡ false → q ≡ 0) → labelFault (hdr 2) (bytesIn x) .number ≡ 0
+read-second : (s : List ℕ) (g : Bool) (p r : Phase) (at hdr1 : ℕ) (first second : List ℕ) (q : ℕ) (x : Item) (xs : List Item)
+    (es : List Event) → ItemStands s at x xs
+    → InOrder s r (placeBehind at x) xs → kindIn p x ≡ hdr 2 → dueAfter p (hdr 2) ≡ To r → (g ≡ false → q ≡ 0)
+    → labelFault (hdr 2) (bytesIn x) .number ≡ 0
     → secondHeaderFault g second (bytesIn x) .number ≡ 0 → part hdr1 80 s ≡ first → length first ≡ 80
     → Read s (bytesIn x) q (parts (stands (placeBehind at x) hdr1 r g) xs) es
-    → Read s second q (parts (stands at hdr1 p g) (x ∷ xs)) ((ifB g (continues first (bytesIn x)) (begins first (bytesIn x)) ∷ []) ++ es)
+    → Read s second q (parts (stands at hdr1 p g) (x ∷ xs))
+    ((ifB g (continues first (bytesIn x)) (begins first (bytesIn x)) ∷ []) ++ es)
 unfolding ifB
 read-second s true p r at hdr1 first second q x xs es c o e d idle f m here long h =
     subst (λ (qs : List Part). Read s second q qs (continues first (bytesIn x) ∷ es)) (sym (parts-section p r hdr1 at x xs e d))
-    (readSection first (bytesIn x) here (label-here s at x xs c (header-long p x (ap (λ (k : Kind). k .family) e))) (same-lengths second (bytesIn x) m) h)
+    (readSection first (bytesIn x) here (label-here s at x xs c (header-long p x (ap (λ (k : Kind). k .family) e)))
+    (same-lengths second (bytesIn x) m) h)
 read-second s false p r at hdr1 first second q x xs es c o e d idle f m here long h =
     subst (λ (j : ℕ). Read s second j (parts (stands at hdr1 p false) (x ∷ xs)) (begins first (bytesIn x) ∷ es)) (sym (idle refl))
-    (subst (λ (qs : List Part). Read s second 0 qs (begins first (bytesIn x) ∷ es)) (sym (parts-file p hdr1 at x xs e)) (readFile first (bytesIn x) read rest))
+    (subst (λ (qs : List Part). Read s second 0 qs (begins first (bytesIn x) ∷ es)) (sym (parts-file p hdr1 at x xs e))
+    (readFile first (bytesIn x) read rest))
   where
     r2 : r ≡ Header 2
     r2 = second-behind p r d
@@ -274,7 +308,8 @@ read-second s false p r at hdr1 first second q x xs es c o e d idle f m here lon
     marked : Marked s ps (markFrom (at + 3 + 80) (decode (drop (at + 3 + 80) s)))
     marked =
         subst (Marked s ps) (ap₂ markFrom behind-at items-at)
-        (body-of s xs false (Header 2) hdr1 (placeBehind at x) (subst (λ (y : Phase). InOrder s y (placeBehind at x) xs) r2 o) (c .rest) (c .within) refl two refl)
+        (body-of s xs false (Header 2) hdr1 (placeBehind at x) (subst (λ (y : Phase). InOrder s y (placeBehind at x) xs) r2 o)
+        (c .rest) (c .within) refl two refl)
       where
         two : 2 ≤ 2
         two = omega arith
@@ -290,22 +325,28 @@ read-second s false p r at hdr1 first second q x xs es c o e d idle f m here lon
       next = unfold nextFile fileFrom in ap₂ (λ (i : ℕ) (ys : List Item). fileIn s (parts (stands i hdr1 (Header 2) false) ys)) behind-at items-at;
     }
 
-read-step : (s : List ℕ) (t : State) (r : Phase) (at hdr1 : ℕ) (x : Item) (xs : List Item) (es : List Event) {k : Kind} {a b : Stage} → Move k a b
-    → kindIn (t .phase) x ≡ k → dueAfter (t .phase) k ≡ To r → ItemStands s at x xs → InOrder s r (placeBehind at x) xs → Holds a (view t) → Sized a (t .goesOn) (t .second)
+read-step : (s : List ℕ) (t : State) (r : Phase) (at hdr1 : ℕ) (x : Item) (xs : List Item)
+    (es : List Event) {k : Kind} {a b : Stage} → Move k a b
+    → kindIn (t .phase) x ≡ k → dueAfter (t .phase) k ≡ To r → ItemStands s at x xs → InOrder s r (placeBehind at x) xs
+    → Holds a (view t) → Sized a (t .goesOn) (t .second)
     → part hdr1 80 s ≡ t .first → itemFault t k (bytesIn x) .number ≡ 0
     → Read s (stateAfter t r k (bytesIn x) .second) (stateAfter t r k (bytesIn x) .pending)
     (parts (after (stands at hdr1 (t .phase) (t .goesOn)) k (length (bytesIn x)) r) xs) es
     → Read s (t .second) (t .pending) (parts (stands at hdr1 (t .phase) (t .goesOn)) (x ∷ xs)) (eventsOf t k (bytesIn x) ++ es)
 unfolding stateAfter secondAfter pendingAfter eventsOf segmentsIn contextFault blockFault fault isKind ifB goesOnBehind firstBehind placeBehind
-read-step s t r at hdr1 x xs es {k} (stays c) e d i o h z here f again = read-on s t r at hdr1 x xs k es e d (c .datum) (c .second) again
-read-step s t r at hdr1 x xs es {k} (nextReel c) e d i o h z here f again = read-on s t r at hdr1 x xs k es e d (c .datum) (c .second) again
+read-step s t r at hdr1 x xs es {k} (stays c) e d i o h z here f again =
+    read-on s t r at hdr1 x xs k es e d (c .datum) (c .second) again
+read-step s t r at hdr1 x xs es {k} (nextReel c) e d i o h z here f again =
+    read-on s t r at hdr1 x xs k es e d (c .datum) (c .second) again
 read-step s t r at hdr1 x xs es header1 e d i o h z here f again = read-on s t r at hdr1 x xs (hdr 1) es e d refl refl again
 read-step s t r at hdr1 x xs es newFile e d i o h z here f again = read-on s t r at hdr1 x xs (hdr 1) es e d refl refl again
 read-step s t r at hdr1 x xs es header2 e d i o h z here f again =
-    read-second s (t .goesOn) (t .phase) r at hdr1 (t .first) (t .second) (t .pending) x xs es i o e d (h .outside .idle) (label-none t (hdr 2) (bytesIn x) f)
+    read-second s (t .goesOn) (t .phase) r at hdr1 (t .first) (t .second) (t .pending) x xs es i o e d (h .outside .idle)
+    (label-none t (hdr 2) (bytesIn x) f)
     (context-none t (hdr 2) (bytesIn x) f) here (h .long) again
 read-step s t r at hdr1 x xs es datum e d i o h z here f again =
-    read-block s (t .goesOn) (t .phase) r at hdr1 (t .second) (t .pending) x xs es i o e d (z refl) (context-none t dataBlock (bytesIn x) f) again
+    read-block s (t .goesOn) (t .phase) r at hdr1 (t .second) (t .pending) x xs es i o e d (z refl)
+    (context-none t dataBlock (bytesIn x) f) again
 read-step s t r at hdr1 x xs es eof1 e d i o h z here f again = read-on s t r at hdr1 x xs (eof 1) es e d refl refl again
 read-step s t r at hdr1 x xs es eov1 e d i o h z here f again = read-on s t r at hdr1 x xs (eov 1) es e d refl refl again
 read-step s t r at hdr1 x xs es finish e d i o h z here f again = read-on s t r at hdr1 x xs endOfImage es e d refl refl again
@@ -313,26 +354,31 @@ read-step s t r at hdr1 x xs es finish e d i o h z here f again = read-on s t r 
 -- ---- a whole reading
 
 -- where the image may end no record is open
-read-none : (s : List ℕ) (t : State) (at hdr1 : ℕ) → Kept t → MayEnd t → Read s (t .second) (t .pending) (parts (stands at hdr1 (t .phase) (t .goesOn)) []) []
+read-none : (s : List ℕ) (t : State) (at hdr1 : ℕ) → Kept t → MayEnd t
+    → Read s (t .second) (t .pending) (parts (stands at hdr1 (t .phase) (t .goesOn)) []) []
 unfolding partsFrom
 read-none s t at hdr1 kept h =
     let done : stage (t .phase) ≡ fileOver = image-end (t .phase) (kept .numbered) h in
     let idle : t .pending ≡ 0 = subst (λ (a : Stage). Holds a (view t)) done (kept .holds) .idle in
     subst (λ (q : ℕ). Read s (t .second) q [] []) (sym idle) readOver
 
-read : (s : List ℕ) (xs : List Item) (t : State) (at hdr1 : ℕ) → All MayEnd t xs → decode (drop at s) ≡ xs → allItems xs ≡ true → Kept t
+read : (s : List ℕ) (xs : List Item) (t : State) (at hdr1 : ℕ) → All MayEnd t xs → decode (drop at s) ≡ xs → allItems xs ≡ true
+    → Kept t
     → Sized (stage (t .phase)) (t .goesOn) (t .second) → part hdr1 80 s ≡ t .first
     → Read s (t .second) (t .pending) (parts (stands at hdr1 (t .phase) (t .goesOn)) xs) (handedOut (runs t xs))
 unfolding stateAfter goesOnAfter goesOnBehind placeBehind
 read s [] t at hdr1 all e good kept sized here =
-    subst (Read s (t .second) (t .pending) (parts (stands at hdr1 (t .phase) (t .goesOn)) [])) (sym (handed-none t all)) (read-none s t at hdr1 kept all)
+    subst (Read s (t .second) (t .pending) (parts (stands at hdr1 (t .phase) (t .goesOn)) [])) (sym (handed-none t all))
+    (read-none s t at hdr1 kept all)
 read s (x ∷ xs) t at hdr1 (q, f, all) e good kept sized here =
     let c = item-at s at x xs e (all-first x xs good) in
     let go = due-goes (t .phase) (kindIn (t .phase) x) q (kept .numbered) (f .due) in
-    subst (Read s (t .second) (t .pending) (parts (stands at hdr1 (t .phase) (t .goesOn)) (x ∷ xs))) (sym (handed-more t x xs q f all))
+    subst (Read s (t .second) (t .pending) (parts (stands at hdr1 (t .phase) (t .goesOn)) (x ∷ xs)))
+    (sym (handed-more t x xs q f all))
     (read-step s t q at hdr1 x xs (handedOut (runs (stateBehind t x q) xs)) (go .move) refl (f .due) c
     (in-order s xs (stateBehind t x q) (placeBehind at x) all (c .rest) (all-rest x xs good)) (kept .holds) sized here (f .sound)
-    (read s xs (stateBehind t x q) (placeBehind at x) (firstBehind hdr1 (at + 3) (kindIn (t .phase) x)) all (c .rest) (all-rest x xs good) (kept-step t x q kept f)
+    (read s xs (stateBehind t x q) (placeBehind at x) (firstBehind hdr1 (at + 3) (kindIn (t .phase) x)) all (c .rest)
+    (all-rest x xs good) (kept-step t x q kept f)
     (sized-step t q (bytesIn x) (go .move) sized (f .sound)) (first-step s t (t .phase) hdr1 at x xs c here)))
 
 no-label : (s : List ℕ) → part (length s) 80 s ≡ []
@@ -345,4 +391,5 @@ pub parts-read : (s : List ℕ) → imageVerdict s .number ≡ 0
 unfolding start items
 parts-read s h =
     let a = accepted-iff s .0 h in
-    read s (items s) start 5 (length s) (a .followed) refl (framing-items s (a .framed)) kept-start (λ on. absurd (false≢true on)) (no-label s)
+    read s (items s) start 5 (length s) (a .followed) refl (framing-items s (a .framed)) kept-start (λ on. absurd (false≢true on))
+    (no-label s)

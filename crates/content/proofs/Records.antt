@@ -1,4 +1,5 @@
--- Laws of the records from a walk on: the equations of `recordsAt`, `lastOf` and `endOf`, and how a record is made of its segments. Assumes nothing.
+-- Laws of the records from a walk on: the equations of `recordsAt`, `lastOf` and `endOf`, and how a record is made of its
+-- segments. Assumes nothing.
 use mathlib.Core.Path.{_≡_, refl, sym, ap, _∙_, subst}
 use mathlib.Core.Bool.{true}
 use mathlib.Core.List.{List, [], _∷_, _++_, map}
@@ -31,7 +32,8 @@ use Rattle.content.proofs.Rests.{UnitBehind, next-behind, from-behind}
 use Rattle.content.proofs.Joins.{JoinGoing, going, not-nothing, Splitting, splitting, split-not-nothing}
 use Rattle.content.proofs.Stepping.{split-stands}
 
--- ---- a record handed out is passed: the walk behind it is further on by at least its bytes, inside the image and over the same file, and
+-- ---- a record handed out is passed: the walk behind it is further on by at least its bytes, inside the image and over the same
+-- file, and
 -- from its block on the same file follows
 
 pub record Passes (s : List ℕ) (w : Walk) (r : List ℕ) (v : Walk) : Type 0 where
@@ -61,7 +63,8 @@ passes-unit s w start n v b =
       leads = b .leads;
     }
 
-passes-more : (s : List ℕ) (w : Walk) (start n : ℕ) (v : Walk) (r : List ℕ) (u : Walk) → UnitBehind s w start n v → Passes s v r u → Passes s w (part start n s ++ r) u
+passes-more : (s : List ℕ) (w : Walk) (start n : ℕ) (v : Walk) (r : List ℕ) (u : Walk) → UnitBehind s w start n v → Passes s v r u
+    → Passes s w (part start n s ++ r) u
 passes-more s w start n v r u b p =
     let long = length-part start n s (b .within) in
     record {
@@ -80,7 +83,8 @@ unfolding before
 passes-before s w start n v (ends r u) b p = passes-more s w start n v r u b p
 passes-before s w start n v fails b p = refl
 
-rest-by : (s : List ℕ) (room : ℕ) (w : Walk) (t : Taken) (g : ℕ → Walk → Rest) → unitNext s w ≡ t → ((r : ℕ) (v : Walk) → If-ends (Passes s v) (g r v))
+rest-by : (s : List ℕ) (room : ℕ) (w : Walk) (t : Taken) (g : ℕ → Walk → Rest) → unitNext s w ≡ t
+    → ((r : ℕ) (v : Walk) → If-ends (Passes s v) (g r v))
     → If-ends (Passes s w) (restBy s room t g)
 unfolding restBy
 rest-by s room w (One i start n v) g e h =
@@ -103,13 +107,16 @@ unfolding handed splitBy
 split-passes s w start n v (ends r u) b p = passes-more s w start n v r u b p
 split-passes s w start n v fails b p = refl
 
-begun-passes : (s : List ℕ) (w : Walk) (t : Taken) → Inside s w → unitFrom s w ≡ t → If-ends (Passes s w) (handed s (begunBy s (w .size) t))
+begun-passes : (s : List ℕ) (w : Walk) (t : Taken) → Inside s w → unitFrom s w ≡ t
+    → If-ends (Passes s w) (handed s (begunBy s (w .size) t))
 unfolding begunBy handed restAt
 begun-passes s w (One i start n v) h e =
     let b = from-behind s w i start n v h e in
     if-case (λ (x : Record). If-ends (Passes s w) (handed s x)) (leb n (w .size)) _ nothing
-    (λ _. if-case (λ (x : Record). If-ends (Passes s w) (handed s x)) (eqb i 0) (whole start n v) _ (λ _. passes-unit s w start n v b)
-    (λ _. if-case (λ (x : Record). If-ends (Passes s w) (handed s x)) (eqb i 1) (splitBy (part start n s) (restAt s (w .size - n) v)) nothing
+    (λ _. if-case (λ (x : Record). If-ends (Passes s w) (handed s x)) (eqb i 0) (whole start n v) _
+    (λ _. passes-unit s w start n v b)
+    (λ _. if-case (λ (x : Record). If-ends (Passes s w) (handed s x)) (eqb i 1)
+    (splitBy (part start n s) (restAt s (w .size - n) v)) nothing
     (λ _. split-passes s w start n v (restAt s (w .size - n) v) b (rest-fuel (suc (length s)) s (w .size - n) v)) (λ _. refl)))
     (λ _. refl)
 begun-passes s w Nothing h e = refl
@@ -132,7 +139,8 @@ unfolding alongBy
 same-by over more w (ends r v) g h e = ap (more r) (e r v refl)
 same-by over more w fails g h e = refl
 
-enough : {A : Type 0} (over : Walk → A) (more : List ℕ → A → A) (f g : ℕ) (s : List ℕ) (w : Walk) → length s - w .at < f → length s - w .at < g
+enough : {A : Type 0} (over : Walk → A) (more : List ℕ → A → A) (f g : ℕ) (s : List ℕ) (w : Walk) → length s - w .at < f
+    → length s - w .at < g
     → alongF over more f s w ≡ alongF over more g s w
 unfolding alongF
 enough over more zero g s w h k = absurd (omega arith)
@@ -149,24 +157,28 @@ along-at : {A : Type 0} (over : Walk → A) (more : List ℕ → A → A) (s : L
     → along over more s w ≡ alongBy over more w (handed s (recordAt s w)) (λ v. along over more s v)
 unfolding along alongF
 along-at over more s w =
-    same-by over more w (handed s (recordAt s w)) (λ v. alongF over more (length s) s v) (λ v. alongF over more (suc (length s)) s v)
+    same-by over more w (handed s (recordAt s w)) (λ v. alongF over more (length s) s v)
+    (λ v. alongF over more (suc (length s)) s v)
     (λ r v e.
     let p = handed-passes s w r v e in
     let on = p .onward in
     let in' = p .inside in
     enough over more (length s) (suc (length s)) s v (omega arith) (omega arith))
 
-along-more : {A : Type 0} (over : Walk → A) (more : List ℕ → A → A) (s : List ℕ) (w : Walk) (r : List ℕ) (v : Walk) → handed s (recordAt s w) ≡ ends r v
+along-more : {A : Type 0} (over : Walk → A) (more : List ℕ → A → A) (s : List ℕ) (w : Walk) (r : List ℕ) (v : Walk)
+    → handed s (recordAt s w) ≡ ends r v
     → along over more s w ≡ more r (along over more s v)
 unfolding alongBy
 along-more over more s w r v e = along-at over more s w ∙ ap (λ (x : Rest). alongBy over more w x (λ u. along over more s u)) e
 
-along-over : {A : Type 0} (over : Walk → A) (more : List ℕ → A → A) (s : List ℕ) (w : Walk) → handed s (recordAt s w) ≡ fails → along over more s w ≡ over w
+along-over : {A : Type 0} (over : Walk → A) (more : List ℕ → A → A) (s : List ℕ) (w : Walk) → handed s (recordAt s w) ≡ fails
+    → along over more s w ≡ over w
 unfolding alongBy
 along-over over more s w e = along-at over more s w ∙ ap (λ (x : Rest). alongBy over more w x (λ u. along over more s u)) e
 
 -- a record, and those from the walk behind it on
-pub records-more : (s : List ℕ) (w : Walk) (r : List ℕ) (v : Walk) → handed s (recordAt s w) ≡ ends r v → recordsAt s w ≡ r ∷ recordsAt s v
+pub records-more : (s : List ℕ) (w : Walk) (r : List ℕ) (v : Walk) → handed s (recordAt s w) ≡ ends r v
+    → recordsAt s w ≡ r ∷ recordsAt s v
 unfolding recordsAt
 records-more s w r v e = along-more (λ u. []) (λ t ts. t ∷ ts) s w r v e
 
@@ -199,7 +211,8 @@ walks-records s w [] h = records-over s w h
 walks-records s w (r ∷ rs) (v, e, h) = records-more s w r v e ∙ ap (λ (ts : List (List ℕ)). r ∷ ts) (walks-records s v rs h)
 
 -- it ends inside the image, and from there on the same file follows
-pub walks-end : (s : List ℕ) (w : Walk) (rs : List (List ℕ)) → Walks s w rs → Inside s w → (endOf s w ≤ length s) × Leads s (w .at + w .left) (endOf s w)
+pub walks-end : (s : List ℕ) (w : Walk) (rs : List (List ℕ)) → Walks s w rs → Inside s w
+    → (endOf s w ≤ length s) × Leads s (w .at + w .left) (endOf s w)
 walks-end s w [] h inside =
     let e = sym (end-over s w h) in
     (subst (λ (n : ℕ). n ≤ length s) e inside, λ x f. subst (Follows s x) e f)
@@ -217,7 +230,8 @@ handed-nothing s (whole a m u) e = let z : _≡_ {A = ℕ} 0 1 = cc in absurd (o
 handed-nothing s (split bs u) e = let z : _≡_ {A = ℕ} 0 1 = cc in absurd (omega arith)
 handed-nothing s nothing e = refl
 
-handed-whole : (s : List ℕ) (start n : ℕ) (v : Walk) (x : Record) → measuredBy x ≡ Whole start n v → handed s x ≡ ends (part start n s) v
+handed-whole : (s : List ℕ) (start n : ℕ) (v : Walk) (x : Record) → measuredBy x ≡ Whole start n v
+    → handed s x ≡ ends (part start n s) v
 unfolding measuredBy handed
 handed-whole s start n v (whole a m u) e =
     let p : a ≡ start = cc in
@@ -227,7 +241,8 @@ handed-whole s start n v (whole a m u) e =
 handed-whole s start n v (split bs u) e = let z : _≡_ {A = ℕ} 0 1 = cc in absurd (omega arith)
 handed-whole s start n v nothing e = let z : _≡_ {A = ℕ} 0 1 = cc in absurd (omega arith)
 
-handed-split : (s : List ℕ) (n : ℕ) (v : Walk) (x : Record) → measuredBy x ≡ Split n v → (handed s x ≡ ends (recordBytes x) v) × (length (recordBytes x) ≡ n)
+handed-split : (s : List ℕ) (n : ℕ) (v : Walk) (x : Record) → measuredBy x ≡ Split n v
+    → (handed s x ≡ ends (recordBytes x) v) × (length (recordBytes x) ≡ n)
 unfolding measuredBy handed recordBytes
 handed-split s n v (whole a m u) e = let z : _≡_ {A = ℕ} 0 1 = cc in absurd (omega arith)
 handed-split s n v (split bs u) e =
@@ -240,7 +255,8 @@ handed-split s n v nothing e = let z : _≡_ {A = ℕ} 0 1 = cc in absurd (omega
 pub measured-nothing : (s : List ℕ) (w : Walk) (m : Measured) → m ≡ measuredBy (recordAt s w) → m ≡ None → recordsAt s w ≡ []
 measured-nothing s w m e q = records-over s w (handed-nothing s (recordAt s w) (sym e ∙ q))
 
-pub measured-whole : (s : List ℕ) (w : Walk) (start n : ℕ) (v : Walk) (m : Measured) → m ≡ measuredBy (recordAt s w) → m ≡ Whole start n v
+pub measured-whole : (s : List ℕ) (w : Walk) (start n : ℕ) (v : Walk) (m : Measured) → m ≡ measuredBy (recordAt s w)
+    → m ≡ Whole start n v
     → recordsAt s w ≡ part start n s ∷ recordsAt s v
 measured-whole s w start n v m e q = records-more s w (part start n s) v (handed-whole s start n v (recordAt s w) (sym e ∙ q))
 
@@ -248,16 +264,20 @@ pub measured-split : (s : List ℕ) (w : Walk) (n : ℕ) (v : Walk) (m : Measure
     → recordsAt s w ≡ recordBytes (recordAt s w) ∷ recordsAt s v
 measured-split s w n v m e q = records-more s w (recordBytes (recordAt s w)) v (handed-split s n v (recordAt s w) (sym e ∙ q) .0)
 
-pub measured-end-nothing : (s : List ℕ) (w : Walk) (m : Measured) → m ≡ measuredBy (recordAt s w) → m ≡ None → endOf s w ≡ w .at + w .left
+pub measured-end-nothing : (s : List ℕ) (w : Walk) (m : Measured) → m ≡ measuredBy (recordAt s w) → m ≡ None
+    → endOf s w ≡ w .at + w .left
 measured-end-nothing s w m e q = end-over s w (handed-nothing s (recordAt s w) (sym e ∙ q))
 
-pub measured-end-whole : (s : List ℕ) (w : Walk) (start n : ℕ) (v : Walk) (m : Measured) → m ≡ measuredBy (recordAt s w) → m ≡ Whole start n v → endOf s w ≡ endOf s v
+pub measured-end-whole : (s : List ℕ) (w : Walk) (start n : ℕ) (v : Walk) (m : Measured) → m ≡ measuredBy (recordAt s w)
+    → m ≡ Whole start n v → endOf s w ≡ endOf s v
 measured-end-whole s w start n v m e q = end-more s w (part start n s) v (handed-whole s start n v (recordAt s w) (sym e ∙ q))
 
-pub measured-end-split : (s : List ℕ) (w : Walk) (n : ℕ) (v : Walk) (m : Measured) → m ≡ measuredBy (recordAt s w) → m ≡ Split n v → endOf s w ≡ endOf s v
+pub measured-end-split : (s : List ℕ) (w : Walk) (n : ℕ) (v : Walk) (m : Measured) → m ≡ measuredBy (recordAt s w) → m ≡ Split n v
+    → endOf s w ≡ endOf s v
 measured-end-split s w n v m e q = end-more s w (recordBytes (recordAt s w)) v (handed-split s n v (recordAt s w) (sym e ∙ q) .0)
 
-pub split-long : (s : List ℕ) (w : Walk) (n : ℕ) (v : Walk) (m : Measured) → m ≡ measuredBy (recordAt s w) → m ≡ Split n v → length (recordBytes (recordAt s w)) ≡ n
+pub split-long : (s : List ℕ) (w : Walk) (n : ℕ) (v : Walk) (m : Measured) → m ≡ measuredBy (recordAt s w) → m ≡ Split n v
+    → length (recordBytes (recordAt s w)) ≡ n
 split-long s w n v m e q = handed-split s n v (recordAt s w) (sym e ∙ q) .1
 
 -- a whole record lies in the image
@@ -291,12 +311,14 @@ record-within s w =
     (λ _. if-case (Within s) (isInside s w) (begunBy s (w .size) (unitFrom s w)) nothing
     (λ a. begun-within s w (unitFrom s w) (inside-true s w true (sym a) refl) refl) (λ _. refl))
 
-pub whole-within : (s : List ℕ) (w : Walk) (start n : ℕ) (v : Walk) (m : Measured) → m ≡ measuredBy (recordAt s w) → m ≡ Whole start n v → start + n ≤ length s
+pub whole-within : (s : List ℕ) (w : Walk) (start n : ℕ) (v : Walk) (m : Measured) → m ≡ measuredBy (recordAt s w)
+    → m ≡ Whole start n v → start + n ≤ length s
 whole-within s w start n v m e q = subst (If-whole (λ a k. a + k ≤ length s)) (sym e ∙ q) (record-within s w)
 
 -- ---- a split record, segment by segment
 
-first-is : (s : List ℕ) (w : Walk) (i start n : ℕ) (v : Walk) → firstSegment s w ≡ One i start n v → unitFrom s w ≡ One i start n v
+first-is : (s : List ℕ) (w : Walk) (i start n : ℕ) (v : Walk) → firstSegment s w ≡ One i start n v
+    → unitFrom s w ≡ One i start n v
 unfolding firstSegment
 first-is s w i start n v =
     if-case (λ (t : Taken). t ≡ One i start n v → unitFrom s w ≡ One i start n v) (isInside s w) (unitFrom s w) Nothing (λ _ e. e)
@@ -309,27 +331,32 @@ next-is s w i start n v =
     (λ _ e. let z : _≡_ {A = ℕ} 0 1 = cc in absurd (omega arith))
 
 -- the first segment of a split record, and the rest behind it
-pub first-split : (s : List ℕ) (w : Walk) (k : ℕ) (u : Walk) (m : Measured) (i start n : ℕ) (v : Walk) (t : Taken) → m ≡ measuredBy (recordAt s w) → m ≡ Split k u
+pub first-split : (s : List ℕ) (w : Walk) (k : ℕ) (u : Walk) (m : Measured) (i start n : ℕ) (v : Walk) (t : Taken)
+    → m ≡ measuredBy (recordAt s w) → m ≡ Split k u
     → t ≡ firstSegment s w → t ≡ One i start n v → Splitting s w start n v
 first-split s w k u m i start n v t e q f h =
-    splitting s w k i start n v (unitFrom s w) (split-stands s w k u m k e q (omega arith)) refl (first-is s w i start n v (sym f ∙ h))
+    splitting s w k i start n v (unitFrom s w) (split-stands s w k u m k e q (omega arith)) refl
+    (first-is s w i start n v (sym f ∙ h))
 
 -- a further segment, where a record goes on behind w and ends
-pub next-going : (s : List ℕ) (w : Walk) (i start n : ℕ) (v : Walk) (t : Taken) → Inside s w → isEnded (restAt s (w .size) w) ≡ true → t ≡ nextSegment s w
+pub next-going : (s : List ℕ) (w : Walk) (i start n : ℕ) (v : Walk) (t : Taken) → Inside s w
+    → isEnded (restAt s (w .size) w) ≡ true → t ≡ nextSegment s w
     → t ≡ One i start n v → JoinGoing s w i start n v
 next-going s w i start n v t h e f q =
     going s w 0 (length (bytesBehind s w)) i start n v (unitNext s w) (record { inside = h; ended = e; fits = omega arith }) refl
     (next-is s w i start n v (sym f ∙ q))
 
 -- there is such a segment
-pub first-some : (s : List ℕ) (w : Walk) (k : ℕ) (u : Walk) (m : Measured) (t : Taken) → m ≡ measuredBy (recordAt s w) → m ≡ Split k u → t ≡ firstSegment s w
+pub first-some : (s : List ℕ) (w : Walk) (k : ℕ) (u : Walk) (m : Measured) (t : Taken) → m ≡ measuredBy (recordAt s w)
+    → m ≡ Split k u → t ≡ firstSegment s w
     → t ≡ Nothing → ⊥
 unfolding firstSegment
 first-some s w k u m t e q f h =
     let c = split-stands s w k u m k e q (omega arith) in
     split-not-nothing s w k (unitFrom s w) c refl (sym (if-true _ _ _ (inside-is s w (c .inside))) ∙ sym f ∙ h)
 
-pub next-some : (s : List ℕ) (w : Walk) (t : Taken) → Inside s w → isEnded (restAt s (w .size) w) ≡ true → t ≡ nextSegment s w → t ≡ Nothing → ⊥
+pub next-some : (s : List ℕ) (w : Walk) (t : Taken) → Inside s w → isEnded (restAt s (w .size) w) ≡ true → t ≡ nextSegment s w
+    → t ≡ Nothing → ⊥
 unfolding nextSegment
 next-some s w t h e f q =
     not-nothing s w 0 (length (bytesBehind s w)) (unitNext s w) (record { inside = h; ended = e; fits = omega arith }) refl
@@ -346,7 +373,8 @@ pub record Counting (s : List ℕ) (from : Walk) (records bytes : ℕ) (w : Walk
 pub counting-none : (s : List ℕ) (from : Walk) → Counting s from 0 0 from
 counting-none s from = record { some = omega arith; most = omega arith; number = omega arith; total = omega arith }
 
-counting-more : (s : List ℕ) (from : Walk) (records bytes : ℕ) (w : Walk) (r : List ℕ) (n : ℕ) (v : Walk) → Counting s from records bytes w
+counting-more : (s : List ℕ) (from : Walk) (records bytes : ℕ) (w : Walk) (r : List ℕ) (n : ℕ) (v : Walk)
+    → Counting s from records bytes w
     → handed s (recordAt s w) ≡ ends r v → length r ≡ n → Counting s from (records + 1) (bytes + n) v
 unfolding sum
 counting-more s from records bytes w r n v c e l =
@@ -359,12 +387,15 @@ counting-more s from records bytes w r n v c e l =
       total = omega (arith, c .total, ap (λ (ts : List (List ℕ)). sum (map length ts)) rs, l);
     }
 
-pub counting-whole : (s : List ℕ) (from : Walk) (records bytes : ℕ) (w : Walk) (start n : ℕ) (v : Walk) (m : Measured) → Counting s from records bytes w
+pub counting-whole : (s : List ℕ) (from : Walk) (records bytes : ℕ) (w : Walk) (start n : ℕ) (v : Walk) (m : Measured)
+    → Counting s from records bytes w
     → m ≡ measuredBy (recordAt s w) → m ≡ Whole start n v → Counting s from (records + 1) (bytes + n) v
 counting-whole s from records bytes w start n v m c e q =
-    counting-more s from records bytes w (part start n s) n v c (handed-whole s start n v (recordAt s w) (sym e ∙ q)) (length-part start n s (whole-within s w start n v m e q))
+    counting-more s from records bytes w (part start n s) n v c (handed-whole s start n v (recordAt s w) (sym e ∙ q))
+    (length-part start n s (whole-within s w start n v m e q))
 
-pub counting-split : (s : List ℕ) (from : Walk) (records bytes : ℕ) (w : Walk) (n : ℕ) (v : Walk) (m : Measured) → Counting s from records bytes w
+pub counting-split : (s : List ℕ) (from : Walk) (records bytes : ℕ) (w : Walk) (n : ℕ) (v : Walk) (m : Measured)
+    → Counting s from records bytes w
     → m ≡ measuredBy (recordAt s w) → m ≡ Split n v → Counting s from (records + 1) (bytes + n) v
 counting-split s from records bytes w n v m c e q =
     let both = handed-split s n v (recordAt s w) (sym e ∙ q) in
@@ -373,7 +404,8 @@ counting-split s from records bytes w n v m c e q =
 facts-same : (x y : Facts) → x .records ≡ y .records → x .bytes ≡ y .bytes → x ≡ y
 facts-same x y a b = λ i. record { records = a i; bytes = b i }
 
-pub counted-all : (s : List ℕ) (from : Walk) (records bytes : ℕ) (w : Walk) (m : Measured) → Counting s from records bytes w → m ≡ measuredBy (recordAt s w) → m ≡ None
+pub counted-all : (s : List ℕ) (from : Walk) (records bytes : ℕ) (w : Walk) (m : Measured) → Counting s from records bytes w
+    → m ≡ measuredBy (recordAt s w) → m ≡ None
     → _≡_ {A = Facts} (record { records = records; bytes = bytes }) (factsOf (recordsAt s from))
 unfolding factsOf sum
 counted-all s from records bytes w m c e q =
@@ -388,7 +420,8 @@ record Further (s : List ℕ) (records bytes : ℕ) (w : Walk) (n : ℕ) (v : Wa
   total : bytes + n ≤ length s
   falls : length s - v .at < length s - w .at
 
-further : (s : List ℕ) (from : Walk) (records bytes : ℕ) (w : Walk) (r : List ℕ) (n : ℕ) (v : Walk) → Counting s from records bytes w
+further : (s : List ℕ) (from : Walk) (records bytes : ℕ) (w : Walk) (r : List ℕ) (n : ℕ) (v : Walk)
+    → Counting s from records bytes w
     → handed s (recordAt s w) ≡ ends r v → length r ≡ n → Further s records bytes w n v
 further s from records bytes w r n v c e l =
     let p = handed-passes s w r v e in
@@ -399,38 +432,49 @@ further s from records bytes w r n v c e l =
       falls = omega (arith, p .onward, p .inside);
     }
 
-further-whole : (s : List ℕ) (from : Walk) (records bytes : ℕ) (w : Walk) (start n : ℕ) (v : Walk) (m : Measured) → Counting s from records bytes w
+further-whole : (s : List ℕ) (from : Walk) (records bytes : ℕ) (w : Walk) (start n : ℕ) (v : Walk) (m : Measured)
+    → Counting s from records bytes w
     → m ≡ measuredBy (recordAt s w) → m ≡ Whole start n v → Further s records bytes w n v
 further-whole s from records bytes w start n v m c e q =
-    further s from records bytes w (part start n s) n v c (handed-whole s start n v (recordAt s w) (sym e ∙ q)) (length-part start n s (whole-within s w start n v m e q))
+    further s from records bytes w (part start n s) n v c (handed-whole s start n v (recordAt s w) (sym e ∙ q))
+    (length-part start n s (whole-within s w start n v m e q))
 
-further-split : (s : List ℕ) (from : Walk) (records bytes : ℕ) (w : Walk) (n : ℕ) (v : Walk) (m : Measured) → Counting s from records bytes w
+further-split : (s : List ℕ) (from : Walk) (records bytes : ℕ) (w : Walk) (n : ℕ) (v : Walk) (m : Measured)
+    → Counting s from records bytes w
     → m ≡ measuredBy (recordAt s w) → m ≡ Split n v → Further s records bytes w n v
 further-split s from records bytes w n v m c e q =
     let both = handed-split s n v (recordAt s w) (sym e ∙ q) in
     further s from records bytes w (recordBytes (recordAt s w)) n v c (both .0) (both .1)
 
-pub whole-number : (s : List ℕ) (from : Walk) (records bytes : ℕ) (w : Walk) (start n : ℕ) (v : Walk) (m : Measured) → Counting s from records bytes w
+pub whole-number : (s : List ℕ) (from : Walk) (records bytes : ℕ) (w : Walk) (start n : ℕ) (v : Walk) (m : Measured)
+    → Counting s from records bytes w
     → m ≡ measuredBy (recordAt s w) → m ≡ Whole start n v → length s < 18446744073709551616 → Fits w64 (records + 1)
-whole-number s from records bytes w start n v m c e q h = omega (arith, further-whole s from records bytes w start n v m c e q .number)
+whole-number s from records bytes w start n v m c e q h =
+    omega (arith, further-whole s from records bytes w start n v m c e q .number)
 
-pub split-number : (s : List ℕ) (from : Walk) (records bytes : ℕ) (w : Walk) (n : ℕ) (v : Walk) (m : Measured) → Counting s from records bytes w
+pub split-number : (s : List ℕ) (from : Walk) (records bytes : ℕ) (w : Walk) (n : ℕ) (v : Walk) (m : Measured)
+    → Counting s from records bytes w
     → m ≡ measuredBy (recordAt s w) → m ≡ Split n v → length s < 18446744073709551616 → Fits w64 (records + 1)
 split-number s from records bytes w n v m c e q h = omega (arith, further-split s from records bytes w n v m c e q .number)
 
-pub whole-total : (s : List ℕ) (from : Walk) (records bytes : ℕ) (w : Walk) (start n : ℕ) (v : Walk) (m : Measured) → Counting s from records bytes w
+pub whole-total : (s : List ℕ) (from : Walk) (records bytes : ℕ) (w : Walk) (start n : ℕ) (v : Walk) (m : Measured)
+    → Counting s from records bytes w
     → m ≡ measuredBy (recordAt s w) → m ≡ Whole start n v → length s < 18446744073709551616 → Fits w64 (bytes + n)
-whole-total s from records bytes w start n v m c e q h = omega (arith, further-whole s from records bytes w start n v m c e q .total)
+whole-total s from records bytes w start n v m c e q h =
+    omega (arith, further-whole s from records bytes w start n v m c e q .total)
 
-pub split-total : (s : List ℕ) (from : Walk) (records bytes : ℕ) (w : Walk) (n : ℕ) (v : Walk) (m : Measured) → Counting s from records bytes w
+pub split-total : (s : List ℕ) (from : Walk) (records bytes : ℕ) (w : Walk) (n : ℕ) (v : Walk) (m : Measured)
+    → Counting s from records bytes w
     → m ≡ measuredBy (recordAt s w) → m ≡ Split n v → length s < 18446744073709551616 → Fits w64 (bytes + n)
 split-total s from records bytes w n v m c e q h = omega (arith, further-split s from records bytes w n v m c e q .total)
 
-pub whole-falls : (s : List ℕ) (from : Walk) (records bytes : ℕ) (w : Walk) (start n : ℕ) (v : Walk) (m : Measured) → Counting s from records bytes w
+pub whole-falls : (s : List ℕ) (from : Walk) (records bytes : ℕ) (w : Walk) (start n : ℕ) (v : Walk) (m : Measured)
+    → Counting s from records bytes w
     → m ≡ measuredBy (recordAt s w) → m ≡ Whole start n v → length s - v .at < length s - w .at
 whole-falls s from records bytes w start n v m c e q = further-whole s from records bytes w start n v m c e q .falls
 
-pub split-falls : (s : List ℕ) (from : Walk) (records bytes : ℕ) (w : Walk) (n : ℕ) (v : Walk) (m : Measured) → Counting s from records bytes w
+pub split-falls : (s : List ℕ) (from : Walk) (records bytes : ℕ) (w : Walk) (n : ℕ) (v : Walk) (m : Measured)
+    → Counting s from records bytes w
     → m ≡ measuredBy (recordAt s w) → m ≡ Split n v → length s - v .at < length s - w .at
 split-falls s from records bytes w n v m c e q = further-split s from records bytes w n v m c e q .falls
 

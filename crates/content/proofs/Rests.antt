@@ -30,7 +30,8 @@ use Rattle.content.proofs.Sections.{data-within}
 use Rattle.content.proofs.Searches.{Follows, Leads, data-leads}
 use Rattle.content.proofs.Units.{unit-at}
 
--- ---- a unit is further on and inside the image, the walk behind it is over the same file, and from its block on the same file follows
+-- ---- a unit is further on and inside the image, the walk behind it is over the same file, and from its block on the same file
+-- follows
 
 pub record UnitBehind (s : List ℕ) (w : Walk) (start n : ℕ) (v : Walk) : Type 0 where
   pub onward : w .at < v .at
@@ -46,7 +47,8 @@ abbrev If-one : (ℕ → ℕ → Walk → Type 0) → Taken → Type 0
 If-one P (One i start n v) = P start n v
 If-one P Nothing = Nothing ≡ Nothing
 
-here-behind : (s : List ℕ) (w : Walk) (u : Unit) → Inside s w → unitOf (w .format) (w .size) (leftOf s w) ≡ u → If-one (UnitBehind s w) (taken w u)
+here-behind : (s : List ℕ) (w : Walk) (u : Unit) → Inside s w → unitOf (w .format) (w .size) (leftOf s w) ≡ u
+    → If-one (UnitBehind s w) (taken w u)
 unfolding taken
 here-behind s w (Of i c n) h e =
     let k = unit-at s w i c n e in
@@ -79,7 +81,8 @@ abbrev If-place : (Walk → Type 0) → Place → Type 0
 If-place P (At v) = P v
 If-place P Off = Off ≡ Off
 
-open-by : (s : List ℕ) (w : Walk) (x : Extent) → dataFrom Data (w .at + w .left) (decode (drop (w .at + w .left) s)) ≡ x → If-place (BlockOpened s w) (opened w x)
+open-by : (s : List ℕ) (w : Walk) (x : Extent) → dataFrom Data (w .at + w .left) (decode (drop (w .at + w .left) s)) ≡ x
+    → If-place (BlockOpened s w) (opened w x)
 unfolding opened
 open-by s w (Block start n) e =
     let c = data-within s Data (w .at + w .left) start n e in
@@ -126,7 +129,8 @@ next-any : (s : List ℕ) (w : Walk) → If-one (UnitBehind s w) (unitNext s w)
 unfolding unitNext
 next-any s w = in-behind s w (blockNext s w) (block-behind s w)
 
-or-any : (s : List ℕ) (w : Walk) (t u : Taken) → If-one (UnitBehind s w) t → If-one (UnitBehind s w) u → If-one (UnitBehind s w) (orNext t u)
+or-any : (s : List ℕ) (w : Walk) (t u : Taken) → If-one (UnitBehind s w) t → If-one (UnitBehind s w) u
+    → If-one (UnitBehind s w) (orNext t u)
 unfolding orNext
 or-any s w (One i start n v) u a b = a
 or-any s w Nothing u a b = b
@@ -134,7 +138,8 @@ or-any s w Nothing u a b = b
 pub next-behind : (s : List ℕ) (w : Walk) (i start n : ℕ) (v : Walk) → unitNext s w ≡ One i start n v → UnitBehind s w start n v
 next-behind s w i start n v e = subst (If-one (UnitBehind s w)) e (next-any s w)
 
-pub from-behind : (s : List ℕ) (w : Walk) (i start n : ℕ) (v : Walk) → Inside s w → unitFrom s w ≡ One i start n v → UnitBehind s w start n v
+pub from-behind : (s : List ℕ) (w : Walk) (i start n : ℕ) (v : Walk) → Inside s w → unitFrom s w ≡ One i start n v
+    → UnitBehind s w start n v
 unfolding unitFrom unitHere
 from-behind s w i start n v h e = subst (If-one (UnitBehind s w)) e (or-any s w _ _ (here-behind s w _ h refl) (next-any s w))
 
@@ -145,10 +150,13 @@ rest-same : (s : List ℕ) (room : ℕ) (t : Taken) (g h : ℕ → Walk → Rest
     → ((i start n : ℕ) (v : Walk) → t ≡ One i start n v → (r : ℕ) → g r v ≡ h r v) → restBy s room t g ≡ restBy s room t h
 unfolding restBy
 rest-same s room (One i start n v) g h e =
-    ap (λ (x : Rest). ifB (leb n room) (ifB (eqb i 3) (ends (part start n s) v) (ifB (eqb i 2) (before (part start n s) x) fails)) fails) (e i start n v refl (room - n))
+    ap (λ (x : Rest). ifB (leb n room)
+    (ifB (eqb i 3) (ends (part start n s) v) (ifB (eqb i 2) (before (part start n s) x) fails)) fails)
+    (e i start n v refl (room - n))
 rest-same s room Nothing g h e = refl
 
-enough : (f g : ℕ) (s : List ℕ) (room : ℕ) (w : Walk) → length s - w .at < f → length s - w .at < g → restF f s room w ≡ restF g s room w
+enough : (f g : ℕ) (s : List ℕ) (room : ℕ) (w : Walk) → length s - w .at < f → length s - w .at < g
+    → restF f s room w ≡ restF g s room w
 unfolding restF
 enough zero g s room w h k = absurd (omega arith)
 enough (suc f) zero s room w h k = absurd (omega arith)
@@ -185,13 +193,15 @@ unfolding Most before
 most-before room n bs (ends cs v) h k m = omega (arith, length-append bs cs)
 most-before room n bs fails h k m = refl
 
-most-by : (s : List ℕ) (room : ℕ) (t : Taken) (g : ℕ → Walk → Rest) → ((r : ℕ) (v : Walk) → Most r (g r v)) → Most room (restBy s room t g)
+most-by : (s : List ℕ) (room : ℕ) (t : Taken) (g : ℕ → Walk → Rest) → ((r : ℕ) (v : Walk) → Most r (g r v))
+    → Most room (restBy s room t g)
 unfolding restBy Most
 most-by s room (One i start n v) g h =
     if-case (Most room) (leb n room) _ fails
     (λ a. let k = leb-true n room a in let p = part-most start n s in
     if-case (Most room) (eqb i 3) (ends (part start n s) v) _ (λ _. omega arith)
-    (λ _. if-case (Most room) (eqb i 2) _ fails (λ _. most-before room n (part start n s) (g (room - n) v) k p (h (room - n) v)) (λ _. refl)))
+    (λ _. if-case (Most room) (eqb i 2) _ fails (λ _. most-before room n (part start n s) (g (room - n) v) k p (h (room - n) v))
+    (λ _. refl)))
     (λ _. refl)
 most-by s room Nothing g h = refl
 
@@ -212,7 +222,8 @@ ended-before bs (ends cs v) h = refl
 ended-before bs fails h = h
 
 roomy-by : (s : List ℕ) (room more : ℕ) (t : Taken) (g : ℕ → Walk → Rest) → room ≤ more
-    → ((r q : ℕ) (v : Walk) → r ≤ q → isEnded (g r v) ≡ true → g q v ≡ g r v) → isEnded (restBy s room t g) ≡ true → restBy s more t g ≡ restBy s room t g
+    → ((r q : ℕ) (v : Walk) → r ≤ q → isEnded (g r v) ≡ true → g q v ≡ g r v) → isEnded (restBy s room t g) ≡ true
+    → restBy s more t g ≡ restBy s room t g
 unfolding restBy isEnded
 roomy-by s room more (One i start n v) g h again =
     if-case (λ (x : Rest). isEnded x ≡ true → ifB (leb n more) (goes more) fails ≡ x) (leb n room) (goes room) fails
@@ -226,15 +237,19 @@ roomy-by s room more (One i start n v) g h again =
         if-case (λ (x : Rest). isEnded x ≡ true → goes more ≡ x) (eqb i 3) (ends (part start n s) v) _ (λ e _. if-true _ _ _ e)
         (λ e. if-case (λ (x : Rest). isEnded x ≡ true → goes more ≡ x) (eqb i 2) (before (part start n s) (g (room - n) v)) fails
         (λ f q. if-false _ _ _ e ∙ if-true _ _ _ f
-        ∙ ap (before (part start n s)) (again (room - n) (more - n) v (omega arith) (ended-before (part start n s) (g (room - n) v) q)))
+        ∙ ap (before (part start n s))
+        (again (room - n) (more - n) v (omega arith) (ended-before (part start n s) (g (room - n) v) q)))
         (λ _ q. absurd (false≢true q)))
 roomy-by s room more Nothing g h again = λ q. refl
 
-roomy-fuel : (f : ℕ) (s : List ℕ) (room more : ℕ) (w : Walk) → room ≤ more → isEnded (restF f s room w) ≡ true → restF f s more w ≡ restF f s room w
+roomy-fuel : (f : ℕ) (s : List ℕ) (room more : ℕ) (w : Walk) → room ≤ more → isEnded (restF f s room w) ≡ true
+    → restF f s more w ≡ restF f s room w
 unfolding restF isEnded
 roomy-fuel zero s room more w h e = refl
-roomy-fuel (suc f) s room more w h e = roomy-by s room more (unitNext s w) (λ r v. restF f s r v) h (λ r q v l k. roomy-fuel f s r q v l k) e
+roomy-fuel (suc f) s room more w h e =
+    roomy-by s room more (unitNext s w) (λ r v. restF f s r v) h (λ r q v l k. roomy-fuel f s r q v l k) e
 
-pub rest-roomy : (s : List ℕ) (room more : ℕ) (w : Walk) → room ≤ more → isEnded (restAt s room w) ≡ true → restAt s more w ≡ restAt s room w
+pub rest-roomy : (s : List ℕ) (room more : ℕ) (w : Walk) → room ≤ more → isEnded (restAt s room w) ≡ true
+    → restAt s more w ≡ restAt s room w
 unfolding restAt
 rest-roomy s room more w h e = roomy-fuel (suc (length s)) s room more w h e

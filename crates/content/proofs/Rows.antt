@@ -56,7 +56,8 @@ unfolding recordAt begunBy
 single s w start n u =
     if-case P (eqb (w .size) 0) nothing _ (λ _ q. absurd (nothing-whole start n u q))
     (λ a. if-case P (isInside s w) (begunBy s (w .size) (unitFrom s w)) nothing
-    (λ b. by-unit (eqb-false (w .size) 0 a) (inside-true s w true (sym b) refl) (unitFrom s w) refl) (λ _ q. absurd (nothing-whole start n u q)))
+    (λ b. by-unit (eqb-false (w .size) 0 a) (inside-true s w true (sym b) refl) (unitFrom s w) refl)
+    (λ _ q. absurd (nothing-whole start n u q)))
   where
     P : Record → Type 0
     P x = x ≡ whole start n u → Single s w start n u
@@ -76,7 +77,8 @@ single s w start n u =
           unit = e ∙ ap₂ (λ (j m : ℕ). One j m k v) z x ∙ ap₂ (λ (m : ℕ) (t : Walk). One 0 start m t) y h;
           short = omega arith;
         })
-        (λ _. if-case P (eqb i 1) _ nothing (λ _ q. absurd (split-whole _ _ start n u q)) (λ _ q. absurd (nothing-whole start n u q))))
+        (λ _. if-case P (eqb i 1) _ nothing (λ _ q. absurd (split-whole _ _ start n u q))
+        (λ _ q. absurd (nothing-whole start n u q))))
         (λ _ q. absurd (nothing-whole start n u q))
     by-unit some inside Nothing e = λ q. absurd (nothing-whole start n u q)
 
@@ -93,7 +95,8 @@ one-same : (i a b j c d : ℕ) (x y : Walk) → One i a b x ≡ One j c d y → 
 one-same i a b j c d x y t = cc
 
 -- a record begins there that has several segments, if it ends
-pub begun-no-whole : (s : List ℕ) (w v : Walk) (k : ℕ) → v ≡ atBlock s w → k ≡ begunIn s (standsAt (v .format) (v .size) (v .at) (v .left)) → (k ≡ 0 → ⊥)
+pub begun-no-whole : (s : List ℕ) (w v : Walk) (k : ℕ) → v ≡ atBlock s w
+    → k ≡ begunIn s (standsAt (v .format) (v .size) (v .at) (v .left)) → (k ≡ 0 → ⊥)
     → Nothing ≡ wholeBy (recordAt s w)
 begun-no-whole s w v k e m z =
     by-none (recordAt s w)
@@ -102,12 +105,14 @@ begun-no-whole s w v k e m z =
     let same = one-same _ _ _ _ _ _ _ _ (sym (leads s w v e .unit _ _ _ _ (b .segment .unit)) ∙ one .unit) in
     omega (arith, same, b .digit))
 
-pub measured-none : (s : List ℕ) (w : Walk) (m : Measured) → m ≡ measuredBy (recordAt s w) → m ≡ None → Nothing ≡ wholeBy (recordAt s w)
+pub measured-none : (s : List ℕ) (w : Walk) (m : Measured) → m ≡ measuredBy (recordAt s w) → m ≡ None
+    → Nothing ≡ wholeBy (recordAt s w)
 unfolding measuredBy
 measured-none s w m e q =
     by-none (recordAt s w) (λ start n u p. let same : None ≡ Whole start n u = sym q ∙ e ∙ ap measuredBy p in let z : _≡_ {A = ℕ} 0 1 = cc in omega arith)
 
-pub measured-split : (s : List ℕ) (w : Walk) (m : Measured) (k : ℕ) (v : Walk) → m ≡ measuredBy (recordAt s w) → m ≡ Split k v → Nothing ≡ wholeBy (recordAt s w)
+pub measured-split : (s : List ℕ) (w : Walk) (m : Measured) (k : ℕ) (v : Walk) → m ≡ measuredBy (recordAt s w) → m ≡ Split k v
+    → Nothing ≡ wholeBy (recordAt s w)
 unfolding measuredBy
 measured-split s w m k v e q =
     by-none (recordAt s w) (λ start n u p. let same : Split k v ≡ Whole start n u = sym q ∙ e ∙ ap measuredBy p in let z : _≡_ {A = ℕ} 0 1 = cc in omega arith)
@@ -118,7 +123,8 @@ measured-is start n u (whole a k v) e = cc
 measured-is start n u (split bs v) e = let z : _≡_ {A = ℕ} 0 1 = cc in absurd (omega arith)
 measured-is start n u nothing e = let z : _≡_ {A = ℕ} 0 1 = cc in absurd (omega arith)
 
-pub measured-one : (s : List ℕ) (w : Walk) (m : Measured) (start n : ℕ) (u : Walk) → m ≡ measuredBy (recordAt s w) → m ≡ Whole start n u
+pub measured-one : (s : List ℕ) (w : Walk) (m : Measured) (start n : ℕ) (u : Walk) → m ≡ measuredBy (recordAt s w)
+    → m ≡ Whole start n u
     → One 0 start n u ≡ wholeBy (recordAt s w)
 unfolding wholeBy
 measured-one s w m start n u e q = sym (ap wholeBy (measured-is start n u (recordAt s w) (sym e ∙ q)))
@@ -139,10 +145,12 @@ unfolding stepsAt stepsBy stepAt stepBy
 none-more s zero w h = refl
 none-more s (suc k) w h = by-record (recordAt s w) h
   where
-    by-record : (x : Record) → ((start n : ℕ) (u : Walk) → x ≡ whole start n u → ⊥) → stepsBy w (stepBy 0 x) (λ v. stepsAt s k v) ≡ stays w
+    by-record : (x : Record) → ((start n : ℕ) (u : Walk) → x ≡ whole start n u → ⊥)
+        → stepsBy w (stepBy 0 x) (λ v. stepsAt s k v) ≡ stays w
     by-record (whole a n u) g = absurd (g a n u refl)
     by-record (split bs u) g =
-        if-case (λ (y : Step). stepsBy w y (λ v. stepsAt s k v) ≡ stays w) (leb (length bs) 0) (Joined (length bs) u) (Refused 10) (λ _. refl) (λ _. refl)
+        if-case (λ (y : Step). stepsBy w y (λ v. stepsAt s k v) ≡ stays w) (leb (length bs) 0) (Joined (length bs) u) (Refused 10)
+        (λ _. refl) (λ _. refl)
     by-record nothing g = refl
 
 -- ---- the loop: with i records in the lists, those from w on put behind them make the whole
@@ -152,9 +160,12 @@ pub record Rowing (s old olds : List ℕ) (from : Walk) (places lengths : List �
   pub file : w .format ≡ from .format
   pub longPlaces : length places ≡ length old
   pub longLengths : length lengths ≡ length olds
-  pub samePlaces : putAt places i (stepsAt s (min (length old) (length olds) - i) w .places) ≡ putAt old 0 (stepsAt s (min (length old) (length olds)) from .places)
-  pub sameLengths : putAt lengths i (stepsAt s (min (length old) (length olds) - i) w .lengths) ≡ putAt olds 0 (stepsAt s (min (length old) (length olds)) from .lengths)
-  pub sameCount : i + length (stepsAt s (min (length old) (length olds) - i) w .places) ≡ length (stepsAt s (min (length old) (length olds)) from .places)
+  pub samePlaces : putAt places i (stepsAt s (min (length old) (length olds) - i) w .places)
+      ≡ putAt old 0 (stepsAt s (min (length old) (length olds)) from .places)
+  pub sameLengths : putAt lengths i (stepsAt s (min (length old) (length olds) - i) w .lengths)
+      ≡ putAt olds 0 (stepsAt s (min (length old) (length olds)) from .lengths)
+  pub sameCount : i + length (stepsAt s (min (length old) (length olds) - i) w .places)
+      ≡ length (stepsAt s (min (length old) (length olds)) from .places)
   pub sameWalk : stepsAt s (min (length old) (length olds) - i) w .walk ≡ stepsAt s (min (length old) (length olds)) from .walk
 
 pub rowing-none : (s old olds : List ℕ) (from : Walk) → Rowing s old olds from old olds from 0
@@ -173,8 +184,10 @@ rowing-none s old olds from =
       sameWalk = ap (λ (k : ℕ). stepsAt s k from .walk) e;
     }
 
-rowing-more : (s old olds : List ℕ) (from : Walk) (places lengths : List ℕ) (w : Walk) (i start n : ℕ) (u : Walk) → Rowing s old olds from places lengths w i
-    → i < length places → i < length lengths → recordAt s w ≡ whole start n u → Rowing s old olds from (set places i start) (set lengths i n) u (i + 1)
+rowing-more : (s old olds : List ℕ) (from : Walk) (places lengths : List ℕ) (w : Walk) (i start n : ℕ) (u : Walk)
+    → Rowing s old olds from places lengths w i
+    → i < length places → i < length lengths → recordAt s w ≡ whole start n u
+    → Rowing s old olds from (set places i start) (set lengths i n) u (i + 1)
 rowing-more s old olds from places lengths w i start n u c h k e =
     let room : ℕ = min (length old) (length olds) in
     let a = c .longPlaces in
@@ -189,24 +202,32 @@ rowing-more s old olds from places lengths w i start n u c h k e =
       file = from-behind s w 0 start n u (one .inside) (one .unit) .format ∙ c .file;
       longPlaces = length-set places i start ∙ a;
       longLengths = length-set lengths i n ∙ b;
-      samePlaces = sym (put-first places i start (x .places) h) ∙ ap (λ (y : StepRow). putAt places i (y .places)) (sym more) ∙ c .samePlaces;
-      sameLengths = sym (put-first lengths i n (x .lengths) k) ∙ ap (λ (y : StepRow). putAt lengths i (y .lengths)) (sym more) ∙ c .sameLengths;
+      samePlaces =
+          sym (put-first places i start (x .places) h) ∙ ap (λ (y : StepRow). putAt places i (y .places)) (sym more)
+          ∙ c .samePlaces;
+      sameLengths =
+          sym (put-first lengths i n (x .lengths) k) ∙ ap (λ (y : StepRow). putAt lengths i (y .lengths)) (sym more)
+          ∙ c .sameLengths;
       sameCount = sum ∙ ap (λ (y : StepRow). i + length (y .places)) (sym more) ∙ c .sameCount;
       sameWalk = ap (λ (y : StepRow). y .walk) (sym more) ∙ c .sameWalk;
     }
 
 -- the control word is that of the file's format
-word-here : (s old olds : List ℕ) (from : Walk) (places lengths : List ℕ) (w : Walk) (i : ℕ) (v : Walk) (c : ℕ) → Rowing s old olds from places lengths w i
+word-here : (s old olds : List ℕ) (from : Walk) (places lengths : List ℕ) (w : Walk) (i : ℕ) (v : Walk) (c : ℕ)
+    → Rowing s old olds from places lengths w i
     → v ≡ atBlock s w → c ≡ wordOf (from .format) → c ≡ wordOf (v .format)
 word-here s old olds from places lengths w i v c r e p = p ∙ ap wordOf (sym (leads s w v e .format ∙ r .file))
 
-pub rowing-whole : (s old olds : List ℕ) (from : Walk) (places lengths : List ℕ) (w : Walk) (i : ℕ) (v u : Walk) (k c : ℕ) → Rowing s old olds from places lengths w i
-    → i < length places → i < length lengths → v ≡ atBlock s w → k ≡ wholeAt s v → (k ≡ 0 → ⊥) → c ≡ wordOf (from .format) → u ≡ moved v (v .at + k) (v .left - k)
+pub rowing-whole : (s old olds : List ℕ) (from : Walk) (places lengths : List ℕ) (w : Walk) (i : ℕ) (v u : Walk) (k c : ℕ)
+    → Rowing s old olds from places lengths w i
+    → i < length places → i < length lengths → v ≡ atBlock s w → k ≡ wholeAt s v → (k ≡ 0 → ⊥) → c ≡ wordOf (from .format)
+    → u ≡ moved v (v .at + k) (v .left - k)
     → Rowing s old olds from (set places i (v .at + c)) (set lengths i (k - c)) u (i + 1)
 rowing-whole s old olds from places lengths w i v u k c r h j e m z p q =
     let word = word-here s old olds from places lengths w i v c r e p in
     rowing-more s old olds from places lengths w i (v .at + c) (k - c) u r h j
-    (record-whole s w v k e m z ∙ ap (λ (x : ℕ). whole (v .at + x) (k - x) (moved v (v .at + k) (v .left - k))) (sym word) ∙ ap (whole (v .at + c) (k - c)) (sym q))
+    (record-whole s w v k e m z ∙ ap (λ (x : ℕ). whole (v .at + x) (k - x) (moved v (v .at + k) (v .left - k))) (sym word)
+    ∙ ap (whole (v .at + c) (k - c)) (sym q))
 
 by-whole : (i start n : ℕ) (u : Walk) (x : Record) → wholeBy x ≡ One i start n u → x ≡ whole start n u
 unfolding wholeBy
@@ -214,15 +235,18 @@ by-whole i start n u (whole a k v) e = cc
 by-whole i start n u (split bs v) e = let z : _≡_ {A = ℕ} 0 1 = cc in absurd (omega arith)
 by-whole i start n u nothing e = let z : _≡_ {A = ℕ} 0 1 = cc in absurd (omega arith)
 
-pub rowing-taken : (s old olds : List ℕ) (from : Walk) (places lengths : List ℕ) (w : Walk) (i j start n : ℕ) (u : Walk) (t : Taken)
-    → Rowing s old olds from places lengths w i → i < length places → i < length lengths → t ≡ wholeBy (recordAt s w) → t ≡ One j start n u
+pub rowing-taken : (s old olds : List ℕ) (from : Walk) (places lengths : List ℕ) (w : Walk) (i j start n : ℕ) (u : Walk)
+    (t : Taken)
+    → Rowing s old olds from places lengths w i → i < length places → i < length lengths → t ≡ wholeBy (recordAt s w)
+    → t ≡ One j start n u
     → Rowing s old olds from (set places i start) (set lengths i n) u (i + 1)
 rowing-taken s old olds from places lengths w i j start n u t c h k e q =
     rowing-more s old olds from places lengths w i start n u c h k (by-whole j start n u (recordAt s w) (sym e ∙ q))
 
 -- ---- where it ends
 
-pub full-places : (s old olds : List ℕ) (from : Walk) (places lengths : List ℕ) (w : Walk) (i : ℕ) → Rowing s old olds from places lengths w i → length places ≤ i
+pub full-places : (s old olds : List ℕ) (from : Walk) (places lengths : List ℕ) (w : Walk) (i : ℕ)
+    → Rowing s old olds from places lengths w i → length places ≤ i
     → stepsAt s (min (length old) (length olds) - i) w ≡ stays w
 unfolding stepsAt
 full-places s old olds from places lengths w i c h =
@@ -230,7 +254,8 @@ full-places s old olds from places lengths w i c h =
     let e : min (length old) (length olds) - i ≡ 0 = omega arith in
     ap (λ (k : ℕ). stepsAt s k w) e
 
-pub full-lengths : (s old olds : List ℕ) (from : Walk) (places lengths : List ℕ) (w : Walk) (i : ℕ) → Rowing s old olds from places lengths w i → length lengths ≤ i
+pub full-lengths : (s old olds : List ℕ) (from : Walk) (places lengths : List ℕ) (w : Walk) (i : ℕ)
+    → Rowing s old olds from places lengths w i → length lengths ≤ i
     → stepsAt s (min (length old) (length olds) - i) w ≡ stays w
 unfolding stepsAt
 full-lengths s old olds from places lengths w i c h =
@@ -238,13 +263,16 @@ full-lengths s old olds from places lengths w i c h =
     let e : min (length old) (length olds) - i ≡ 0 = omega arith in
     ap (λ (k : ℕ). stepsAt s k w) e
 
-pub at-none : (s : List ℕ) (room : ℕ) (w : Walk) (t : Taken) → t ≡ wholeBy (recordAt s w) → t ≡ Nothing → stepsAt s room w ≡ stays w
+pub at-none : (s : List ℕ) (room : ℕ) (w : Walk) (t : Taken) → t ≡ wholeBy (recordAt s w) → t ≡ Nothing
+    → stepsAt s room w ≡ stays w
 unfolding wholeBy
 at-none s room w t e q =
     none-more s room w (λ start n u p. let same : Nothing ≡ One 0 start n u = sym q ∙ e ∙ ap wholeBy p in let z : _≡_ {A = ℕ} 0 1 = cc in omega arith)
 
-pub row-done : (s old olds : List ℕ) (from : Walk) (places lengths : List ℕ) (w : Walk) (i : ℕ) (r : Row) → Rowing s old olds from places lengths w i
-    → stepsAt s (min (length old) (length olds) - i) w ≡ stays w → r ≡ record { count = i; walk = w } → r ≡ rowOf (stepsAt s (min (length old) (length olds)) from)
+pub row-done : (s old olds : List ℕ) (from : Walk) (places lengths : List ℕ) (w : Walk) (i : ℕ) (r : Row)
+    → Rowing s old olds from places lengths w i
+    → stepsAt s (min (length old) (length olds) - i) w ≡ stays w → r ≡ record { count = i; walk = w }
+    → r ≡ rowOf (stepsAt s (min (length old) (length olds)) from)
 unfolding rowOf
 row-done s old olds from places lengths w i r c e q =
     let z : i ≡ i + 0 = omega arith in
@@ -252,32 +280,46 @@ row-done s old olds from places lengths w i r c e q =
     let walk : w ≡ stepsAt s (min (length old) (length olds)) from .walk = ap (λ (y : StepRow). y .walk) (sym e) ∙ c .sameWalk in
     q ∙ (λ j. record { count = count j; walk = walk j })
 
-pub places-done : (s old olds : List ℕ) (from : Walk) (places lengths : List ℕ) (w : Walk) (i : ℕ) → Rowing s old olds from places lengths w i
-    → stepsAt s (min (length old) (length olds) - i) w ≡ stays w → places ≡ putAt old 0 (stepsAt s (min (length old) (length olds)) from .places)
-places-done s old olds from places lengths w i c e = sym (put-none places i) ∙ ap (λ (y : StepRow). putAt places i (y .places)) (sym e) ∙ c .samePlaces
+pub places-done : (s old olds : List ℕ) (from : Walk) (places lengths : List ℕ) (w : Walk) (i : ℕ)
+    → Rowing s old olds from places lengths w i
+    → stepsAt s (min (length old) (length olds) - i) w ≡ stays w
+    → places ≡ putAt old 0 (stepsAt s (min (length old) (length olds)) from .places)
+places-done s old olds from places lengths w i c e =
+    sym (put-none places i) ∙ ap (λ (y : StepRow). putAt places i (y .places)) (sym e) ∙ c .samePlaces
 
-pub lengths-done : (s old olds : List ℕ) (from : Walk) (places lengths : List ℕ) (w : Walk) (i : ℕ) → Rowing s old olds from places lengths w i
-    → stepsAt s (min (length old) (length olds) - i) w ≡ stays w → lengths ≡ putAt olds 0 (stepsAt s (min (length old) (length olds)) from .lengths)
-lengths-done s old olds from places lengths w i c e = sym (put-none lengths i) ∙ ap (λ (y : StepRow). putAt lengths i (y .lengths)) (sym e) ∙ c .sameLengths
+pub lengths-done : (s old olds : List ℕ) (from : Walk) (places lengths : List ℕ) (w : Walk) (i : ℕ)
+    → Rowing s old olds from places lengths w i
+    → stepsAt s (min (length old) (length olds) - i) w ≡ stays w
+    → lengths ≡ putAt olds 0 (stepsAt s (min (length old) (length olds)) from .lengths)
+lengths-done s old olds from places lengths w i c e =
+    sym (put-none lengths i) ∙ ap (λ (y : StepRow). putAt lengths i (y .lengths)) (sym e) ∙ c .sameLengths
 
 -- ---- what the code computes has its place
 
-pub row-start : (s old olds : List ℕ) (from : Walk) (places lengths : List ℕ) (w : Walk) (i : ℕ) (v : Walk) (k c : ℕ) → Rowing s old olds from places lengths w i
-    → v ≡ atBlock s w → k ≡ wholeAt s v → (k ≡ 0 → ⊥) → c ≡ wordOf (from .format) → length s < 18446744073709551616 → Fits w64 (v .at + c)
-row-start s old olds from places lengths w i v k c r e m z p h = whole-start s v k c m z (word-here s old olds from places lengths w i v c r e p) h
+pub row-start : (s old olds : List ℕ) (from : Walk) (places lengths : List ℕ) (w : Walk) (i : ℕ) (v : Walk) (k c : ℕ)
+    → Rowing s old olds from places lengths w i
+    → v ≡ atBlock s w → k ≡ wholeAt s v → (k ≡ 0 → ⊥) → c ≡ wordOf (from .format) → length s < 18446744073709551616
+    → Fits w64 (v .at + c)
+row-start s old olds from places lengths w i v k c r e m z p h =
+    whole-start s v k c m z (word-here s old olds from places lengths w i v c r e p) h
 
-pub row-word : (s old olds : List ℕ) (from : Walk) (places lengths : List ℕ) (w : Walk) (i : ℕ) (v : Walk) (k c : ℕ) → Rowing s old olds from places lengths w i
+pub row-word : (s old olds : List ℕ) (from : Walk) (places lengths : List ℕ) (w : Walk) (i : ℕ) (v : Walk) (k c : ℕ)
+    → Rowing s old olds from places lengths w i
     → v ≡ atBlock s w → k ≡ wholeAt s v → (k ≡ 0 → ⊥) → c ≡ wordOf (from .format) → c ≤ k
-row-word s old olds from places lengths w i v k c r e m z p = word-least s v k c m z (word-here s old olds from places lengths w i v c r e p)
+row-word s old olds from places lengths w i v k c r e m z p =
+    word-least s v k c m z (word-here s old olds from places lengths w i v c r e p)
 
-pub row-fits : (s old olds : List ℕ) (from : Walk) (places lengths : List ℕ) (w : Walk) (i : ℕ) → Rowing s old olds from places lengths w i → i < length places
+pub row-fits : (s old olds : List ℕ) (from : Walk) (places lengths : List ℕ) (w : Walk) (i : ℕ)
+    → Rowing s old olds from places lengths w i → i < length places
     → length old < 18446744073709551616 → Fits w64 (i + 1)
 row-fits s old olds from places lengths w i c h k = let e = c .longPlaces in omega arith
 
-pub long-places : (s old olds : List ℕ) (from : Walk) (places lengths : List ℕ) (w : Walk) (i : ℕ) → Rowing s old olds from places lengths w i → length places ≡ length old
+pub long-places : (s old olds : List ℕ) (from : Walk) (places lengths : List ℕ) (w : Walk) (i : ℕ)
+    → Rowing s old olds from places lengths w i → length places ≡ length old
 long-places s old olds from places lengths w i c = c .longPlaces
 
-pub long-lengths : (s old olds : List ℕ) (from : Walk) (places lengths : List ℕ) (w : Walk) (i : ℕ) → Rowing s old olds from places lengths w i → length lengths ≡ length olds
+pub long-lengths : (s old olds : List ℕ) (from : Walk) (places lengths : List ℕ) (w : Walk) (i : ℕ)
+    → Rowing s old olds from places lengths w i → length lengths ≡ length olds
 long-lengths s old olds from places lengths w i c = c .longLengths
 
 pub row-less : (places : List ℕ) (i x : ℕ) → i < length places → length (set places i x) - (i + 1) < length places - i

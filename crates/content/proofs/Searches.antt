@@ -1,4 +1,5 @@
--- Laws of the parts of an image whose items are in order: from whatever place in the data of a file on, the same parts follow. Assumes nothing.
+-- Laws of the parts of an image whose items are in order: from whatever place in the data of a file on, the same parts follow.
+-- Assumes nothing.
 use mathlib.Core.Path.{_≡_, refl, sym, ap, ap₂, _∙_, subst}
 use mathlib.Core.Bool.{Bool, true, false, false≢true}
 use mathlib.Core.List.{List, [], _∷_, map}
@@ -43,7 +44,8 @@ pub record ItemStands (s : List ℕ) (at : ℕ) (x : Item) (xs : List Item) : Ty
   pub good : isItem x ≡ true
   pub bytes : bytesIn x ≡ part (at + 3) (length (bytesIn x)) s
 
-pub item-at : (s : List ℕ) (at : ℕ) (x : Item) (xs : List Item) → decode (drop at s) ≡ x ∷ xs → isItem x ≡ true → ItemStands s at x xs
+pub item-at : (s : List ℕ) (at : ℕ) (x : Item) (xs : List Item) → decode (drop at s) ≡ x ∷ xs → isItem x ≡ true
+    → ItemStands s at x xs
 unfolding placeBehind isItem
 item-at s at x xs h good = by-seen (seenAt s Data at) refl
   where
@@ -68,31 +70,42 @@ item-at s at x xs h good = by-seen (seenAt s Data at) refl
 -- each item from a place on is due where it stands
 abbrev pub InOrder : List ℕ → Phase → ℕ → List Item → Type 0
 InOrder s p at [] = Unit {0}
-InOrder s p at (x ∷ xs) = (q : Phase) × ItemStands s at x xs × (dueAfter p (kindIn p x) ≡ To q) × InOrder s q (placeBehind at x) xs
+InOrder s p at (x ∷ xs) =
+    (q : Phase) × ItemStands s at x xs × (dueAfter p (kindIn p x) ≡ To q) × InOrder s q (placeBehind at x) xs
 
 -- ---- the parts from one item on
 
-parts-item : (c : Position) (q : Phase) (x : Item) (xs : List Item) (k : Kind) → kindIn (c .phase) x ≡ k → ledTo (c .continues) (c .phase) k ≡ To q
+parts-item : (c : Position) (q : Phase) (x : Item) (xs : List Item) (k : Kind) → kindIn (c .phase) x ≡ k
+    → ledTo (c .continues) (c .phase) k ≡ To q
     → parts c (x ∷ xs)
     ≡ map (λ (p : PartAt). p .part)
-    (onto (partIn (c .continues) (c .hdr1) (c .at + 3) (length (bytesIn x)) k) (after c k (length (bytesIn x)) q) (partsFrom (after c k (length (bytesIn x)) q) xs))
+    (onto (partIn (c .continues) (c .hdr1) (c .at + 3) (length (bytesIn x)) k) (after c k (length (bytesIn x)) q)
+    (partsFrom (after c k (length (bytesIn x)) q) xs))
 unfolding partsFrom partsBy
-parts-item c q x xs k e d = ap (map (λ (p : PartAt). p .part)) (ap (λ (j : Kind). partsBy (ledTo (c .continues) (c .phase) j) (λ r. rest j r)) e ∙ ap (λ (y : Due). partsBy y (λ r. rest k r)) d)
+parts-item c q x xs k e d =
+    ap (map (λ (p : PartAt). p .part))
+    (ap (λ (j : Kind). partsBy (ledTo (c .continues) (c .phase) j) (λ r. rest j r)) e
+    ∙ ap (λ (y : Due). partsBy y (λ r. rest k r)) d)
   where
     rest : Kind → Phase → List PartAt
-    rest j r = onto (partIn (c .continues) (c .hdr1) (c .at + 3) (length (bytesIn x)) j) (after c j (length (bytesIn x)) r) (partsFrom (after c j (length (bytesIn x)) r) xs)
+    rest j r =
+        onto (partIn (c .continues) (c .hdr1) (c .at + 3) (length (bytesIn x)) j) (after c j (length (bytesIn x)) r)
+        (partsFrom (after c j (length (bytesIn x)) r) xs)
 
 -- one that is no part
-pub parts-on : (c : Position) (q : Phase) (x : Item) (xs : List Item) (k : Kind) → kindIn (c .phase) x ≡ k → isKind k dataBlock ≡ false → isKind k (hdr 2) ≡ false
+pub parts-on : (c : Position) (q : Phase) (x : Item) (xs : List Item) (k : Kind) → kindIn (c .phase) x ≡ k
+    → isKind k dataBlock ≡ false → isKind k (hdr 2) ≡ false
     → dueAfter (c .phase) k ≡ To q → parts c (x ∷ xs) ≡ parts (after c k (length (bytesIn x)) q) xs
 unfolding ledTo beginsFile partIn onto
 parts-on c q x xs k e a b d =
     parts-item c q x xs k e (if-false _ _ _ (if-false _ _ _ b) ∙ d)
-    ∙ ap (λ (p : Part). map (λ (r : PartAt). r .part) (onto p (after c k (length (bytesIn x)) q) (partsFrom (after c k (length (bytesIn x)) q) xs)))
+    ∙ ap (λ (p : Part). map (λ (r : PartAt). r .part)
+    (onto p (after c k (length (bytesIn x)) q) (partsFrom (after c k (length (bytesIn x)) q) xs)))
     (if-false _ _ _ a ∙ if-false _ _ _ b)
 
 -- a data block
-pub parts-block : (p q : Phase) (g : Bool) (hdr1 at : ℕ) (x : Item) (xs : List Item) → kindIn p x ≡ dataBlock → dueAfter p dataBlock ≡ To q
+pub parts-block : (p q : Phase) (g : Bool) (hdr1 at : ℕ) (x : Item) (xs : List Item) → kindIn p x ≡ dataBlock
+    → dueAfter p dataBlock ≡ To q
     → parts (stands at hdr1 p g) (x ∷ xs) ≡ Block (at + 3) (length (bytesIn x)) ∷ parts (stands (placeBehind at x) hdr1 q g) xs
 unfolding ledTo beginsFile goesOnBehind firstBehind partIn onto isKind ifB placeBehind
 parts-block p q g hdr1 at x xs e d = parts-item (stands at hdr1 p g) q x xs dataBlock e d
@@ -117,12 +130,14 @@ quiet-first : (first at : ℕ) (k : Kind) → Quiet k → firstBehind first at k
 unfolding firstBehind
 quiet-first first at k c = if-false _ _ _ (c .first)
 
-parts-quiet : (g : Bool) (p q : Phase) (hdr1 at : ℕ) (x : Item) (xs : List Item) (k : Kind) → Quiet k → kindIn p x ≡ k → dueAfter p k ≡ To q
+parts-quiet : (g : Bool) (p q : Phase) (hdr1 at : ℕ) (x : Item) (xs : List Item) (k : Kind) → Quiet k → kindIn p x ≡ k
+    → dueAfter p k ≡ To q
     → parts (stands at hdr1 p g) (x ∷ xs) ≡ parts (stands (placeBehind at x) hdr1 q g) xs
 unfolding placeBehind
 parts-quiet g p q hdr1 at x xs k c e d =
     parts-on (stands at hdr1 p g) q x xs k e (c .datum) (c .second) d
-    ∙ ap₂ (λ (i : ℕ) (y : Bool). parts (stands (at + 3 + length (bytesIn x)) i q y) xs) (quiet-first hdr1 (at + 3) k c) (quiet-goes g k c)
+    ∙ ap₂ (λ (i : ℕ) (y : Bool). parts (stands (at + 3 + length (bytesIn x)) i q y) xs) (quiet-first hdr1 (at + 3) k c)
+    (quiet-goes g k c)
 
 -- ---- what a search has to know
 
@@ -134,9 +149,11 @@ Alike within g h a b = Unit {0}
 Alike fileOver g h a b = g ≡ h
 Alike reelOver g h a b = g ≡ h
 
-alike-step : (g h : Bool) (p q : Phase) (a b at : ℕ) (x : Item) (xs : List Item) {k : Kind} {m n : Stage} → Move k m n → kindIn p x ≡ k → dueAfter p k ≡ To q
+alike-step : (g h : Bool) (p q : Phase) (a b at : ℕ) (x : Item) (xs : List Item) {k : Kind} {m n : Stage} → Move k m n
+    → kindIn p x ≡ k → dueAfter p k ≡ To q
     → Alike m g h a b
-    → ((g h : Bool) (a b : ℕ) → Alike n g h a b → parts (stands (placeBehind at x) a q g) xs ≡ parts (stands (placeBehind at x) b q h) xs)
+    → ((g h : Bool) (a b : ℕ) → Alike n g h a b
+    → parts (stands (placeBehind at x) a q g) xs ≡ parts (stands (placeBehind at x) b q h) xs)
     → parts (stands at a p g) (x ∷ xs) ≡ parts (stands at b p h) (x ∷ xs)
 unfolding isKind ifB goesOnBehind firstBehind placeBehind
 alike-step g h p q a b at x xs {k} (stays c) e d l again =
@@ -144,29 +161,38 @@ alike-step g h p q a b at x xs {k} (stays c) e d l again =
 alike-step g h p q a b at x xs {k} (nextReel c) e d l again =
     parts-quiet g p q a at x xs k c e d ∙ again g h a b l ∙ sym (parts-quiet h p q b at x xs k c e d)
 alike-step g h p q a b at x xs header1 e d l again =
-    parts-on (stands at a p g) q x xs (hdr 1) e refl refl d ∙ again g h (at + 3) (at + 3) (l, refl) ∙ sym (parts-on (stands at b p h) q x xs (hdr 1) e refl refl d)
+    parts-on (stands at a p g) q x xs (hdr 1) e refl refl d ∙ again g h (at + 3) (at + 3) (l, refl)
+    ∙ sym (parts-on (stands at b p h) q x xs (hdr 1) e refl refl d)
 alike-step g h p q a b at x xs nextFile e d l again =
-    parts-on (stands at a p g) q x xs (hdr 1) e refl refl d ∙ again g h (at + 3) (at + 3) (l, refl) ∙ sym (parts-on (stands at b p h) q x xs (hdr 1) e refl refl d)
+    parts-on (stands at a p g) q x xs (hdr 1) e refl refl d ∙ again g h (at + 3) (at + 3) (l, refl)
+    ∙ sym (parts-on (stands at b p h) q x xs (hdr 1) e refl refl d)
 alike-step g h p q a b at x xs header2 e d (l, f) again = ap₂ (λ (y : Bool) (i : ℕ). parts (stands at i p y) (x ∷ xs)) l f
 alike-step g h p q a b at x xs datum e d l again =
-    parts-block p q g a at x xs e d ∙ ap (λ (ps : List Part). Block (at + 3) (length (bytesIn x)) ∷ ps) (again g h a b tt) ∙ sym (parts-block p q h b at x xs e d)
+    parts-block p q g a at x xs e d ∙ ap (λ (ps : List Part). Block (at + 3) (length (bytesIn x)) ∷ ps) (again g h a b tt)
+    ∙ sym (parts-block p q h b at x xs e d)
 alike-step g h p q a b at x xs eof1 e d l again =
-    parts-on (stands at a p g) q x xs (eof 1) e refl refl d ∙ again false false a b refl ∙ sym (parts-on (stands at b p h) q x xs (eof 1) e refl refl d)
+    parts-on (stands at a p g) q x xs (eof 1) e refl refl d ∙ again false false a b refl
+    ∙ sym (parts-on (stands at b p h) q x xs (eof 1) e refl refl d)
 alike-step g h p q a b at x xs eov1 e d l again =
-    parts-on (stands at a p g) q x xs (eov 1) e refl refl d ∙ again true true a b refl ∙ sym (parts-on (stands at b p h) q x xs (eov 1) e refl refl d)
+    parts-on (stands at a p g) q x xs (eov 1) e refl refl d ∙ again true true a b refl
+    ∙ sym (parts-on (stands at b p h) q x xs (eov 1) e refl refl d)
 alike-step g h p q a b at x xs finish e d l again =
-    parts-on (stands at a p g) q x xs endOfImage e refl refl d ∙ again g h a b l ∙ sym (parts-on (stands at b p h) q x xs endOfImage e refl refl d)
+    parts-on (stands at a p g) q x xs endOfImage e refl refl d ∙ again g h a b l
+    ∙ sym (parts-on (stands at b p h) q x xs endOfImage e refl refl d)
 
-parts-alike : (s : List ℕ) (xs : List Item) (g h : Bool) (p : Phase) (a b at : ℕ) → Numbered p → InOrder s p at xs → Alike (stage p) g h a b
+parts-alike : (s : List ℕ) (xs : List Item) (g h : Bool) (p : Phase) (a b at : ℕ) → Numbered p → InOrder s p at xs
+    → Alike (stage p) g h a b
     → parts (stands at a p g) xs ≡ parts (stands at b p h) xs
 unfolding partsFrom
 parts-alike s [] g h p a b at num o l = refl
 parts-alike s (x ∷ xs) g h p a b at num (q, c, d, o) l =
     let go = due-goes p (kindIn p x) q num d in
-    alike-step g h p q a b at x xs (go .move) refl d l (λ g′ h′ a′ b′ l′. parts-alike s xs g′ h′ q a′ b′ (placeBehind at x) (go .numbered) o l′)
+    alike-step g h p q a b at x xs (go .move) refl d l
+    (λ g′ h′ a′ b′ l′. parts-alike s xs g′ h′ q a′ b′ (placeBehind at x) (go .numbered) o l′)
 
 -- among the data of a file its next block does not hang on what was read before
-pub data-from : (s : List ℕ) (g : Bool) (q : Phase) (hdr1 b : ℕ) (xs : List Item) → q ≡ Data → decode (drop b s) ≡ xs → InOrder s q b xs
+pub data-from : (s : List ℕ) (g : Bool) (q : Phase) (hdr1 b : ℕ) (xs : List Item) → q ≡ Data → decode (drop b s) ≡ xs
+    → InOrder s q b xs
     → blockIn (parts (stands b hdr1 q g) xs) ≡ dataFrom Data b (decode (drop b s))
 unfolding dataFrom
 data-from s g q hdr1 b xs e r o =
@@ -185,13 +211,16 @@ pub record Follows (s : List ℕ) (x : NextFile) (b : ℕ) : Type 0 where
 abbrev pub Leads : List ℕ → ℕ → ℕ → Type 0
 Leads s a b = (x : NextFile) → Follows s x a → Follows s x b
 
-pub follows-here : (s : List ℕ) (g : Bool) (q : Phase) (hdr1 b : ℕ) (xs : List Item) → q ≡ Data → decode (drop b s) ≡ xs → InOrder s q b xs
+pub follows-here : (s : List ℕ) (g : Bool) (q : Phase) (hdr1 b : ℕ) (xs : List Item) → q ≡ Data → decode (drop b s) ≡ xs
+    → InOrder s q b xs
     → Follows s (fileIn s (parts (stands b hdr1 q g) xs)) b
 follows-here s g q hdr1 b xs e r o =
     subst (λ (p : Phase). Follows s (fileIn s (parts (stands b hdr1 p g) xs)) b) (sym e)
     (record {
       ordered = subst (InOrder s Data b) (sym r) there;
-      same = λ h m. ap (λ (ys : List Item). fileIn s (parts (stands b m Data h) ys)) r ∙ ap (fileIn s) (parts-alike s xs h g Data m hdr1 b tt there tt);
+      same =
+          λ h m. ap (λ (ys : List Item). fileIn s (parts (stands b m Data h) ys)) r
+          ∙ ap (fileIn s) (parts-alike s xs h g Data m hdr1 b tt there tt);
     })
   where
     there : InOrder s Data b xs
@@ -210,17 +239,21 @@ unfolding fileIn blockIn firstIn isWanted ifB
 section-passes s a b ps qs e = record { file = ap (fileIn s) e; datum = ap blockIn e }
 
 -- an item of an open file that is no data block and not its EOF1
-pub open-step : (s : List ℕ) (g : Bool) (p q : Phase) (hdr1 at : ℕ) (x : Item) (xs : List Item) {k : Kind} {m n : Stage} → Move k m n → kindIn p x ≡ k → dueAfter p k ≡ To q
+pub open-step : (s : List ℕ) (g : Bool) (p q : Phase) (hdr1 at : ℕ) (x : Item) (xs : List Item) {k : Kind} {m n : Stage}
+    → Move k m n → kindIn p x ≡ k → dueAfter p k ≡ To q
     → isOpen m g ≡ true → isKind k dataBlock ≡ false → isKind k (eof 1) ≡ false
-    → Passes s (parts (stands at hdr1 p g) (x ∷ xs)) (parts (stands (placeBehind at x) (firstBehind hdr1 (at + 3) k) q (goesOnBehind g k)) xs)
+    → Passes s (parts (stands at hdr1 p g) (x ∷ xs))
+    (parts (stands (placeBehind at x) (firstBehind hdr1 (at + 3) k) q (goesOnBehind g k)) xs)
     × (isOpen n (goesOnBehind g k) ≡ true)
 unfolding isKind ifB goesOnBehind firstBehind placeBehind
 open-step s g p q hdr1 at x xs {k} (stays {a = a} c) e d o f i =
     (same-passes s _ _ (parts-on (stands at hdr1 p g) q x xs k e (c .datum) (c .second) d), ap (isOpen a) (quiet-goes g k c) ∙ o)
 open-step s g p q hdr1 at x xs {k} (nextReel c) e d o f i =
     (same-passes s _ _ (parts-on (stands at hdr1 p g) q x xs k e (c .datum) (c .second) d), quiet-goes g k c ∙ o)
-open-step s g p q hdr1 at x xs header1 e d o f i = (same-passes s _ _ (parts-on (stands at hdr1 p g) q x xs (hdr 1) e refl refl d), o)
-open-step s g p q hdr1 at x xs nextFile e d o f i = (same-passes s _ _ (parts-on (stands at hdr1 p g) q x xs (hdr 1) e refl refl d), o)
+open-step s g p q hdr1 at x xs header1 e d o f i =
+    (same-passes s _ _ (parts-on (stands at hdr1 p g) q x xs (hdr 1) e refl refl d), o)
+open-step s g p q hdr1 at x xs nextFile e d o f i =
+    (same-passes s _ _ (parts-on (stands at hdr1 p g) q x xs (hdr 1) e refl refl d), o)
 open-step s g p q hdr1 at x xs header2 e d o f i = (
   section-passes s hdr1 (at + 3) _ _
       (ap (λ (y : Bool). parts (stands at hdr1 p y) (x ∷ xs)) o ∙ parts-section p q hdr1 at x xs e d
@@ -229,38 +262,50 @@ open-step s g p q hdr1 at x xs header2 e d o f i = (
 )
 open-step s g p q hdr1 at x xs datum e d o f i = absurd (false≢true (sym f))
 open-step s g p q hdr1 at x xs eof1 e d o f i = absurd (false≢true (sym i))
-open-step s g p q hdr1 at x xs eov1 e d o f i = (same-passes s _ _ (parts-on (stands at hdr1 p g) q x xs (eov 1) e refl refl d), refl)
-open-step s g p q hdr1 at x xs finish e d o f i = (same-passes s _ _ (parts-on (stands at hdr1 p g) q x xs endOfImage e refl refl d), o)
+open-step s g p q hdr1 at x xs eov1 e d o f i =
+    (same-passes s _ _ (parts-on (stands at hdr1 p g) q x xs (eov 1) e refl refl d), refl)
+open-step s g p q hdr1 at x xs finish e d o f i =
+    (same-passes s _ _ (parts-on (stands at hdr1 p g) q x xs endOfImage e refl refl d), o)
 
 -- where no file is open, a file begins before any data
-shut-step : (g : Bool) (p q : Phase) (hdr1 at : ℕ) (x : Item) (xs : List Item) {k : Kind} {m n : Stage} → Move k m n → kindIn p x ≡ k → dueAfter p k ≡ To q
+shut-step : (g : Bool) (p q : Phase) (hdr1 at : ℕ) (x : Item) (xs : List Item) {k : Kind} {m n : Stage} → Move k m n
+    → kindIn p x ≡ k → dueAfter p k ≡ To q
     → isOpen m g ≡ false
-    → ((i : ℕ) → isOpen n (goesOnBehind g k) ≡ false → blockIn (parts (stands (placeBehind at x) i q (goesOnBehind g k)) xs) ≡ Nowhere)
+    → ((i : ℕ) → isOpen n (goesOnBehind g k) ≡ false
+    → blockIn (parts (stands (placeBehind at x) i q (goesOnBehind g k)) xs) ≡ Nowhere)
     → blockIn (parts (stands at hdr1 p g) (x ∷ xs)) ≡ Nowhere
 unfolding isKind ifB goesOnBehind firstBehind placeBehind blockIn asBlock firstIn isWanted
 shut-step g p q hdr1 at x xs {k} (stays {a = a} c) e d o again =
-    ap blockIn (parts-on (stands at hdr1 p g) q x xs k e (c .datum) (c .second) d) ∙ again (firstBehind hdr1 (at + 3) k) (ap (isOpen a) (quiet-goes g k c) ∙ o)
+    ap blockIn (parts-on (stands at hdr1 p g) q x xs k e (c .datum) (c .second) d)
+    ∙ again (firstBehind hdr1 (at + 3) k) (ap (isOpen a) (quiet-goes g k c) ∙ o)
 shut-step g p q hdr1 at x xs {k} (nextReel c) e d o again =
-    ap blockIn (parts-on (stands at hdr1 p g) q x xs k e (c .datum) (c .second) d) ∙ again (firstBehind hdr1 (at + 3) k) (quiet-goes g k c ∙ o)
-shut-step g p q hdr1 at x xs header1 e d o again = ap blockIn (parts-on (stands at hdr1 p g) q x xs (hdr 1) e refl refl d) ∙ again (at + 3) o
-shut-step g p q hdr1 at x xs nextFile e d o again = ap blockIn (parts-on (stands at hdr1 p g) q x xs (hdr 1) e refl refl d) ∙ again (at + 3) o
+    ap blockIn (parts-on (stands at hdr1 p g) q x xs k e (c .datum) (c .second) d)
+    ∙ again (firstBehind hdr1 (at + 3) k) (quiet-goes g k c ∙ o)
+shut-step g p q hdr1 at x xs header1 e d o again =
+    ap blockIn (parts-on (stands at hdr1 p g) q x xs (hdr 1) e refl refl d) ∙ again (at + 3) o
+shut-step g p q hdr1 at x xs nextFile e d o again =
+    ap blockIn (parts-on (stands at hdr1 p g) q x xs (hdr 1) e refl refl d) ∙ again (at + 3) o
 shut-step g p q hdr1 at x xs header2 e d o again =
     ap blockIn (ap (λ (y : Bool). parts (stands at hdr1 p y) (x ∷ xs)) o ∙ parts-file p hdr1 at x xs e)
 shut-step g p q hdr1 at x xs datum e d o again = absurd (false≢true (sym o))
 shut-step g p q hdr1 at x xs eof1 e d o again = absurd (false≢true (sym o))
 shut-step g p q hdr1 at x xs eov1 e d o again = absurd (false≢true (sym o))
-shut-step g p q hdr1 at x xs finish e d o again = ap blockIn (parts-on (stands at hdr1 p g) q x xs endOfImage e refl refl d) ∙ again hdr1 o
+shut-step g p q hdr1 at x xs finish e d o again =
+    ap blockIn (parts-on (stands at hdr1 p g) q x xs endOfImage e refl refl d) ∙ again hdr1 o
 
-shut-none : (s : List ℕ) (xs : List Item) (g : Bool) (p : Phase) (hdr1 at : ℕ) → Numbered p → InOrder s p at xs → isOpen (stage p) g ≡ false
+shut-none : (s : List ℕ) (xs : List Item) (g : Bool) (p : Phase) (hdr1 at : ℕ) → Numbered p → InOrder s p at xs
+    → isOpen (stage p) g ≡ false
     → blockIn (parts (stands at hdr1 p g) xs) ≡ Nowhere
 unfolding partsFrom blockIn asBlock firstIn
 shut-none s [] g p hdr1 at num i o = refl
 shut-none s (x ∷ xs) g p hdr1 at num (q, c, d, i) o =
     let go = due-goes p (kindIn p x) q num d in
-    shut-step g p q hdr1 at x xs (go .move) refl d o (λ first off. shut-none s xs (goesOnBehind g (kindIn p x)) q first (placeBehind at x) (go .numbered) i off)
+    shut-step g p q hdr1 at x xs (go .move) refl d o
+    (λ first off. shut-none s xs (goesOnBehind g (kindIn p x)) q first (placeBehind at x) (go .numbered) i off)
 
 -- behind a data block, and so behind the next one, the same file follows
-datum-follows : (s : List ℕ) (g : Bool) (p q : Phase) (hdr1 at start n : ℕ) (x : Item) (xs : List Item) → kindIn p x ≡ dataBlock → dueAfter p dataBlock ≡ To q
+datum-follows : (s : List ℕ) (g : Bool) (p q : Phase) (hdr1 at start n : ℕ) (x : Item) (xs : List Item) → kindIn p x ≡ dataBlock
+    → dueAfter p dataBlock ≡ To q
     → ItemStands s at x xs → InOrder s q (placeBehind at x) xs → blockIn (parts (stands at hdr1 p g) (x ∷ xs)) ≡ At start n
     → Follows s (fileIn s (parts (stands at hdr1 p g) (x ∷ xs))) (start + n)
 unfolding blockIn asBlock fileIn firstIn isWanted ifB placeBehind
@@ -274,34 +319,46 @@ datum-follows s g p q hdr1 at start n x xs k d c i e =
     (follows-here s g q hdr1 (placeBehind at x) xs (block-data p q d) (c .rest) i))
 
 onward : {s : List ℕ} {ps qs : List Part} {start l : ℕ} {on : Bool} → Passes s ps qs × (on ≡ true)
-    → (on ≡ true → blockIn qs ≡ At start l → Follows s (fileIn s qs) (start + l)) → blockIn ps ≡ At start l → Follows s (fileIn s ps) (start + l)
+    → (on ≡ true → blockIn qs ≡ At start l → Follows s (fileIn s qs) (start + l)) → blockIn ps ≡ At start l
+    → Follows s (fileIn s ps) (start + l)
 onward {s = s} {start = start} {l = l} (c, o) again h =
     subst (λ (y : NextFile). Follows s y (start + l)) (sym (c .file)) (again o (sym (c .datum) ∙ h))
 
-block-step : (s : List ℕ) (g : Bool) (p q : Phase) (hdr1 at start l : ℕ) (x : Item) (xs : List Item) {k : Kind} {m n : Stage} → Move k m n → kindIn p x ≡ k → dueAfter p k ≡ To q
+block-step : (s : List ℕ) (g : Bool) (p q : Phase) (hdr1 at start l : ℕ) (x : Item) (xs : List Item) {k : Kind} {m n : Stage}
+    → Move k m n → kindIn p x ≡ k → dueAfter p k ≡ To q
     → isOpen m g ≡ true
-    → (isOpen n (goesOnBehind g k) ≡ false → blockIn (parts (stands (placeBehind at x) (firstBehind hdr1 (at + 3) k) q (goesOnBehind g k)) xs) ≡ Nowhere)
-    → (kindIn p x ≡ dataBlock → dueAfter p dataBlock ≡ To q → Follows s (fileIn s (parts (stands at hdr1 p g) (x ∷ xs))) (start + l))
-    → (isOpen n (goesOnBehind g k) ≡ true → blockIn (parts (stands (placeBehind at x) (firstBehind hdr1 (at + 3) k) q (goesOnBehind g k)) xs) ≡ At start l
+    → (isOpen n (goesOnBehind g k) ≡ false
+    → blockIn (parts (stands (placeBehind at x) (firstBehind hdr1 (at + 3) k) q (goesOnBehind g k)) xs) ≡ Nowhere)
+    → (kindIn p x ≡ dataBlock → dueAfter p dataBlock ≡ To q
+    → Follows s (fileIn s (parts (stands at hdr1 p g) (x ∷ xs))) (start + l))
+    → (isOpen n (goesOnBehind g k) ≡ true
+    → blockIn (parts (stands (placeBehind at x) (firstBehind hdr1 (at + 3) k) q (goesOnBehind g k)) xs) ≡ At start l
     → Follows s (fileIn s (parts (stands (placeBehind at x) (firstBehind hdr1 (at + 3) k) q (goesOnBehind g k)) xs)) (start + l))
-    → blockIn (parts (stands at hdr1 p g) (x ∷ xs)) ≡ At start l → Follows s (fileIn s (parts (stands at hdr1 p g) (x ∷ xs))) (start + l)
+    → blockIn (parts (stands at hdr1 p g) (x ∷ xs)) ≡ At start l
+    → Follows s (fileIn s (parts (stands at hdr1 p g) (x ∷ xs))) (start + l)
 unfolding isKind ifB goesOnBehind firstBehind placeBehind
 block-step s g p q hdr1 at start l x xs (stays {a = a} c) e d o none there again h =
     onward (open-step s g p q hdr1 at x xs {m = a} (stays c) e d o (c .datum) (c .fileEnd)) again h
 block-step s g p q hdr1 at start l x xs (nextReel c) e d o none there again h =
     onward (open-step s g p q hdr1 at x xs (nextReel c) e d o (c .datum) (c .fileEnd)) again h
-block-step s g p q hdr1 at start l x xs header1 e d o none there again h = onward (open-step s g p q hdr1 at x xs header1 e d o refl refl) again h
-block-step s g p q hdr1 at start l x xs nextFile e d o none there again h = onward (open-step s g p q hdr1 at x xs nextFile e d o refl refl) again h
-block-step s g p q hdr1 at start l x xs header2 e d o none there again h = onward (open-step s g p q hdr1 at x xs header2 e d o refl refl) again h
+block-step s g p q hdr1 at start l x xs header1 e d o none there again h =
+    onward (open-step s g p q hdr1 at x xs header1 e d o refl refl) again h
+block-step s g p q hdr1 at start l x xs nextFile e d o none there again h =
+    onward (open-step s g p q hdr1 at x xs nextFile e d o refl refl) again h
+block-step s g p q hdr1 at start l x xs header2 e d o none there again h =
+    onward (open-step s g p q hdr1 at x xs header2 e d o refl refl) again h
 block-step s g p q hdr1 at start l x xs datum e d o none there again h = there e d
 block-step s g p q hdr1 at start l x xs eof1 e d o none there again h =
     let never : Nowhere ≡ At start l = sym (ap blockIn (parts-on (stands at hdr1 p g) q x xs (eof 1) e refl refl d) ∙ none refl) ∙ h in
     let z : _≡_ {A = ℕ} 0 1 = cc in
     absurd (omega arith)
-block-step s g p q hdr1 at start l x xs eov1 e d o none there again h = onward (open-step s g p q hdr1 at x xs eov1 e d o refl refl) again h
-block-step s g p q hdr1 at start l x xs finish e d o none there again h = onward (open-step s g p q hdr1 at x xs finish e d o refl refl) again h
+block-step s g p q hdr1 at start l x xs eov1 e d o none there again h =
+    onward (open-step s g p q hdr1 at x xs eov1 e d o refl refl) again h
+block-step s g p q hdr1 at start l x xs finish e d o none there again h =
+    onward (open-step s g p q hdr1 at x xs finish e d o refl refl) again h
 
-block-follows : (s : List ℕ) (xs : List Item) (g : Bool) (p : Phase) (hdr1 at start n : ℕ) → Numbered p → isOpen (stage p) g ≡ true → InOrder s p at xs
+block-follows : (s : List ℕ) (xs : List Item) (g : Bool) (p : Phase) (hdr1 at start n : ℕ) → Numbered p
+    → isOpen (stage p) g ≡ true → InOrder s p at xs
     → blockIn (parts (stands at hdr1 p g) xs) ≡ At start n → Follows s (fileIn s (parts (stands at hdr1 p g) xs)) (start + n)
 unfolding partsFrom blockIn asBlock firstIn
 block-follows s [] g p hdr1 at start n num o i e = let z : _≡_ {A = ℕ} 0 1 = cc in absurd (omega arith)
@@ -309,7 +366,8 @@ block-follows s (x ∷ xs) g p hdr1 at start n num o (q, c, d, i) e =
     let go = due-goes p (kindIn p x) q num d in
     let hdr1′ = firstBehind hdr1 (at + 3) (kindIn p x) in
     let g′ = goesOnBehind g (kindIn p x) in
-    block-step s g p q hdr1 at start n x xs (go .move) refl d o (λ off. shut-none s xs g′ q hdr1′ (placeBehind at x) (go .numbered) i off)
+    block-step s g p q hdr1 at start n x xs (go .move) refl d o
+    (λ off. shut-none s xs g′ q hdr1′ (placeBehind at x) (go .numbered) i off)
     (λ k f. datum-follows s g p q hdr1 at start n x xs k f c i e)
     (λ open' there. block-follows s xs g′ q hdr1′ (placeBehind at x) start n (go .numbered) open' i there) e
 

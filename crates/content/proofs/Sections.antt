@@ -26,7 +26,8 @@ use Rattle.content.specs.declared.section.Extent.the-variants.{At, Nowhe
 use Rattle.content.proofs.Parts.{seen-block, start-fits, parts-seen, found-part, BlockAhead, IsAhead, first-ahead}
 
 -- what the search finds
-pub data-found : (s : List ℕ) (at : ℕ) (r : PartAt) (p : Part) (x : Extent) → r ≡ firstFrom (inFile Data at) false true (partsAt s (inFile Data at)) → p ≡ r .part
+pub data-found : (s : List ℕ) (at : ℕ) (r : PartAt) (p : Part) (x : Extent)
+    → r ≡ firstFrom (inFile Data at) false true (partsAt s (inFile Data at)) → p ≡ r .part
     → x ≡ asBlock p → x ≡ dataFrom Data at (decode (drop at s))
 unfolding dataFrom blockIn
 data-found s at r p x e f q =
@@ -55,11 +56,13 @@ block-kind : (l : List ℕ) → kindIn Data (block l) ≡ dataBlock
 unfolding kindIn isDue dueAfter dues choose isKind ifB
 block-kind l = refl
 
-pub data-first : (s : List ℕ) (from n : ℕ) (q : Shape) → q ≡ shape (drop from s) → q ≡ Bytes n → At (from + 3) n ≡ dataFrom Data from (decode (drop from s))
+pub data-first : (s : List ℕ) (from n : ℕ) (q : Shape) → q ≡ shape (drop from s) → q ≡ Bytes n
+    → At (from + 3) n ≡ dataFrom Data from (decode (drop from s))
 unfolding dataFrom blockIn asBlock firstIn isWanted onto partsBy partIn ledTo beginsFile dueAfter dues choose isKind ifB
 data-first s from n q e b =
     let seen : Of dataBlock n ≡ seenAt s Data from = seen-block s Data from n q dataBlock e b (sym (block-kind _)) in
-    sym (ap (λ (ps : List PartAt). asBlock (firstIn false true (map (λ (p : PartAt). p .part) ps))) (parts-seen s (inFile Data from) n dataBlock (Of dataBlock n) seen refl))
+    sym (ap (λ (ps : List PartAt). asBlock (firstIn false true (map (λ (p : PartAt). p .part) ps)))
+    (parts-seen s (inFile Data from) n dataBlock (Of dataBlock n) seen refl))
 
 pub ruleset firsts = (data-found, data-first, start-fits, needs)
 
@@ -76,6 +79,7 @@ block-ahead s at (Section a b) h = refl
 block-ahead s at (Block start n) h = h
 block-ahead s at None h = refl
 
-pub data-within : (s : List ℕ) (p : Phase) (at start n : ℕ) → dataFrom p at (decode (drop at s)) ≡ At start n → BlockAhead s at start n
+pub data-within : (s : List ℕ) (p : Phase) (at start n : ℕ) → dataFrom p at (decode (drop at s)) ≡ At start n
+    → BlockAhead s at start n
 unfolding dataFrom blockIn
 data-within s p at start n e = subst (If-at (BlockAhead s at)) e (block-ahead s at _ (first-ahead s false true at 0 p false))

@@ -1,4 +1,5 @@
--- The segment that stands at the head of what is left of a block, or of the next block: one number tells it, and it is the unit with which a record begins or
+-- The segment that stands at the head of what is left of a block, or of the next block: one number tells it, and it is the unit
+-- with which a record begins or
 -- goes on. Assumes nothing.
 use mathlib.Core.Path.{_≡_, refl, sym, ap, ap₂, _∙_, subst}
 use mathlib.Core.Bool.{true}
@@ -40,7 +41,8 @@ unfolding segmentIn
 segment-format s b f at left z h = sym (if-true _ _ _ (eq-eqb b 0 z) ∙ if-false _ _ _ (ne-eqb f 83 h))
 
 -- in an S file, behind a block of which nothing is left
-segment-some : (s : List ℕ) (b : ℕ) (w : Walk) → b ≡ 0 → w .format ≡ 83 → segmentIn s b w ≡ ifB (isInside s w) (lengthOf (segment (leftOf s w))) 0
+segment-some : (s : List ℕ) (b : ℕ) (w : Walk) → b ≡ 0 → w .format ≡ 83
+    → segmentIn s b w ≡ ifB (isInside s w) (lengthOf (segment (leftOf s w))) 0
 unfolding segmentIn
 segment-some s b w z h = if-true _ _ _ (eq-eqb b 0 z) ∙ if-true _ _ _ (eq-eqb (w .format) 83 h)
 
@@ -49,7 +51,8 @@ segment-past s b f at left z h k =
     let w : Walk = standsAt f 0 at left in
     sym (segment-some s b w z h ∙ if-false _ _ _ (sym (inside-not s w k)))
 
-pub segment-outside : (s : List ℕ) (b f at left : ℕ) → b ≡ 0 → f ≡ 83 → at ≤ length s → length s - at < left → 0 ≡ segmentIn s b (standsAt f 0 at left)
+pub segment-outside : (s : List ℕ) (b f at left : ℕ) → b ≡ 0 → f ≡ 83 → at ≤ length s → length s - at < left
+    → 0 ≡ segmentIn s b (standsAt f 0 at left)
 segment-outside s b f at left z h k m =
     let w : Walk = standsAt f 0 at left in
     sym (segment-some s b w z h ∙ if-false _ _ _ (sym (inside-left s w k) ∙ lt-leb left (length s - at) m))
@@ -62,7 +65,8 @@ segment-number s b f at left k z h a m e =
     e ∙ ap (λ (l : List ℕ). lengthOf (segment l)) (part-within at left s)
     ∙ sym (segment-some s b w z h ∙ if-true _ _ _ (inside-is s w (omega arith)))
 
-pub ruleset segment-numbers = (segment-before, segment-format, segment-past, segment-outside, segment-number, end-fits, end-within, needs)
+pub ruleset segment-numbers =
+    (segment-before, segment-format, segment-past, segment-outside, segment-number, end-fits, end-within, needs)
 
 -- ---- from the number to the unit
 
@@ -77,7 +81,8 @@ pub record SegmentAt (s : List ℕ) (b : ℕ) (v : Walk) (k : ℕ) : Type 0 wher
   pub digit : 48 ≤ getD s (v .at) 0
   pub narrow : Fits w32 (getD s (v .at) 0 - 48)
 
-segment-by : (s : List ℕ) (b : ℕ) (v : Walk) (k : ℕ) → b ≡ 0 → v .format ≡ 83 → Inside s v → k ≡ lengthOf (segment (leftOf s v)) → (k ≡ 0 → ⊥) → SegmentAt s b v k
+segment-by : (s : List ℕ) (b : ℕ) (v : Walk) (k : ℕ) → b ≡ 0 → v .format ≡ 83 → Inside s v → k ≡ lengthOf (segment (leftOf s v))
+    → (k ≡ 0 → ⊥) → SegmentAt s b v k
 unfolding unitHere taken leftOf part
 segment-by s b v k none f inside e z =
     let l : List ℕ = take (v .left) (drop (v .at) s) in
@@ -113,19 +118,22 @@ standing-segment s b v k e z =
     if-case P (eqb b 0) _ 0
     (λ a. if-case P (eqb (v .format) 83) _ 0
     (λ f. if-case P (isInside s v) _ 0
-    (λ i q. segment-by s b v k (eqb-true b 0 a) (eqb-true (v .format) 83 f) (inside-true s v true (sym i) refl) q z) (λ _ q. absurd (z q)))
+    (λ i q. segment-by s b v k (eqb-true b 0 a) (eqb-true (v .format) 83 f) (inside-true s v true (sym i) refl) q z)
+    (λ _ q. absurd (z q)))
     (λ _ q. absurd (z q)))
     (λ _ q. absurd (z q)) e
   where
     P : ℕ → Type 0
     P x = k ≡ x → SegmentAt s b v k
 
-pub segment-stands : (s : List ℕ) (b : ℕ) (v : Walk) (k : ℕ) → k ≡ segmentIn s b (standsAt (v .format) 0 (v .at) (v .left)) → (k ≡ 0 → ⊥) → SegmentAt s b v k
+pub segment-stands : (s : List ℕ) (b : ℕ) (v : Walk) (k : ℕ) → k ≡ segmentIn s b (standsAt (v .format) 0 (v .at) (v .left))
+    → (k ≡ 0 → ⊥) → SegmentAt s b v k
 segment-stands s b v k e z = standing-segment s b v k (e ∙ no-size s b v 0) z
 
 -- ---- as the code finds it
 
-pub next-segment : (s : List ℕ) (w v u : Walk) (k : ℕ) → v ≡ atBlock s w → k ≡ segmentIn s (w .left) (standsAt (v .format) 0 (v .at) (v .left)) → (k ≡ 0 → ⊥)
+pub next-segment : (s : List ℕ) (w v u : Walk) (k : ℕ) → v ≡ atBlock s w
+    → k ≡ segmentIn s (w .left) (standsAt (v .format) 0 (v .at) (v .left)) → (k ≡ 0 → ⊥)
     → u ≡ moved v (v .at + k) (v .left - k) → One (getD s (v .at) 0 - 48) (v .at + 5) (k - 5) u ≡ unitNext s w
 unfolding unitFrom orNext
 next-segment s w v u k e m z q =
@@ -134,7 +142,8 @@ next-segment s w v u k e m z q =
     ∙ ap (λ (t : Taken). orNext t (unitNext s w)) (none-left s w (c .none))
 
 -- over the walk's numbers
-stands-at : (s : List ℕ) (b f at left k : ℕ) → k ≡ segmentIn s b (standsAt f 0 at left) → (k ≡ 0 → ⊥) → SegmentAt s b (standsAt f 0 at left) k
+stands-at : (s : List ℕ) (b f at left k : ℕ) → k ≡ segmentIn s b (standsAt f 0 at left) → (k ≡ 0 → ⊥)
+    → SegmentAt s b (standsAt f 0 at left) k
 stands-at s b f at left k m z = standing-segment s b (standsAt f 0 at left) k m z
 
 pub segment-there : (s : List ℕ) (b f at left k : ℕ) → k ≡ segmentIn s b (standsAt f 0 at left) → (k ≡ 0 → ⊥) → at < length s
@@ -148,7 +157,8 @@ segment-there s b f at left k m z =
 pub segment-digit : (s : List ℕ) (b f at left k : ℕ) → k ≡ segmentIn s b (standsAt f 0 at left) → (k ≡ 0 → ⊥) → 48 ≤ getD s at 0
 segment-digit s b f at left k m z = stands-at s b f at left k m z .digit
 
-pub segment-narrow : (s : List ℕ) (b f at left k : ℕ) → k ≡ segmentIn s b (standsAt f 0 at left) → (k ≡ 0 → ⊥) → Fits w32 (getD s at 0 - 48)
+pub segment-narrow : (s : List ℕ) (b f at left k : ℕ) → k ≡ segmentIn s b (standsAt f 0 at left) → (k ≡ 0 → ⊥)
+    → Fits w32 (getD s at 0 - 48)
 segment-narrow s b f at left k m z = stands-at s b f at left k m z .narrow
 
 pub segment-word : (s : List ℕ) (b f at left k : ℕ) → k ≡ segmentIn s b (standsAt f 0 at left) → (k ≡ 0 → ⊥) → 5 ≤ k
@@ -157,7 +167,8 @@ segment-word s b f at left k m z = stands-at s b f at left k m z .least
 pub segment-left : (s : List ℕ) (b f at left k : ℕ) → k ≡ segmentIn s b (standsAt f 0 at left) → (k ≡ 0 → ⊥) → k ≤ left
 segment-left s b f at left k m z = stands-at s b f at left k m z .left
 
-pub segment-start : (s : List ℕ) (b f at left k : ℕ) → k ≡ segmentIn s b (standsAt f 0 at left) → (k ≡ 0 → ⊥) → length s < 18446744073709551616 → Fits w64 (at + 5)
+pub segment-start : (s : List ℕ) (b f at left k : ℕ) → k ≡ segmentIn s b (standsAt f 0 at left) → (k ≡ 0 → ⊥)
+    → length s < 18446744073709551616 → Fits w64 (at + 5)
 segment-start s b f at left k m z h =
     let c = stands-at s b f at left k m z in
     let a = c .least in
@@ -165,14 +176,16 @@ segment-start s b f at left k m z h =
     let i = c .inside in
     omega arith
 
-pub segment-end : (s : List ℕ) (b f at left k : ℕ) → k ≡ segmentIn s b (standsAt f 0 at left) → (k ≡ 0 → ⊥) → length s < 18446744073709551616 → Fits w64 (at + k)
+pub segment-end : (s : List ℕ) (b f at left k : ℕ) → k ≡ segmentIn s b (standsAt f 0 at left) → (k ≡ 0 → ⊥)
+    → length s < 18446744073709551616 → Fits w64 (at + k)
 segment-end s b f at left k m z h =
     let c = stands-at s b f at left k m z in
     let d = c .left in
     let i = c .inside in
     omega arith
 
-pub ruleset next-segments = (next-segment, segment-there, segment-digit, segment-narrow, segment-word, segment-left, segment-start, segment-end, needs)
+pub ruleset next-segments =
+    (next-segment, segment-there, segment-digit, segment-narrow, segment-word, segment-left, segment-start, segment-end, needs)
 
 -- ---- a segment whose turn it is
 
@@ -184,21 +197,28 @@ turn-by : (s : List ℕ) (b d m : ℕ) (w : Walk) (k : ℕ) → k ≡ segmentIn 
     → turnIn s b d m w ≡ ifB (eqb (getD s (w .at) 0) d) (ifB (leb (k - 5) m) k 0) 0
 unfolding turnIn
 turn-by s b d m w k e z =
-    ap (λ (j : ℕ). ifB (eqb j 0) 0 (ifB (eqb (getD s (w .at) 0) d) (ifB (leb (j - 5) m) j 0) 0)) (sym e) ∙ if-false _ _ _ (ne-eqb k 0 z)
+    ap (λ (j : ℕ). ifB (eqb j 0) 0 (ifB (eqb (getD s (w .at) 0) d) (ifB (leb (j - 5) m) j 0) 0)) (sym e)
+    ∙ if-false _ _ _ (ne-eqb k 0 z)
 
-pub turn-another : (s : List ℕ) (b d m f at left k : ℕ) → k ≡ segmentIn s b (standsAt f 0 at left) → (k ≡ 0 → ⊥) → (getD s at 0 ≡ d → ⊥)
+pub turn-another : (s : List ℕ) (b d m f at left k : ℕ) → k ≡ segmentIn s b (standsAt f 0 at left) → (k ≡ 0 → ⊥)
+    → (getD s at 0 ≡ d → ⊥)
     → 0 ≡ turnIn s b d m (standsAt f 0 at left)
-turn-another s b d m f at left k e z h = sym (turn-by s b d m (standsAt f 0 at left) k e z ∙ if-false _ _ _ (ne-eqb (getD s at 0) d h))
+turn-another s b d m f at left k e z h =
+    sym (turn-by s b d m (standsAt f 0 at left) k e z ∙ if-false _ _ _ (ne-eqb (getD s at 0) d h))
 
-pub turn-long : (s : List ℕ) (b d m f at left k : ℕ) → k ≡ segmentIn s b (standsAt f 0 at left) → (k ≡ 0 → ⊥) → getD s at 0 ≡ d → m < k - 5
+pub turn-long : (s : List ℕ) (b d m f at left k : ℕ) → k ≡ segmentIn s b (standsAt f 0 at left) → (k ≡ 0 → ⊥) → getD s at 0 ≡ d
+    → m < k - 5
     → 0 ≡ turnIn s b d m (standsAt f 0 at left)
 turn-long s b d m f at left k e z h l =
-    sym (turn-by s b d m (standsAt f 0 at left) k e z ∙ if-true _ _ _ (eq-eqb (getD s at 0) d h) ∙ if-false _ _ _ (lt-leb (k - 5) m l))
+    sym (turn-by s b d m (standsAt f 0 at left) k e z ∙ if-true _ _ _ (eq-eqb (getD s at 0) d h)
+    ∙ if-false _ _ _ (lt-leb (k - 5) m l))
 
-pub turn-is : (s : List ℕ) (b d m f at left k : ℕ) → k ≡ segmentIn s b (standsAt f 0 at left) → (k ≡ 0 → ⊥) → getD s at 0 ≡ d → k - 5 ≤ m
+pub turn-is : (s : List ℕ) (b d m f at left k : ℕ) → k ≡ segmentIn s b (standsAt f 0 at left) → (k ≡ 0 → ⊥) → getD s at 0 ≡ d
+    → k - 5 ≤ m
     → k ≡ turnIn s b d m (standsAt f 0 at left)
 turn-is s b d m f at left k e z h l =
-    sym (turn-by s b d m (standsAt f 0 at left) k e z ∙ if-true _ _ _ (eq-eqb (getD s at 0) d h) ∙ if-true _ _ _ (le-leb (k - 5) m l))
+    sym (turn-by s b d m (standsAt f 0 at left) k e z ∙ if-true _ _ _ (eq-eqb (getD s at 0) d h)
+    ∙ if-true _ _ _ (le-leb (k - 5) m l))
 
 pub ruleset turn-numbers = (turn-none, turn-another, turn-long, turn-is, segment-there, segment-word, needs)
 
@@ -227,7 +247,8 @@ pub begun-nowhere : (s : List ℕ) (f r at left : ℕ) → r ≡ 0 → 0 ≡ beg
 unfolding begunIn
 begun-nowhere s f r at left h = sym (if-true _ _ _ (eq-eqb r 0 h))
 
-pub begun-is : (s : List ℕ) (f r at left k : ℕ) → (r ≡ 0 → ⊥) → k ≡ turnIn s 0 49 r (standsAt f 0 at left) → k ≡ begunIn s (standsAt f r at left)
+pub begun-is : (s : List ℕ) (f r at left k : ℕ) → (r ≡ 0 → ⊥) → k ≡ turnIn s 0 49 r (standsAt f 0 at left)
+    → k ≡ begunIn s (standsAt f r at left)
 unfolding begunIn turnIn segmentIn isInside leftOf
 begun-is s f r at left k o e = e ∙ sym (if-false _ _ _ (ne-eqb r 0 o))
 
@@ -246,7 +267,8 @@ begins s v k b =
     let z = b .some in
     if-case P (eqb (v .size) 0) 0 (turnIn s 0 49 (v .size) v) (λ _ q. absurd (z q))
     (λ o q. let t = turns s 0 49 (v .size) v k q z in
-    record { segment = standing-segment s 0 v k (t .is) z; some = eqb-false (v .size) 0 o; digit = t .digit; short = t .short }) (b .is)
+    record { segment = standing-segment s 0 v k (t .is) z; some = eqb-false (v .size) 0 o; digit = t .digit; short = t .short })
+    (b .is)
   where
     P : ℕ → Type 0
     P x = k ≡ x → SegmentBegins s v k

@@ -42,7 +42,8 @@ nothing-by room old (whole start n v) e = let z : _≡_ {A = ℕ} 0 1 = cc in ab
 nothing-by room old (split bs v) e = let z : _≡_ {A = ℕ} 0 1 = cc in absurd (omega arith)
 nothing-by room old nothing e = (refl, refl)
 
-whole-by : (room : ℕ) (old : List ℕ) (start n : ℕ) (v : Walk) (x : Record) → measuredBy x ≡ Whole start n v → (InImage start n v ≡ stepBy room x) × (old ≡ joinBy old x)
+whole-by : (room : ℕ) (old : List ℕ) (start n : ℕ) (v : Walk) (x : Record) → measuredBy x ≡ Whole start n v
+    → (InImage start n v ≡ stepBy room x) × (old ≡ joinBy old x)
 unfolding measuredBy stepBy joinBy
 whole-by room old start n v (whole a m u) e = (cc, refl)
 whole-by room old start n v (split bs u) e = let z : _≡_ {A = ℕ} 0 1 = cc in absurd (omega arith)
@@ -69,7 +70,8 @@ split-by n v (split bs u) e =
     }
 split-by n v nothing e = let z : _≡_ {A = ℕ} 0 1 = cc in absurd (omega arith)
 
-pub step-nothing : (s : List ℕ) (room : ℕ) (w : Walk) (m : Measured) → m ≡ measuredBy (recordAt s w) → m ≡ Nothing → Refused 13 ≡ stepAt s room w
+pub step-nothing : (s : List ℕ) (room : ℕ) (w : Walk) (m : Measured) → m ≡ measuredBy (recordAt s w) → m ≡ Nothing
+    → Refused 13 ≡ stepAt s room w
 unfolding stepAt
 step-nothing s room w m e q = nothing-by room s (recordAt s w) (sym e ∙ q) .0
 
@@ -77,35 +79,44 @@ pub kept-nothing : (s old : List ℕ) (w : Walk) (m : Measured) → m ≡ measur
 unfolding joinAt
 kept-nothing s old w m e q = nothing-by 0 old (recordAt s w) (sym e ∙ q) .1
 
-pub step-whole : (s : List ℕ) (room : ℕ) (w : Walk) (start n : ℕ) (v : Walk) (m : Measured) → m ≡ measuredBy (recordAt s w) → m ≡ Whole start n v
+pub step-whole : (s : List ℕ) (room : ℕ) (w : Walk) (start n : ℕ) (v : Walk) (m : Measured) → m ≡ measuredBy (recordAt s w)
+    → m ≡ Whole start n v
     → InImage start n v ≡ stepAt s room w
 unfolding stepAt
 step-whole s room w start n v m e q = whole-by room s start n v (recordAt s w) (sym e ∙ q) .0
 
-pub kept-whole : (s old : List ℕ) (w : Walk) (start n : ℕ) (v : Walk) (m : Measured) → m ≡ measuredBy (recordAt s w) → m ≡ Whole start n v → old ≡ joinAt s old w
+pub kept-whole : (s old : List ℕ) (w : Walk) (start n : ℕ) (v : Walk) (m : Measured) → m ≡ measuredBy (recordAt s w)
+    → m ≡ Whole start n v → old ≡ joinAt s old w
 unfolding joinAt
 kept-whole s old w start n v m e q = whole-by 0 old start n v (recordAt s w) (sym e ∙ q) .1
 
-pub step-long : (s : List ℕ) (room : ℕ) (w : Walk) (n : ℕ) (v : Walk) (m : Measured) → m ≡ measuredBy (recordAt s w) → m ≡ Split n v → room < n
+pub step-long : (s : List ℕ) (room : ℕ) (w : Walk) (n : ℕ) (v : Walk) (m : Measured) → m ≡ measuredBy (recordAt s w)
+    → m ≡ Split n v → room < n
     → Refused 10 ≡ stepAt s room w
 unfolding stepAt
 step-long s room w n v m e q h = sym (split-by n v (recordAt s w) (sym e ∙ q) .steps room ∙ if-false _ _ _ (lt-leb n room h))
 
-pub kept-long : (s old : List ℕ) (w : Walk) (n : ℕ) (v : Walk) (m : Measured) → m ≡ measuredBy (recordAt s w) → m ≡ Split n v → length old < n → old ≡ joinAt s old w
+pub kept-long : (s old : List ℕ) (w : Walk) (n : ℕ) (v : Walk) (m : Measured) → m ≡ measuredBy (recordAt s w) → m ≡ Split n v
+    → length old < n → old ≡ joinAt s old w
 unfolding joinAt
-kept-long s old w n v m e q h = sym (split-by n v (recordAt s w) (sym e ∙ q) .joins old ∙ if-false _ _ _ (lt-leb n (length old) h))
+kept-long s old w n v m e q h =
+    sym (split-by n v (recordAt s w) (sym e ∙ q) .joins old ∙ if-false _ _ _ (lt-leb n (length old) h))
 
-pub step-joined : (s : List ℕ) (room : ℕ) (w : Walk) (n : ℕ) (v : Walk) (m : Measured) → m ≡ measuredBy (recordAt s w) → m ≡ Split n v → n ≤ room
+pub step-joined : (s : List ℕ) (room : ℕ) (w : Walk) (n : ℕ) (v : Walk) (m : Measured) → m ≡ measuredBy (recordAt s w)
+    → m ≡ Split n v → n ≤ room
     → Joined n v ≡ stepAt s room w
 unfolding stepAt
 step-joined s room w n v m e q h = sym (split-by n v (recordAt s w) (sym e ∙ q) .steps room ∙ if-true _ _ _ (le-leb n room h))
 
-pub put-joined : (s old new : List ℕ) (w : Walk) (n : ℕ) (v : Walk) (m : Measured) → m ≡ measuredBy (recordAt s w) → m ≡ Split n v → n ≤ length old
+pub put-joined : (s old new : List ℕ) (w : Walk) (n : ℕ) (v : Walk) (m : Measured) → m ≡ measuredBy (recordAt s w) → m ≡ Split n v
+    → n ≤ length old
     → new ≡ putAt old 0 (recordBytes (recordAt s w)) → new ≡ joinAt s old w
 unfolding joinAt
-put-joined s old new w n v m e q h p = p ∙ sym (split-by n v (recordAt s w) (sym e ∙ q) .joins old ∙ if-true _ _ _ (le-leb n (length old) h))
+put-joined s old new w n v m e q h p =
+    p ∙ sym (split-by n v (recordAt s w) (sym e ∙ q) .joins old ∙ if-true _ _ _ (le-leb n (length old) h))
 
-pub split-stands : (s : List ℕ) (w : Walk) (n : ℕ) (v : Walk) (m : Measured) (room : ℕ) → m ≡ measuredBy (recordAt s w) → m ≡ Split n v → n ≤ room → SplitAt s w room
+pub split-stands : (s : List ℕ) (w : Walk) (n : ℕ) (v : Walk) (m : Measured) (room : ℕ) → m ≡ measuredBy (recordAt s w)
+    → m ≡ Split n v → n ≤ room → SplitAt s w room
 split-stands s w n v m room e q h =
     let c = split-by n v (recordAt s w) (sym e ∙ q) in
     let l = c .long in
@@ -116,7 +127,8 @@ pub ruleset step-units =
 
 -- ---- a record that stands whole in the block
 
-pub step-quick : (s : List ℕ) (room : ℕ) (w v u : Walk) (k c : ℕ) → v ≡ atBlock s w → k ≡ wholeAt s v → (k ≡ 0 → ⊥) → c ≡ wordOf (v .format)
+pub step-quick : (s : List ℕ) (room : ℕ) (w v u : Walk) (k c : ℕ) → v ≡ atBlock s w → k ≡ wholeAt s v → (k ≡ 0 → ⊥)
+    → c ≡ wordOf (v .format)
     → u ≡ moved v (v .at + k) (v .left - k) → InImage (v .at + c) (k - c) u ≡ stepAt s room w
 step-quick s room w v u k c e m z p q = step-whole s room w (v .at + c) (k - c) u _ (measured-whole s w v u k c e m z p q) refl
 
@@ -148,18 +160,23 @@ opens s v u k b q =
     }
 
 -- its measure, by what is behind the first segment
-opens-fails : (s : List ℕ) (v u : Walk) (k : ℕ) (x : Tail) → Opens s v u k → x ≡ tailBy (restAt s (v .size - (k - 5)) u) → x ≡ Fails → Nothing ≡ measuredBy (recordAt s v)
-opens-fails s v u k x o e f = split-fails s v 1 (v .at + 5) (k - 5) u (unitFrom s v) x (o .good) refl (o .unit) (o .short) (λ h. omega arith) refl e f
+opens-fails : (s : List ℕ) (v u : Walk) (k : ℕ) (x : Tail) → Opens s v u k → x ≡ tailBy (restAt s (v .size - (k - 5)) u)
+    → x ≡ Fails → Nothing ≡ measuredBy (recordAt s v)
+opens-fails s v u k x o e f =
+    split-fails s v 1 (v .at + 5) (k - 5) u (unitFrom s v) x (o .good) refl (o .unit) (o .short) (λ h. omega arith) refl e f
 
-opens-ends : (s : List ℕ) (v u : Walk) (k : ℕ) (x : Tail) (m : ℕ) (y : Walk) → Opens s v u k → x ≡ tailBy (restAt s (v .size - (k - 5)) u) → x ≡ Ends m y
+opens-ends : (s : List ℕ) (v u : Walk) (k : ℕ) (x : Tail) (m : ℕ) (y : Walk) → Opens s v u k
+    → x ≡ tailBy (restAt s (v .size - (k - 5)) u) → x ≡ Ends m y
     → Split (k - 5 + m) y ≡ measuredBy (recordAt s v)
-opens-ends s v u k x m y o e f = split-ends s v 1 (v .at + 5) (k - 5) u (unitFrom s v) x m y (o .good) refl (o .unit) (o .short) (λ h. omega arith) refl e f
+opens-ends s v u k x m y o e f =
+    split-ends s v 1 (v .at + 5) (k - 5) u (unitFrom s v) x m y (o .good) refl (o .unit) (o .short) (λ h. omega arith) refl e f
 
 pub measured-fails : (s : List ℕ) (v u : Walk) (k : ℕ) (x : Tail) → BegunAt s v k → u ≡ moved v (v .at + k) (v .left - k)
     → x ≡ tailBy (restAt s (v .size - (k - 5)) u) → x ≡ Fails → Nothing ≡ measuredBy (recordAt s v)
 measured-fails s v u k x b q e f = opens-fails s v u k x (opens s v u k b q) e f
 
-pub measured-ends : (s : List ℕ) (v u : Walk) (k : ℕ) (x : Tail) (m : ℕ) (y : Walk) → BegunAt s v k → u ≡ moved v (v .at + k) (v .left - k)
+pub measured-ends : (s : List ℕ) (v u : Walk) (k : ℕ) (x : Tail) (m : ℕ) (y : Walk) → BegunAt s v k
+    → u ≡ moved v (v .at + k) (v .left - k)
     → x ≡ tailBy (restAt s (v .size - (k - 5)) u) → x ≡ Ends m y → Split (k - 5 + m) y ≡ measuredBy (recordAt s v)
 measured-ends s v u k x m y b q e f = opens-ends s v u k x m y (opens s v u k b q) e f
 
@@ -172,20 +189,26 @@ pub kept-fails : (s old : List ℕ) (v u : Walk) (k : ℕ) (x : Tail) → BegunA
 kept-fails s old v u k x b q e f = kept-nothing s old v Nothing (opens-fails s v u k x (opens s v u k b q) e f) refl
 
 pub begun-long : (s : List ℕ) (room : ℕ) (v u : Walk) (k : ℕ) (x : Tail) (m : ℕ) (y : Walk) → BegunAt s v k
-    → u ≡ moved v (v .at + k) (v .left - k) → x ≡ tailBy (restAt s (v .size - (k - 5)) u) → x ≡ Ends m y → room < k - 5 + m → Refused 10 ≡ stepAt s room v
-begun-long s room v u k x m y b q e f h = step-long s room v (k - 5 + m) y _ (opens-ends s v u k x m y (opens s v u k b q) e f) refl h
+    → u ≡ moved v (v .at + k) (v .left - k) → x ≡ tailBy (restAt s (v .size - (k - 5)) u) → x ≡ Ends m y → room < k - 5 + m
+    → Refused 10 ≡ stepAt s room v
+begun-long s room v u k x m y b q e f h =
+    step-long s room v (k - 5 + m) y _ (opens-ends s v u k x m y (opens s v u k b q) e f) refl h
 
 pub kept-begun : (s old : List ℕ) (v u : Walk) (k : ℕ) (x : Tail) (m : ℕ) (y : Walk) → BegunAt s v k
-    → u ≡ moved v (v .at + k) (v .left - k) → x ≡ tailBy (restAt s (v .size - (k - 5)) u) → x ≡ Ends m y → length old < k - 5 + m → old ≡ joinAt s old v
-kept-begun s old v u k x m y b q e f h = kept-long s old v (k - 5 + m) y _ (opens-ends s v u k x m y (opens s v u k b q) e f) refl h
+    → u ≡ moved v (v .at + k) (v .left - k) → x ≡ tailBy (restAt s (v .size - (k - 5)) u) → x ≡ Ends m y → length old < k - 5 + m
+    → old ≡ joinAt s old v
+kept-begun s old v u k x m y b q e f h =
+    kept-long s old v (k - 5 + m) y _ (opens-ends s v u k x m y (opens s v u k b q) e f) refl h
 
 pub begun-joined : (s : List ℕ) (room : ℕ) (v u : Walk) (k : ℕ) (x : Tail) (m : ℕ) (y : Walk) → BegunAt s v k
     → u ≡ moved v (v .at + k) (v .left - k) → x ≡ tailBy (restAt s (v .size - (k - 5)) u) → x ≡ Ends m y → k - 5 + m ≤ room
     → Joined (k - 5 + m) y ≡ stepAt s room v
-begun-joined s room v u k x m y b q e f h = step-joined s room v (k - 5 + m) y _ (opens-ends s v u k x m y (opens s v u k b q) e f) refl h
+begun-joined s room v u k x m y b q e f h =
+    step-joined s room v (k - 5 + m) y _ (opens-ends s v u k x m y (opens s v u k b q) e f) refl h
 
 -- it has room in the buffer
-begun-stands : (s old : List ℕ) (v u : Walk) (k : ℕ) (x : Tail) (m : ℕ) (y : Walk) → Opens s v u k → x ≡ tailBy (restAt s (v .size - (k - 5)) u) → x ≡ Ends m y
+begun-stands : (s old : List ℕ) (v u : Walk) (k : ℕ) (x : Tail) (m : ℕ) (y : Walk) → Opens s v u k
+    → x ≡ tailBy (restAt s (v .size - (k - 5)) u) → x ≡ Ends m y
     → k - 5 + m ≤ length old → SplitAt s v (length old)
 begun-stands s old v u k x m y o e f h = split-stands s v (k - 5 + m) y _ (length old) (opens-ends s v u k x m y o e f) refl h
 
@@ -198,7 +221,8 @@ begun-within s v k b =
     omega arith
 
 pub begun-goes : (s old : List ℕ) (v u : Walk) (k : ℕ) (x : Tail) (m : ℕ) (y : Walk) → BegunAt s v k
-    → u ≡ moved v (v .at + k) (v .left - k) → x ≡ tailBy (restAt s (v .size - (k - 5)) u) → x ≡ Ends m y → k - 5 + m ≤ length old → RestFits s u (k - 5) (length old)
+    → u ≡ moved v (v .at + k) (v .left - k) → x ≡ tailBy (restAt s (v .size - (k - 5)) u) → x ≡ Ends m y → k - 5 + m ≤ length old
+    → RestFits s u (k - 5) (length old)
 begun-goes s old v u k x m y b q e f h =
     let o = opens s v u k b q in
     rest-goes s old v 1 (v .at + 5) (k - 5) u (unitFrom s v) (begun-stands s old v u k x m y o e f h) refl (o .unit)
@@ -244,7 +268,8 @@ pub begun-sum : (s : List ℕ) (v u : Walk) (k : ℕ) (x : Tail) (m : ℕ) (y : 
     → x ≡ tailBy (restAt s (v .size - (k - 5)) u) → x ≡ Ends m y → Fits w64 (k - 5 + m)
 begun-sum s v u k x m y b h e f = sum-fits s (v .size) (k - 5) u x m y (begun-most s v k b) h e f
 
-pub ruleset measures-begun = (measured-fails, measured-ends, begun-word, begun-most, begun-left, begun-inside, begun-end, begun-sum, needs)
+pub ruleset measures-begun =
+    (measured-fails, measured-ends, begun-word, begun-most, begun-left, begun-inside, begun-end, begun-sum, needs)
 
 pub ruleset steps-begun = (
   begun-fails,
@@ -273,7 +298,8 @@ record Closes (s : List ℕ) (v u h y : Walk) (k j : ℕ) : Type 0 where
   tail : Ends (j - 5) y ≡ tailBy (restAt s (v .size - (k - 5)) u)
   bytes : bytesBehind s u ≡ part (h .at + 5) (j - 5) s
 
-closes : (s : List ℕ) (v h y : Walk) (k j : ℕ) → TwoAt s v k h j → y ≡ moved h (h .at + j) (h .left - j) → Closes s v (moved v (v .at + k) (v .left - k)) h y k j
+closes : (s : List ℕ) (v h y : Walk) (k j : ℕ) → TwoAt s v k h j → y ≡ moved h (h .at + j) (h .left - j)
+    → Closes s v (moved v (v .at + k) (v .left - k)) h y k j
 unfolding tailBy bytesBehind restBytes
 closes s v h y k j c p =
     let u = moved v (v .at + k) (v .left - k) in
@@ -293,16 +319,20 @@ closes s v h y k j c p =
     }
 
 -- one that is longer than the buffer
-pub two-long : (s : List ℕ) (room : ℕ) (v h : Walk) (k j : ℕ) → TwoAt s v k h j → room < k - 5 + (j - 5) → Refused 10 ≡ stepAt s room v
+pub two-long : (s : List ℕ) (room : ℕ) (v h : Walk) (k j : ℕ) → TwoAt s v k h j → room < k - 5 + (j - 5)
+    → Refused 10 ≡ stepAt s room v
 two-long s room v h k j c l =
-    begun-long s room v (moved v (v .at + k) (v .left - k)) k _ (j - 5) _ (c .begun) refl (closes s v h (moved h (h .at + j) (h .left - j)) k j c refl .tail) refl l
+    begun-long s room v (moved v (v .at + k) (v .left - k)) k _ (j - 5) _ (c .begun) refl
+    (closes s v h (moved h (h .at + j) (h .left - j)) k j c refl .tail) refl l
 
 pub two-kept : (s old : List ℕ) (v h : Walk) (k j : ℕ) → TwoAt s v k h j → length old < k - 5 + (j - 5) → old ≡ joinAt s old v
 two-kept s old v h k j c l =
-    kept-begun s old v (moved v (v .at + k) (v .left - k)) k _ (j - 5) _ (c .begun) refl (closes s v h (moved h (h .at + j) (h .left - j)) k j c refl .tail) refl l
+    kept-begun s old v (moved v (v .at + k) (v .left - k)) k _ (j - 5) _ (c .begun) refl
+    (closes s v h (moved h (h .at + j) (h .left - j)) k j c refl .tail) refl l
 
 -- and one that has room there
-pub two-joined : (s : List ℕ) (room : ℕ) (v h y : Walk) (k j : ℕ) → TwoAt s v k h j → k - 5 + (j - 5) ≤ room → y ≡ moved h (h .at + j) (h .left - j)
+pub two-joined : (s : List ℕ) (room : ℕ) (v h y : Walk) (k j : ℕ) → TwoAt s v k h j → k - 5 + (j - 5) ≤ room
+    → y ≡ moved h (h .at + j) (h .left - j)
     → Joined (k - 5 + (j - 5)) y ≡ stepAt s room v
 two-joined s room v h y k j c l p =
     begun-joined s room v (moved v (v .at + k) (v .left - k)) k _ (j - 5) y (c .begun) refl (closes s v h y k j c p .tail) refl l
@@ -320,7 +350,8 @@ pub two-first : (s : List ℕ) (v h : Walk) (k j : ℕ) → TwoAt s v k h j → 
 two-first s v h k j c = begun-word s v k (c .begun)
 
 second : (s : List ℕ) (v h : Walk) (k j : ℕ) → TwoAt s v k h j → SegmentAt s (v .left - k) h j
-second s v h k j c = segment-stands s (v .left - k) h j (closes s v h (moved h (h .at + j) (h .left - j)) k j c refl .turn .is) (c .some)
+second s v h k j c =
+    segment-stands s (v .left - k) h j (closes s v h (moved h (h .at + j) (h .left - j)) k j c refl .turn .is) (c .some)
 
 pub two-second : (s : List ℕ) (v h : Walk) (k j : ℕ) → TwoAt s v k h j → 5 ≤ j
 two-second s v h k j c = second s v h k j c .least
@@ -395,31 +426,38 @@ head-record s w v k e b =
     let c = begins s v k b .segment in
     let size : v .size ≡ w .size = l .size in
     let some = o .good .some in
-    record-begun s v _ (o .good) refl ∙ ap (λ (r : ℕ). begunBy s r (unitFrom s v)) size ∙ ap (begunBy s (w .size)) (o .unit ∙ sym (from-head l (c .unit) (b-digit b)))
+    record-begun s v _ (o .good) refl ∙ ap (λ (r : ℕ). begunBy s r (unitFrom s v)) size
+    ∙ ap (begunBy s (w .size)) (o .unit ∙ sym (from-head l (c .unit) (b-digit b)))
     ∙ sym (record-begun s w _ (record { some = λ h. some (size ∙ h); inside = inside-is s w (l .inside (c .inside)) }) refl)
   where
     b-digit : BegunAt s v k → getD s (v .at) 0 - 48 ≡ 1
     b-digit b = omega (arith, begins s v k b .digit)
 
-    from-head : WholeLeads s w v → unitHere s v ≡ One (getD s (v .at) 0 - 48) (v .at + 5) (k - 5) (moved v (v .at + k) (v .left - k)) → getD s (v .at) 0 - 48 ≡ 1
+    from-head : WholeLeads s w v
+        → unitHere s v ≡ One (getD s (v .at) 0 - 48) (v .at + 5) (k - 5) (moved v (v .at + k) (v .left - k))
+        → getD s (v .at) 0 - 48 ≡ 1
         → unitFrom s w ≡ One 1 (v .at + 5) (k - 5) (moved v (v .at + k) (v .left - k))
     from-head l h d = l .unit _ _ _ _ h ∙ ap (λ (i : ℕ). One i (v .at + 5) (k - 5) (moved v (v .at + k) (v .left - k))) d
 
 -- as the code asks for it
-pub asked-begun : (s : List ℕ) (v : Walk) (k : ℕ) → k ≡ begunIn s (standsAt (v .format) (v .size) (v .at) (v .left)) → (k ≡ 0 → ⊥) → BegunAt s v k
+pub asked-begun : (s : List ℕ) (v : Walk) (k : ℕ) → k ≡ begunIn s (standsAt (v .format) (v .size) (v .at) (v .left)) → (k ≡ 0 → ⊥)
+    → BegunAt s v k
 asked-begun s v k e z = record { is = e ∙ begun-no-offset s v; some = z }
 
-pub head-step : (s : List ℕ) (room : ℕ) (w v : Walk) (k : ℕ) (x : Step) → v ≡ atBlock s w → k ≡ begunIn s (standsAt (v .format) (v .size) (v .at) (v .left))
+pub head-step : (s : List ℕ) (room : ℕ) (w v : Walk) (k : ℕ) (x : Step) → v ≡ atBlock s w
+    → k ≡ begunIn s (standsAt (v .format) (v .size) (v .at) (v .left))
     → (k ≡ 0 → ⊥) → x ≡ stepAt s room v → x ≡ stepAt s room w
 unfolding stepAt
 head-step s room w v k x e m z q = q ∙ ap (stepBy room) (head-record s w v k e (asked-begun s v k m z))
 
-pub head-join : (s old : List ℕ) (w v : Walk) (k : ℕ) (new : List ℕ) → v ≡ atBlock s w → k ≡ begunIn s (standsAt (v .format) (v .size) (v .at) (v .left))
+pub head-join : (s old : List ℕ) (w v : Walk) (k : ℕ) (new : List ℕ) → v ≡ atBlock s w
+    → k ≡ begunIn s (standsAt (v .format) (v .size) (v .at) (v .left))
     → (k ≡ 0 → ⊥) → new ≡ joinAt s old v → new ≡ joinAt s old w
 unfolding joinAt
 head-join s old w v k new e m z q = q ∙ ap (joinBy old) (head-record s w v k e (asked-begun s v k m z))
 
-pub head-measure : (s : List ℕ) (w v : Walk) (k : ℕ) (x : Measured) → v ≡ atBlock s w → k ≡ begunIn s (standsAt (v .format) (v .size) (v .at) (v .left))
+pub head-measure : (s : List ℕ) (w v : Walk) (k : ℕ) (x : Measured) → v ≡ atBlock s w
+    → k ≡ begunIn s (standsAt (v .format) (v .size) (v .at) (v .left))
     → (k ≡ 0 → ⊥) → x ≡ measuredBy (recordAt s v) → x ≡ measuredBy (recordAt s w)
 head-measure s w v k x e m z q = q ∙ ap measuredBy (head-record s w v k e (asked-begun s v k m z))
 

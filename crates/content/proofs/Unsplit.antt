@@ -41,13 +41,16 @@ measured-whole : (w m l : ℕ) (x : Number) → WholeUnit (measured 0 w m l x)
 unfolding measured
 measured-whole w m l Wrong = refl
 measured-whole w m l (Value n) =
-    if-case WholeUnit (leb w n) _ None (λ _. if-case WholeUnit (leb n m) _ None (λ _. if-case WholeUnit (leb n l) _ None (λ _. refl) (λ _. refl)) (λ _. refl)) (λ _. refl)
+    if-case WholeUnit (leb w n) _ None
+    (λ _. if-case WholeUnit (leb n m) _ None (λ _. if-case WholeUnit (leb n l) _ None (λ _. refl) (λ _. refl)) (λ _. refl))
+    (λ _. refl)
 
 fixed-whole : (r : ℕ) (s : List ℕ) → WholeUnit (fixed r s)
 unfolding fixed
 fixed-whole r s =
     if-case WholeUnit (eqb r 0) None _ (λ _. refl)
-    (λ _. if-case WholeUnit (leb r (length s)) _ None (λ _. if-case WholeUnit (allAre pad (take r s)) None _ (λ _. refl) (λ _. refl)) (λ _. refl))
+    (λ _. if-case WholeUnit (leb r (length s)) _ None
+    (λ _. if-case WholeUnit (allAre pad (take r s)) None _ (λ _. refl) (λ _. refl)) (λ _. refl))
 
 unit-whole : (f r : ℕ) (s : List ℕ) → (f ≡ S → ⊥) → WholeUnit (unitOf f r s)
 unfolding unitOf variable

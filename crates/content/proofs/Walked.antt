@@ -1,4 +1,5 @@
--- The law of the files and of the walks: on an accepted image, going from file to file meets exactly the files of the meaning, in order, and the walk
+-- The law of the files and of the walks: on an accepted image, going from file to file meets exactly the files of the meaning, in
+-- order, and the walk
 -- over each hands out exactly its records, in order, and then 13.
 -- What is told of all that is still handed out goes backwards over the parts (`Read`). Assumes nothing.
 use mathlib.Core.Path.{_≡_, refl, sym, ap, ap₂, _∙_, subst}
@@ -59,7 +60,8 @@ pub record Comes (s : List ℕ) (x : NextFile) (ds : List File) (set : List ℕ)
   pub filed : Filed s x ds
   pub named : SetIs s x set
 
--- what a file of record length and format of w, whose next data block is at x, still hands out with q open, and what its blocks from there on hold
+-- what a file of record length and format of w, whose next data block is at x, still hands out with q open, and what its blocks
+-- from there on hold
 pub record HandsOut (s : List ℕ) (w : Walk) (q : ℕ) (x : Extent) (rs : List (List ℕ)) : Type 0 where
   pub hands : Hands s (w .size) q (unitIn s (opened w x)) rs
   pub sums : Sums (nextHeld s w x) rs
@@ -79,7 +81,8 @@ unfolding part
 label-within s a l e h = let n : length (take 80 (drop a s)) ≡ 80 = ap length e ∙ h in omega (arith, n, length-take 80 (drop a s), length-drop a s)
 
 -- a file that begins
-module _ (s : List ℕ) (a b : ℕ) (first second : List ℕ) (ps : List Part) (es : List Event) (c : FileRead s a b first second ps) (h : FilesTold s (walkFrom second 0) 0 ps es) where
+module _ (s : List ℕ) (a b : ℕ) (first second : List ℕ) (ps : List Part) (es : List Event) (c : FileRead s a b first second ps)
+    (h : FilesTold s (walkFrom second 0) 0 ps es) where
   abbrev m : ℕ
   m = markFrom (b + 80) (decode (drop (b + 80) s))
 
@@ -103,7 +106,8 @@ module _ (s : List ℕ) (a b : ℕ) (first second : List ℕ) (ps : List Part) (
 
   hands : Hands s (valueOf (recordLengthOf second)) 0 (unitIn s (opened w (dataFrom Data m (decode (drop m s))))) records
   hands =
-      subst (λ (t : Place). Hands s (valueOf (recordLengthOf second)) 0 (unitIn s t) records) (opened-from (dataFrom Data m (decode (drop m s)))) (owes .hands)
+      subst (λ (t : Place). Hands s (valueOf (recordLengthOf second)) 0 (unitIn s t) records)
+      (opened-from (dataFrom Data m (decode (drop m s)))) (owes .hands)
     where
       opened-from : (y : Extent) → opened (walkFrom second 0) y ≡ opened w y
       opened-from (Block i n) = unfold opened in refl
@@ -153,7 +157,13 @@ module _ (s : List ℕ) (a b : ℕ) (first second : List ℕ) (ps : List Part) (
         owed = nothing-owed s v;
         comes =
             record {
-              filed = (this, ap There (sym this-is), is, subst (λ (y : NextFile). Filed s y (collect es .files)) next-is (h .comes .filed));
+              filed = (
+                this,
+                ap There (sym this-is),
+                is,
+                subst (λ (y : NextFile). Filed s y (collect es .files)) next-is
+                    (h .comes .filed),
+              );
               named = ap setOf (sym (c .hdr1));
             };
       }
@@ -161,7 +171,8 @@ module _ (s : List ℕ) (a b : ℕ) (first second : List ℕ) (ps : List Part) (
 -- a data block
 told-block : (s second : List ℕ) (q start n : ℕ) (ps : List Part) (es : List Event) → BlockRead s second q start n ps
     → FilesTold s (walkFrom second 0) (outcomeIn second q (part start n s) .pending) ps es
-    → FilesTold s (walkFrom second 0) q (DataBlock start n ∷ ps) (holds (part start n s) (segmentsBy second (part start n s)) ∷ es)
+    → FilesTold s (walkFrom second 0) q (DataBlock start n ∷ ps)
+    (holds (part start n s) (segmentsBy second (part start n s)) ∷ es)
 unfolding collect setFrom outcomeIn blockIn asBlock fileIn firstIn isWanted ifB
 told-block s second q start n ps es c h =
     let w = walkFrom second 0 in
@@ -172,7 +183,8 @@ told-block s second q start n ps es c h =
           record {
             hands = block-hands s w b start n q (collect es .segments) (c .some) (c .within) (c .sound) (owed .hands);
             sums =
-                block-sums s w b start n q (collect es .segments) (unitIn s (opened w (dataFrom Data (start + n) (decode (drop (start + n) s))))) (c .sound) (owed .hands)
+                block-sums s w b start n q (collect es .segments)
+                (unitIn s (opened w (dataFrom Data (start + n) (decode (drop (start + n) s))))) (c .sound) (owed .hands)
                 (owed .sums);
           };
       comes = h .comes;
@@ -188,12 +200,16 @@ told-over : (s : List ℕ) (w : Walk) → FilesTold s w 0 [] []
 unfolding collect setFrom blockIn asBlock fileIn asFile firstIn
 told-over s w = record { owed = nothing-owed s w; comes = record { filed = refl; named = tt } }
 
-told : {s second : List ℕ} {q : ℕ} {ps : List Part} {es : List Event} → Read s second q ps es → FilesTold s (walkFrom second 0) q ps es
+told : {s second : List ℕ} {q : ℕ} {ps : List Part} {es : List Event} → Read s second q ps es
+    → FilesTold s (walkFrom second 0) q ps es
 told {s = s} {second = second} readOver = told-over s (walkFrom second 0)
-told {s = s} {second = second} (readFile {a = a} {b = b} l m {ps = ps} {es = es} c h) = told-file s a b l m ps es c (told h) (walkFrom second 0)
+told {s = s} {second = second} (readFile {a = a} {b = b} l m {ps = ps} {es = es} c h) =
+    told-file s a b l m ps es c (told h) (walkFrom second 0)
 told {s = s} {q = q} (readSection {a = a} {b = b} l m {ps = ps} {es = es} _ _ e h) =
-    subst (λ (w : Walk). FilesTold s w q (Section a b ∷ ps) (continues l m ∷ es)) e (told-section s (walkFrom m 0) q a b l m ps es (told h))
-told {s = s} {second = second} {q = q} (readBlock {start = start} {n = n} {ps = ps} {es = es} c h) = told-block s second q start n ps es c (told h)
+    subst (λ (w : Walk). FilesTold s w q (Section a b ∷ ps) (continues l m ∷ es)) e
+    (told-section s (walkFrom m 0) q a b l m ps es (told h))
+told {s = s} {second = second} {q = q} (readBlock {start = start} {n = n} {ps = ps} {es = es} c h) =
+    told-block s second q start n ps es c (told h)
 
 -- ---- the files of an accepted image
 
@@ -206,7 +222,8 @@ pub files-all : (s : List ℕ) → imageVerdict s .number ≡ 0 → Filed s (fir
 files-all s h = comes-all s h .filed
 
 -- The set identifier is that of the first file.
-pub set-first : (s : List ℕ) (f : FileAt) → imageVerdict s .number ≡ 0 → firstFile s ≡ There f → content s .set ≡ setOf (part (f .first) 80 s)
+pub set-first : (s : List ℕ) (f : FileAt) → imageVerdict s .number ≡ 0 → firstFile s ≡ There f
+    → content s .set ≡ setOf (part (f .first) 80 s)
 set-first s f h e = subst (λ (x : NextFile). SetIs s x (content s .set)) e (comes-all s h .named)
 
 -- ---- files by their numbers
@@ -221,23 +238,28 @@ filed-at s (c ∷ ds) d es x (f, e, is, rest) =
     (g, ap (λ (y : NextFile). fromFile y (λ g. filesOn s (suc (length ds)) g)) e ∙ at, there)
 
 -- and none past the last
-filed-past : (s : List ℕ) (ds : List File) (k : ℕ) (x : NextFile) → Filed s x ds → length ds ≤ k → fromFile x (λ g. filesOn s k g) ≡ NoFile
+filed-past : (s : List ℕ) (ds : List File) (k : ℕ) (x : NextFile) → Filed s x ds → length ds ≤ k
+    → fromFile x (λ g. filesOn s k g) ≡ NoFile
 unfolding fromFile filesOn
 filed-past s [] k x e h = ap (λ (y : NextFile). fromFile y (λ g. filesOn s k g)) e
 filed-past s (d ∷ ds) zero x b h = absurd (omega arith)
 filed-past s (d ∷ ds) (suc k) x (f, e, is, rest) h =
     ap (λ (y : NextFile). fromFile y (λ g. filesOn s (suc k) g)) e ∙ filed-past s ds k (nextFile s f) rest (omega arith)
 
-started : (s : List ℕ) (k : ℕ) → imageVerdict s .number ≡ 0 → begunAt s (k + 1) ≡ startedBy (fromFile (firstFile s) (λ f. filesOn s k f))
+started : (s : List ℕ) (k : ℕ) → imageVerdict s .number ≡ 0
+    → begunAt s (k + 1) ≡ startedBy (fromFile (firstFile s) (λ f. filesOn s k f))
 unfolding begunAt fileNumbered
 started s k h =
     let e : k + 1 - 1 ≡ k = omega arith in
     if-true _ _ _ (eq-eqb (imageVerdict s .number) 0 h)
-    ∙ ap startedBy (if-false _ _ _ (ne-eqb (k + 1) 0 (λ z. omega arith)) ∙ ap (λ (j : ℕ). fromFile (firstFile s) (λ f. filesOn s j f)) e)
+    ∙ ap startedBy (if-false _ _ _ (ne-eqb (k + 1) 0 (λ z. omega arith))
+    ∙ ap (λ (j : ℕ). fromFile (firstFile s) (λ f. filesOn s j f)) e)
 
--- On an accepted image, each file is found by its number, with its fields of the meaning, and the walk over it hands out exactly its records, in
+-- On an accepted image, each file is found by its number, with its fields of the meaning, and the walk over it hands out exactly
+-- its records, in
 -- order, and then 13.
-pub walk-records : (s : List ℕ) (ds : List File) (d : File) (es : List File) → imageVerdict s .number ≡ 0 → content s .files ≡ ds ++ (d ∷ es)
+pub walk-records : (s : List ℕ) (ds : List File) (d : File) (es : List File) → imageVerdict s .number ≡ 0
+    → content s .files ≡ ds ++ (d ∷ es)
     → (f : FileAt) × (begunAt s (length ds + 1) ≡ Started f) × FileIs s f d
 unfolding startedBy
 walk-records s ds d es h e =
@@ -250,12 +272,15 @@ unfolding begunAt fileNumbered startedBy
 zeroth s h = if-true _ _ _ (eq-eqb (imageVerdict s .number) 0 h) ∙ ap startedBy (if-true _ _ _ refl)
 
 -- A file number that is 0 or past the last is 13.
-pub walk-none : (s : List ℕ) (n : ℕ) → imageVerdict s .number ≡ 0 → ((k : ℕ) → k < length (content s .files) → k + 1 ≡ n → ⊥) → begunAt s n ≡ Refused (verdict 13 0 0)
+pub walk-none : (s : List ℕ) (n : ℕ) → imageVerdict s .number ≡ 0 → ((k : ℕ) → k < length (content s .files) → k + 1 ≡ n → ⊥)
+    → begunAt s n ≡ Refused (verdict 13 0 0)
 unfolding startedBy
 walk-none s zero h past = zeroth s h
 walk-none s (suc k) h past =
     let e : suc k ≡ k + 1 = sym (add-one k) in
-    ap (begunAt s) e ∙ started s k h ∙ ap startedBy (filed-past s (content s .files) k (firstFile s) (files-all s h) (by-last (decLt k (length (content s .files)))))
+    ap (begunAt s) e ∙ started s k h
+    ∙ ap startedBy (filed-past s (content s .files) k (firstFile s) (files-all s h)
+    (by-last (decLt k (length (content s .files)))))
   where
     by-last : Dec (k < length (content s .files)) → length (content s .files) ≤ k
     by-last (yes l) = absurd (past k l (add-one k))

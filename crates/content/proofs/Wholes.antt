@@ -1,4 +1,5 @@
--- The record that stands whole in the current block, or at the head of the next, is the record at the walk's place. Assumes nothing.
+-- The record that stands whole in the current block, or at the head of the next, is the record at the walk's place. Assumes
+-- nothing.
 use mathlib.Core.Path.{_≡_, refl, sym, ap, ap₂, _∙_, subst}
 use mathlib.Core.Bool.{Bool, true, false, not}
 use mathlib.Core.List.{List}
@@ -46,11 +47,13 @@ head-at : (s : List ℕ) (w : Walk) (p : Shape) → w .left ≡ 0 → p ≡ shap
 unfolding atBlock
 head-at s w p h e = ap (headBy w) e ∙ sym (if-true _ _ _ (eq-eqb (w .left) 0 h))
 
-pub head-short : (s : List ℕ) (w : Walk) (p : Shape) (n : ℕ) → w .left ≡ 0 → p ≡ shape (drop (w .at) s) → p ≡ Block n → n < w .offset → w ≡ atBlock s w
+pub head-short : (s : List ℕ) (w : Walk) (p : Shape) (n : ℕ) → w .left ≡ 0 → p ≡ shape (drop (w .at) s) → p ≡ Block n
+    → n < w .offset → w ≡ atBlock s w
 unfolding headBy
 head-short s w p n h e q k = sym (if-false _ _ _ (lt-leb (w .offset) n k)) ∙ head-at s w (Block n) h (sym q ∙ e)
 
-pub head-block : (s : List ℕ) (w v : Walk) (p : Shape) (n : ℕ) → w .left ≡ 0 → p ≡ shape (drop (w .at) s) → p ≡ Block n → w .offset ≤ n
+pub head-block : (s : List ℕ) (w v : Walk) (p : Shape) (n : ℕ) → w .left ≡ 0 → p ≡ shape (drop (w .at) s) → p ≡ Block n
+    → w .offset ≤ n
     → v ≡ moved w (w .at + 3 + w .offset) (n - w .offset) → v ≡ atBlock s w
 unfolding headBy
 head-block s w v p n h e q k m = m ∙ sym (if-true _ _ _ (le-leb (w .offset) n k)) ∙ head-at s w (Block n) h (sym q ∙ e)
@@ -67,7 +70,8 @@ pub head-broken : (s : List ℕ) (w : Walk) (p : Shape) → w .left ≡ 0 → p 
 unfolding headBy
 head-broken s w p h e q = head-at s w Broken h (sym q ∙ e)
 
-pub head-fits : (s : List ℕ) (at o n : ℕ) (p : Shape) → p ≡ shape (drop at s) → p ≡ Block n → o ≤ n → length s < 18446744073709551616 → Fits w64 (at + 3 + o)
+pub head-fits : (s : List ℕ) (at o n : ℕ) (p : Shape) → p ≡ shape (drop at s) → p ≡ Block n → o ≤ n
+    → length s < 18446744073709551616 → Fits w64 (at + 3 + o)
 head-fits s at o n p e q k h = omega (arith, block-within s at n p e q)
 
 pub ruleset heads = (block-left, head-short, head-block, head-mark, head-reel-end, head-broken, start-fits, head-fits, needs)
@@ -85,15 +89,18 @@ outside s w h e = sym (if-false _ _ _ (ne-eqb (w .size) 0 h) ∙ if-false _ _ _ 
 pub whole-past : (s : List ℕ) (f r at left : ℕ) → (r ≡ 0 → ⊥) → length s < at → 0 ≡ wholeIn s (standsAt f r at left)
 whole-past s f r at left h k = outside s (standsAt f r at left) h (sym (inside-not s (standsAt f r at left) k))
 
-pub whole-outside : (s : List ℕ) (f r at left : ℕ) → (r ≡ 0 → ⊥) → at ≤ length s → length s - at < left → 0 ≡ wholeIn s (standsAt f r at left)
+pub whole-outside : (s : List ℕ) (f r at left : ℕ) → (r ≡ 0 → ⊥) → at ≤ length s → length s - at < left
+    → 0 ≡ wholeIn s (standsAt f r at left)
 whole-outside s f r at left h k m =
     outside s (standsAt f r at left) h (sym (inside-left s (standsAt f r at left) k) ∙ lt-leb left (length s - at) m)
 
-within : (s : List ℕ) (w : Walk) → (w .size ≡ 0 → ⊥) → Inside s w → wholeOf (w .size) (unitOf (w .format) (w .size) (leftOf s w)) ≡ wholeIn s w
+within : (s : List ℕ) (w : Walk) → (w .size ≡ 0 → ⊥) → Inside s w
+    → wholeOf (w .size) (unitOf (w .format) (w .size) (leftOf s w)) ≡ wholeIn s w
 unfolding wholeIn
 within s w h k = sym (if-false _ _ _ (ne-eqb (w .size) 0 h) ∙ if-true _ _ _ (inside-is s w k))
 
-pub whole-no-format : (s : List ℕ) (f r at left : ℕ) → (r ≡ 0 → ⊥) → at ≤ length s → left ≤ length s - at → 256 ≤ f → 0 ≡ wholeIn s (standsAt f r at left)
+pub whole-no-format : (s : List ℕ) (f r at left : ℕ) → (r ≡ 0 → ⊥) → at ≤ length s → left ≤ length s - at → 256 ≤ f
+    → 0 ≡ wholeIn s (standsAt f r at left)
 unfolding wholeOf
 whole-no-format s f r at left h k m g =
     ap (wholeOf r) (no-format f r (leftOf s (standsAt f r at left)) g) ∙ within s (standsAt f r at left) h (omega arith)
@@ -104,7 +111,8 @@ unfolding leftOf
 whole-number s f r at left k h a m e =
     e ∙ ap (λ (l : List ℕ). wholeOf r (unitOf f r l)) (part-within at left s) ∙ within s (standsAt f r at left) h (omega arith)
 
-pub end-fits : (s : List ℕ) (at left : ℕ) → at ≤ length s → left ≤ length s - at → length s < 18446744073709551616 → Fits w64 (at + left)
+pub end-fits : (s : List ℕ) (at left : ℕ) → at ≤ length s → left ≤ length s - at → length s < 18446744073709551616
+    → Fits w64 (at + left)
 end-fits s at left a m h = omega arith
 
 pub end-within : (s : List ℕ) (at left : ℕ) → at ≤ length s → left ≤ length s - at → at + left ≤ length s
@@ -123,7 +131,8 @@ pub record Standing (s : List ℕ) (v : Walk) (k : ℕ) : Type 0 where
   pub short : k - wordOf (v .format) ≤ v .size
   pub left : k ≤ v .left
 
-standing-by : (s : List ℕ) (v : Walk) (k : ℕ) → (v .size ≡ 0 → ⊥) → Inside s v → k ≡ wholeOf (v .size) (unitOf (v .format) (v .size) (leftOf s v)) → (k ≡ 0 → ⊥)
+standing-by : (s : List ℕ) (v : Walk) (k : ℕ) → (v .size ≡ 0 → ⊥) → Inside s v
+    → k ≡ wholeOf (v .size) (unitOf (v .format) (v .size) (leftOf s v)) → (k ≡ 0 → ⊥)
     → Standing s v k
 unfolding unitHere taken
 standing-by s v k some inside e z =
@@ -168,7 +177,14 @@ pub record WholeLeads (s : List ℕ) (w v : Walk) : Type 0 where
 leads-self : (s : List ℕ) (w : Walk) → WholeLeads s w w
 unfolding unitFrom orNext
 leads-self s w =
-    record { format = refl; size = refl; offset = refl; inside = λ h. h; unit = λ i start n u e. ap (λ (t : Taken). orNext t (unitNext s w)) e }
+    record {
+      format = refl;
+      size = refl;
+      offset = refl;
+      inside = λ h. h;
+      unit = λ i start n u e. ap
+          (λ (t : Taken). orNext t (unitNext s w)) e;
+    }
 
 pub none-left : (s : List ℕ) (w : Walk) → w .left ≡ 0 → unitHere s w ≡ Nothing
 unfolding unitHere taken
@@ -215,7 +231,8 @@ pub leads : (s : List ℕ) (w v : Walk) → v ≡ atBlock s w → WholeLeads s w
 unfolding atBlock
 leads s w v e =
     subst (WholeLeads s w) (sym e)
-    (if-case (WholeLeads s w) (eqb (w .left) 0) _ w (λ a. leads-by s w (shape (drop (w .at) s)) (eqb-true (w .left) 0 a) refl) (λ _. leads-self s w))
+    (if-case (WholeLeads s w) (eqb (w .left) 0) _ w (λ a. leads-by s w (shape (drop (w .at) s)) (eqb-true (w .left) 0 a) refl)
+    (λ _. leads-self s w))
 
 pub record-whole : (s : List ℕ) (w v : Walk) (k : ℕ) → v ≡ atBlock s w → k ≡ wholeAt s v → (k ≡ 0 → ⊥)
     → recordAt s w ≡ whole (v .at + wordOf (v .format)) (k - wordOf (v .format)) (moved v (v .at + k) (v .left - k))
@@ -225,11 +242,13 @@ record-whole s w v k e m z =
     let q = l .size in
     let some = c .some in
     let short = c .short in
-    is-whole s w 0 _ _ _ (unitFrom s w) (record { some = λ h. some (q ∙ h); inside = inside-is s w (l .inside (c .inside)) }) refl (l .unit _ _ _ _ (c .unit)) (omega arith) refl
+    is-whole s w 0 _ _ _ (unitFrom s w) (record { some = λ h. some (q ∙ h); inside = inside-is s w (l .inside (c .inside)) }) refl
+    (l .unit _ _ _ _ (c .unit)) (omega arith) refl
 
 -- ---- as the code finds it
 
-pub measured-whole : (s : List ℕ) (w v u : Walk) (k c : ℕ) → v ≡ atBlock s w → k ≡ wholeAt s v → (k ≡ 0 → ⊥) → c ≡ wordOf (v .format)
+pub measured-whole : (s : List ℕ) (w v u : Walk) (k c : ℕ) → v ≡ atBlock s w → k ≡ wholeAt s v → (k ≡ 0 → ⊥)
+    → c ≡ wordOf (v .format)
     → u ≡ moved v (v .at + k) (v .left - k) → Whole (v .at + c) (k - c) u ≡ measuredBy (recordAt s w)
 unfolding measuredBy
 measured-whole s w v u k c e m z p q =
@@ -242,7 +261,8 @@ word-least s v k c m z p = omega (arith, standing s v k m z .least)
 pub whole-left : (s : List ℕ) (v : Walk) (k : ℕ) → k ≡ wholeAt s v → (k ≡ 0 → ⊥) → k ≤ v .left
 whole-left s v k m z = standing s v k m z .left
 
-pub whole-start : (s : List ℕ) (v : Walk) (k c : ℕ) → k ≡ wholeAt s v → (k ≡ 0 → ⊥) → c ≡ wordOf (v .format) → length s < 18446744073709551616 → Fits w64 (v .at + c)
+pub whole-start : (s : List ℕ) (v : Walk) (k c : ℕ) → k ≡ wholeAt s v → (k ≡ 0 → ⊥) → c ≡ wordOf (v .format)
+    → length s < 18446744073709551616 → Fits w64 (v .at + c)
 whole-start s v k c m z p h =
     let g = standing s v k m z in
     let a = g .least in
@@ -250,7 +270,8 @@ whole-start s v k c m z p h =
     let d = g .inside in
     omega arith
 
-pub whole-end : (s : List ℕ) (v : Walk) (k : ℕ) → k ≡ wholeAt s v → (k ≡ 0 → ⊥) → length s < 18446744073709551616 → Fits w64 (v .at + k)
+pub whole-end : (s : List ℕ) (v : Walk) (k : ℕ) → k ≡ wholeAt s v → (k ≡ 0 → ⊥) → length s < 18446744073709551616
+    → Fits w64 (v .at + k)
 whole-end s v k m z h =
     let g = standing s v k m z in
     let b = g .left in

@@ -1,4 +1,5 @@
--- Record r of file n, both from 1. Document 01, "Handing out records": the image's own number, then 13, then 10, the latter two with place 0.
+-- Record r of file n, both from 1. Document 01, "Handing out records": the image's own number, then 13, then 10, the latter two
+-- with place 0.
 use mathlib.Core.List.{List, []}
 use Prim.Native.Nat.{ℕ, zero, suc, _-_}
 use lib.Dec.{eqb}

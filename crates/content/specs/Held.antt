@@ -1,6 +1,8 @@
--- What a file holds, in numbers: what each of its data blocks holds, added up, on whatever reels they stand; and the place behind the last of them.
+-- What a file holds, in numbers: what each of its data blocks holds, added up, on whatever reels they stand; and the place behind
+-- the last of them.
 -- Document 02, P13: a total is the sum of the numbers that the definitions give.
--- `heldF` counts down a number that is large enough; `held-block` and `held-over` (proofs/Helds.antt) are the equations of `heldFrom`.
+-- `heldF` counts down a number that is large enough; `held-block` and `held-over` (proofs/Helds.antt) are the equations of
+-- `heldFrom`.
 use mathlib.Core.List.{List}
 use Prim.Native.Nat.{ℕ, zero, suc, _+_, _<_}
 use lib.ListN.{length, drop}

@@ -1,4 +1,5 @@
--- An image item by item, for whoever shows or lists it: what stands at a place, whatever stood before it, accepted or not. Of an accepted set these are its
+-- An image item by item, for whoever shows or lists it: what stands at a place, whatever stood before it, accepted or not. Of an
+-- accepted set these are its
 -- items, with the kinds by which it was checked (`Met` below; `items-met` in proofs/Shown.antt).
 -- The first item stands at place 5 among labels; the next one stateBehind it, in the group that the answer names.
 use mathlib.Core.Path.{_≡_}
@@ -27,7 +28,8 @@ torn = kind 12 0
 
 -- an item of kind k in a group, its bytes, and what is stateBehind it
 unfoldable pub itemOf : ℕ → Kind → ℕ → ℕ → ItemAt
-itemOf g k start n = record { family = k .family; number = k .number; group = groupAfter g k; start = start; len = n; stateBehind = start + n }
+itemOf g k start n =
+    record { family = k .family; number = k .number; group = groupAfter g k; start = start; len = n; stateBehind = start + n }
 
 -- what a block is in a group: among data blocks data, else a label
 unfoldable pub kindAmong : ℕ → List ℕ → Kind
@@ -49,7 +51,8 @@ itemAt s at g = itemBy s g at (shape (drop at s))
 
 -- ---- the items of a set, met one after the other by some way of asking for the item at a place in a group
 
--- item x, in state st, is what the answer says: its kind is the one by which it is judged, its bytes are its own, and the others are met stateBehind it
+-- item x, in state st, is what the answer says: its kind is the one by which it is judged, its bytes are its own, and the others
+-- are met stateBehind it
 pub record Told (s : List ℕ) (st : State) (x : Item) (answer : ItemAt) (others : State → Type 0) : Type 0 where
   pub kinds : kind (answer .family) (answer .number) ≡ kindIn (st .phase) x
   pub bytes : part (answer .start) (answer .len) s ≡ bytesIn x

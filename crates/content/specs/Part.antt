@@ -1,7 +1,10 @@
--- The parts of an image from a place on, in order: a file begins, a section of it begins, a data block. Document 01, "What a reel holds, in order": what
--- stands between them is passed as the order of a reel has it; what is not due there ends the search. Whatever the bytes are, accepted or not, a file begins at
+-- The parts of an image from a place on, in order: a file begins, a section of it begins, a data block. Document 01, "What a reel
+-- holds, in order": what
+-- stands between them is passed as the order of a reel has it; what is not due there ends the search. Whatever the bytes are,
+-- accepted or not, a file begins at
 -- an HDR2 where none goes on.
--- Read first: `partsFrom`, all parts from a place on; files, sections, blocks and so records are found by the first of them that is wanted.
+-- Read first: `partsFrom`, all parts from a place on; files, sections, blocks and so records are found by the first of them that
+-- is wanted.
 use mathlib.Core.Bool.{Bool, true, false, not}
 use mathlib.Core.List.{List, [], _∷_, map}
 use Prim.Native.Nat.{ℕ, _+_}
@@ -77,7 +80,8 @@ partsFrom c [] = []
 partsFrom c (x ∷ xs) =
     partsBy (ledTo (c .continues) (c .phase) (kindIn (c .phase) x))
     (λ q.
-    onto (partIn (c .continues) (c .hdr1) (c .at + 3) (length (bytesIn x)) (kindIn (c .phase) x)) (after c (kindIn (c .phase) x) (length (bytesIn x)) q)
+    onto (partIn (c .continues) (c .hdr1) (c .at + 3) (length (bytesIn x)) (kindIn (c .phase) x))
+    (after c (kindIn (c .phase) x) (length (bytesIn x)) q)
     (partsFrom (after c (kindIn (c .phase) x) (length (bytesIn x)) q) xs))
 
 -- the same, in an image

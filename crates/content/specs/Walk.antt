@@ -1,9 +1,12 @@
--- A step of a walk over a file's records. Document 01, "Handing out records": a forward walk takes one step a record; from a state that no walk
+-- A step of a walk over a file's records. Document 01, "Handing out records": a forward walk takes one step a record; from a
+-- state that no walk
 -- reaches the same definition decides: no record where none, by the state's own format and lengths, stands at its place.
 --
--- A walk has the format, the record length (R, `size`) and the offset length of its file, the place of what is left of the current block and how
+-- A walk has the format, the record length (R, `size`) and the offset length of its file, the place of what is left of the
+-- current block and how
 -- many bytes of it are left; with none left the place is that of the next item.
--- Read first: `recordAt`, the record that stands there: whole, a part of the image; or split, the bytes of its segments; and the walk behind it.
+-- Read first: `recordAt`, the record that stands there: whole, a part of the image; or split, the bytes of its segments; and the
+-- walk behind it.
 -- `restAt` counts down a number that is large enough; `rest-at` (proofs/Rests.antt) is its equation.
 use mathlib.Core.Bool.{Bool, false}
 use mathlib.Core.List.{List, _++_}
@@ -41,7 +44,8 @@ isInside s w = ifB (leb (w .at) (length s)) (leb (w .left) (length s - w .at)) f
 
 -- ---- units
 
--- a unit at the head of what is left: its indicator, where its record or segment starts and how long it is, and the walk behind it
+-- a unit at the head of what is left: its indicator, where its record or segment starts and how long it is, and the walk behind
+-- it
 unfoldable pub taken : Walk → Unit → Taken
 taken w (Of i c n) = One i (w .at + c) n (moved w (w .at + c + n) (w .left - (c + n)))
 taken w None = Nothing
@@ -97,7 +101,8 @@ before bs fails = fails
 -- a unit that goes on with the record, which may have `room` bytes more: 2 goes on, 3 ends it
 unfoldable pub restBy : List ℕ → ℕ → Taken → (ℕ → Walk → Rest) → Rest
 restBy s room (One i start n v) rest =
-    ifB (leb n room) (ifB (eqb i 3) (ends (part start n s) v) (ifB (eqb i 2) (before (part start n s) (rest (room - n) v)) fails)) fails
+    ifB (leb n room) (ifB (eqb i 3) (ends (part start n s) v)
+    (ifB (eqb i 2) (before (part start n s) (rest (room - n) v)) fails)) fails
 restBy s room Nothing rest = fails
 
 unfoldable pub restF : ℕ → List ℕ → ℕ → Walk → Rest
@@ -121,7 +126,8 @@ splitBy bs fails = nothing
 -- the record that a unit begins, of at most r bytes: 0 is a whole one, 1 begins one
 unfoldable pub begunBy : List ℕ → ℕ → Taken → Record
 begunBy s r (One i start n v) =
-    ifB (leb n r) (ifB (eqb i 0) (whole start n v) (ifB (eqb i 1) (splitBy (part start n s) (restAt s (r - n) v)) nothing)) nothing
+    ifB (leb n r) (ifB (eqb i 0) (whole start n v)
+    (ifB (eqb i 1) (splitBy (part start n s) (restAt s (r - n) v)) nothing)) nothing
 begunBy s r Nothing = nothing
 
 -- the record at a walk's place; a record length of 0 is no walk's

@@ -43,14 +43,16 @@ lastOf s w = along (λ v. v) (λ r v. v) s w
 unfoldable pub endOf : List ℕ → Walk → ℕ
 endOf s w = lastOf s w .at + lastOf s w .left
 
--- what the blocks of a file hold, added up, is what its records come to; and what follows the file is found from behind its last block on, too
+-- what the blocks of a file hold, added up, is what its records come to; and what follows the file is found from behind its last
+-- block on, too
 pub record Amounts (s : List ℕ) (f : FileAt) (d : File) : Type 0 where
   pub records : fileHeld s (f .walk) .held .records ≡ length (d .records)
   pub bytes : fileHeld s (f .walk) .held .bytes ≡ sum (map length (d .records))
   pub ends : fileHeld s (f .walk) .end ≤ length s
   pub behind : fileBehind s f (fileHeld s (f .walk) .end) ≡ nextFile s f
 
--- a file of the meaning where it stands: its first HDR1 and HDR2 lie within the image and have its fields, the walk hands out its records, and what
+-- a file of the meaning where it stands: its first HDR1 and HDR2 lie within the image and have its fields, the walk hands out its
+-- records, and what
 -- follows the file is found from the end of its records on, too
 pub record FileIs (s : List ℕ) (f : FileAt) (d : File) : Type 0 where
   pub firstWithin : f .first + 80 ≤ length s

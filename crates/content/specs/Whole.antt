@@ -1,5 +1,7 @@
--- The record that stands whole in what is left of the current block, or at the head of the next: most records do, and one number tells them.
--- `record-whole` (proofs/Wholes.antt) says that it is the record at the walk's place. And the segment that stands there, which one number tells as well.
+-- The record that stands whole in what is left of the current block, or at the head of the next: most records do, and one number
+-- tells them.
+-- `record-whole` (proofs/Wholes.antt) says that it is the record at the walk's place. And the segment that stands there, which
+-- one number tells as well.
 use mathlib.Core.List.{List}
 use Prim.Native.Nat.{ℕ, _+_, _-_}
 use lib.Dec.{leb, eqb}

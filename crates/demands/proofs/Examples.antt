@@ -28,7 +28,8 @@ pub data Example : Type 0 where
   gives : ℕ → ℕ → List String → List String → Example
   -- the number on a block of format f and record length r, with no record open
   answers : ℕ → ℕ → String → ℕ → Example
-  -- what a block of format f, record length r and offset length o holds: records that end in it, bytes of records, of control words, of padding and of the offset
+  -- what a block of format f, record length r and offset length o holds: records that end in it, bytes of records, of control
+  -- words, of padding and of the offset
   splits : ℕ → ℕ → ℕ → String → List ℕ → Example
   -- records in a file of format f and block length b are written as these blocks
   packs : ℕ → ℕ → List String → List String → Example

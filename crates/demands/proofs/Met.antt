@@ -44,7 +44,8 @@ demand-2 =
     record {
       accepted = λ s. (done-accepted s, accepted-done s);
       first-wrong = λ s out. first-fault s (λ z. out (accepted-iff s .0 z));
-      whole = λ s out. record { begin = none-begun s out; find = none-found s out; list = none-listed s out; rewrite = none-rewritten s out };
+      whole =
+          λ s out. record { begin = none-begun s out; find = none-found s out; list = none-listed s out; rewrite = none-rewritten s out };
       files = file-given;
       no-file = no-file;
       begin = λ s n. refl;
@@ -65,8 +66,11 @@ demand-2 =
       converted = λ tape lengths s out list. (refl, refl);
     }
 
-normal : (s : List ℕ) (quota : ℕ) (names o : List ℕ) → Accepted s → reelsNumber quota names ≡ 0 → Fits (sheetFrom s quota names) (length o) → Normal ours s quota names o
-normal s quota names o a l f = record { done = rewrite-done s quota names o a l f; means = rewrite-means s quota names o a l f; again = rewrite-again s quota names o a l f }
+normal : (s : List ℕ) (quota : ℕ) (names o : List ℕ) → Accepted s → reelsNumber quota names ≡ 0
+    → Fits (sheetFrom s quota names) (length o) → Normal ours s quota names o
+normal s quota names o a l f =
+    record { done = rewrite-done s quota names o a l f; means = rewrite-means s quota names o a l f; again = rewrite-again s quota names o a l f }
 
 pub demand-3 : Demand3 ours
-demand-3 = record { normal = λ a b quota names o q x y l f g. (normal a quota names o x l f, normal b quota names q y l g, equal-images a b quota names o q x y l f g) }
+demand-3 =
+    record { normal = λ a b quota names o q x y l f g. (normal a quota names o x l f, normal b quota names q y l g, equal-images a b quota names o q x y l f g) }

@@ -1,4 +1,5 @@
--- A set of three reels that was written over New Year, and sets of its kind that are refused (document 02, P2). Every claim is computed.
+-- A set of three reels that was written over New Year, and sets of its kind that are refused (document 02, P2). Every claim is
+-- computed.
 use mathlib.Core.Path.{_≡_, refl}
 use mathlib.Core.List.{List, [], _∷_, _++_}
 use Prim.Native.Nat.{ℕ}
@@ -40,7 +41,8 @@ use Rattle.writing.specs.Rewrite.{sheetFrom}
 -- HDR1 of file LEDGER, or EOV1 or EOF1 from BP 4 on: section n, its two dates, its block count
 unfoldable pub first : String → String → String → String → List ℕ
 first name n dates count =
-    bytes name ++ bytes "LEDGER           SET001000" ++ bytes n ++ bytes "0001000100" ++ bytes dates ++ bytes " " ++ bytes count ++ bytes "                    "
+    bytes name ++ bytes "LEDGER           SET001000" ++ bytes n ++ bytes "0001000100" ++ bytes dates ++ bytes " " ++
+    bytes count ++ bytes "                    "
 
 -- reel GATE0n with section n and its one block: the dates of the header, EOV or EOF, the dates of the trailer
 unfoldable pub reel : String → String → String → String → List Item
@@ -60,7 +62,8 @@ reel n header end trailer =
 
 -- section 0001 is of day 365 of the year 85; the dates of the second header and of its trailer, and those of the third section
 unfoldable pub ledger : String → String → String → List Item
-ledger header trailer third = reel "1" " 85365 86365" "EOV" " 85365 86365" ++ reel "2" header "EOV" trailer ++ reel "3" third "EOF" third
+ledger header trailer third =
+    reel "1" " 85365 86365" "EOV" " 85365 86365" ++ reel "2" header "EOV" trailer ++ reel "3" third "EOF" third
 
 -- the later sections are of the year 86, each of a day of its own
 unfoldable pub newYear : List Item

@@ -36,12 +36,14 @@ written s out = record { number = 0; len = length s; out = s ++ drop (length s) 
 sheet-written : (x : Sheet) (out : List ℕ) (f : Fits x (length out)) → writeSheet x out ≡ written (image f) out
 unfolding writeSheet storedLaid stored
 sheet-written x out f =
-    ap (λ (l : Laid). storedLaid l out) (f .laying) ∙ if-true _ _ _ (le-leb _ _ (f .limit)) ∙ if-true _ _ _ (le-leb _ _ (f .enough))
+    ap (λ (l : Laid). storedLaid l out) (f .laying) ∙ if-true _ _ _ (le-leb _ _ (f .limit))
+    ∙ if-true _ _ _ (le-leb _ _ (f .enough))
 
 -- a legal sheet that fits is written
 pub write-done : (x : Flat) (out : List ℕ) → sheetNumber x ≡ 0 → Fits (sheetOf x) (length out) → write x out .number ≡ 0
 unfolding write
-write-done x out z f = ap (λ (w : Written). w .number) (if-true _ _ _ (eq-eqb (sheetNumber x) 0 z) ∙ sheet-written (sheetOf x) out f)
+write-done x out z f =
+    ap (λ (w : Written). w .number) (if-true _ _ _ (eq-eqb (sheetNumber x) 0 z) ∙ sheet-written (sheetOf x) out f)
 
 -- whatever the sheet, it is written where it fits, and else refused with the first number that applies
 laid-outcome : (n : ℕ) → n ≡ 0 → (x : Sheet) (out : List ℕ) (l : Laid) → lay x ≡ l → WriteOutcome n x out (storedLaid l out)
@@ -49,7 +51,8 @@ unfolding storedLaid stored
 laid-outcome n z x out (laid xs) e =
     if-case (WriteOutcome n x out) (leb (length (head ++ encode xs)) mostImage) _ _
     (λ a. if-case (WriteOutcome n x out) (leb (length (head ++ encode xs)) (length out)) _ _
-    (λ b. fits z (record { items = xs; laying = e; limit = leb-true _ _ a; enough = leb-true _ _ b })) (λ b. noRoom z xs e (leb-true _ _ a) (leb-false _ _ b)))
+    (λ b. fits z (record { items = xs; laying = e; limit = leb-true _ _ a; enough = leb-true _ _ b }))
+    (λ b. noRoom z xs e (leb-true _ _ a) (leb-false _ _ b)))
     (λ a. tooLong z xs e (leb-false _ _ a))
 laid-outcome n z x out short e = fewReels z e
 
@@ -62,21 +65,26 @@ write-outcome x out =
 -- ---- rewriting an accepted set
 
 pub rewrite-outcome : (s : List ℕ) (quota : ℕ) (names out : List ℕ) → Accepted s
-    → (w : Written) × WriteOutcome (reelsNumber quota names) (sheetFrom s quota names) out w × (rewrite s quota names out ≡ placed w)
+    → (w : Written) × WriteOutcome (reelsNumber quota names) (sheetFrom s quota names) out w
+    × (rewrite s quota names out ≡ placed w)
 unfolding rewrite writeSheet refusedWith placed refused
-rewrite-outcome s quota names out a = by-legal (eqb (reelsNumber quota names) 0) refl (if-true _ _ _ (eq-eqb (imageVerdict s .number) 0 (accepted-iff s .1 a)))
+rewrite-outcome s quota names out a =
+    by-legal (eqb (reelsNumber quota names) 0) refl (if-true _ _ _ (eq-eqb (imageVerdict s .number) 0 (accepted-iff s .1 a)))
   where
     wrote : Written
     wrote = storedLaid (lay (sheetFrom s quota names)) out
 
     by-legal : (t : Bool) → eqb (reelsNumber quota names) 0 ≡ t
-        → rewrite s quota names out ≡ ifB (eqb (reelsNumber quota names) 0) (placed wrote) (placed (refused (reelsNumber quota names) out))
-        → (w : Written) × WriteOutcome (reelsNumber quota names) (sheetFrom s quota names) out w × (rewrite s quota names out ≡ placed w)
+        → rewrite s quota names out
+        ≡ ifB (eqb (reelsNumber quota names) 0) (placed wrote) (placed (refused (reelsNumber quota names) out))
+        → (w : Written) × WriteOutcome (reelsNumber quota names) (sheetFrom s quota names) out w
+        × (rewrite s quota names out ≡ placed w)
     by-legal true e q = (wrote, laid-outcome _ (eqb-true _ 0 e) _ out _ refl, q ∙ if-true _ _ _ e)
     by-legal false e q = (refused (reelsNumber quota names) out, illegal (eqb-false _ 0 e), q ∙ if-false _ _ _ e)
 
 -- one that fits, with a legal quota and legal names
-module _ (s : List ℕ) (quota : ℕ) (names out : List ℕ) (a : Accepted s) (legal : reelsNumber quota names ≡ 0) (f : Fits (sheetFrom s quota names) (length out)) where
+module _ (s : List ℕ) (quota : ℕ) (names out : List ℕ) (a : Accepted s) (legal : reelsNumber quota names ≡ 0)
+    (f : Fits (sheetFrom s quota names) (length out)) where
   pub rewritten : rewrite s quota names out ≡ placed (written (image f) out)
   unfolding rewrite
   rewritten =
@@ -96,12 +104,14 @@ module _ (s : List ℕ) (quota : ℕ) (names out : List ℕ) (a : Accepted s) (l
   unfolding sheetFrom
   rewrite-means =
       subst (λ (x : List ℕ). Means x (content s)) (sym rewrite-image)
-      (image-means (sheetFrom s quota names) (f .items) (image-legal s quota names (accepted-iff s .1 a) legal) (f .laying) (f .limit))
+      (image-means (sheetFrom s quota names) (f .items) (image-legal s quota names (accepted-iff s .1 a) legal) (f .laying)
+      (f .limit))
 
 -- ---- one meaning, one normal set
 
 -- equal meanings make equal sheets
-pub sheet-same : (s t : List ℕ) (quota : ℕ) (names : List ℕ) → content s ≡ content t → sheetFrom s quota names ≡ sheetFrom t quota names
+pub sheet-same : (s t : List ℕ) (quota : ℕ) (names : List ℕ) → content s ≡ content t
+    → sheetFrom s quota names ≡ sheetFrom t quota names
 unfolding sheetFrom
 sheet-same s t quota names e = ap (λ (m : Meaning). record { meaning = m; quota = quota; names = inParts 6 names }) e
 
@@ -117,16 +127,20 @@ pub equal-images : (s t : List ℕ) (quota : ℕ) (names o q : List ℕ) → Acc
     → (imageIn (rewrite s quota names o) ≡ imageIn (rewrite t quota names q)) ↔ (content s ≡ content t)
 equal-images s t quota names o q a b legal f g = (
   λ e. sym (rewrite-means s quota names o a legal f .meaning) ∙ ap content e ∙ rewrite-means t quota names q b legal g .meaning,
-  λ e. rewrite-image s quota names o a legal f ∙ image-same _ _ (length o) (length q) f g (sheet-same s t quota names e) ∙ sym (rewrite-image t quota names q b legal g),
+  λ e. rewrite-image s quota names o a legal f ∙ image-same _ _ (length o) (length q) f g (sheet-same s t quota names e)
+      ∙ sym (rewrite-image t quota names q b legal g),
 )
 
 -- the normal set fits wherever it has room
-fits-again : (s t : List ℕ) (quota : ℕ) (names : List ℕ) (m n : ℕ) → content t ≡ content s → (f : Fits (sheetFrom s quota names) m) → length (image f) ≤ n
+fits-again : (s t : List ℕ) (quota : ℕ) (names : List ℕ) (m n : ℕ) → content t ≡ content s
+    → (f : Fits (sheetFrom s quota names) m) → length (image f) ≤ n
     → Fits (sheetFrom t quota names) n
-fits-again s t quota names m n e f room = record { items = f .items; laying = ap lay (sheet-same t s quota names e) ∙ f .laying; limit = f .limit; enough = room }
+fits-again s t quota names m n e f room =
+    record { items = f .items; laying = ap lay (sheet-same t s quota names e) ∙ f .laying; limit = f .limit; enough = room }
 
 -- rewritten, it gives itself again
-pub rewrite-again : (s : List ℕ) (quota : ℕ) (names out : List ℕ) → Accepted s → reelsNumber quota names ≡ 0 → Fits (sheetFrom s quota names) (length out) → (other : List ℕ)
+pub rewrite-again : (s : List ℕ) (quota : ℕ) (names out : List ℕ) → Accepted s → reelsNumber quota names ≡ 0
+    → Fits (sheetFrom s quota names) (length out) → (other : List ℕ)
     → length (imageIn (rewrite s quota names out)) ≤ length other
     → (rewrite (imageIn (rewrite s quota names out)) quota names other .verdict ≡ verdict 0 0 0)
     × (imageIn (rewrite (imageIn (rewrite s quota names out)) quota names other) ≡ imageIn (rewrite s quota names out))

@@ -1,4 +1,5 @@
--- Demand 2: the files and records of an accepted set, as they are handed out; and that a refused set hands out nothing. Assumes nothing.
+-- Demand 2: the files and records of an accepted set, as they are handed out; and that a refused set hands out nothing. Assumes
+-- nothing.
 use mathlib.Core.Path.{_≡_, refl, sym, ap, _∙_, subst}
 use mathlib.Core.Bool.{Bool, true, false}
 use mathlib.Core.List.{List, [], _∷_, _++_}
@@ -59,7 +60,8 @@ located-by w (Joined n v) = refl
 located-by w (NoStep k) = refl
 
 -- the same answers, handed out the same way
-handed-same : (s r : List ℕ) (x : Record) (f g : List ℕ → Handing) → ((old : List ℕ) → f old ≡ g old) → Handed s r g x → Handed s r f x
+handed-same : (s r : List ℕ) (x : Record) (f g : List ℕ → Handing) → ((old : List ℕ) → f old ≡ g old) → Handed s r g x
+    → Handed s r f x
 handed-same s r x f g e (one start v stood is at) = one start v stood is (λ old. e old ∙ at old)
 handed-same s r x f g e (several v stood at) = several v stood (λ old. e old ∙ at old)
 
@@ -70,36 +72,47 @@ record-stands s w r v (whole start n u) e h =
     let is : part start n s ≡ r = cc in
     let within : start + n ≤ length s = whole-within s w start n u (measuredBy (recordAt s w)) refl (ap measuredBy e ∙ (unfold measuredBy in refl)) in
     let long : n ≡ length r = sym (length-part start n s within) ∙ ap length is in
-    one start u (ap (λ (m : ℕ). whole start m u) long) (ap (λ (m : ℕ). part start m s) (sym long) ∙ is) (λ old. ap (λ (m : ℕ). handingOf start m old) long)
+    one start u (ap (λ (m : ℕ). whole start m u) long) (ap (λ (m : ℕ). part start m s) (sym long) ∙ is)
+    (λ old. ap (λ (m : ℕ). handingOf start m old) long)
   where
     handingOf : ℕ → ℕ → List ℕ → Handing
     handingOf start m old = record { at = recordOf (foundBy (InImage start m w)); left = old }
 record-stands s w r v (split bs u) e h =
     let is : bs ≡ r = cc in
-    several u (ap (λ (l : List ℕ). split l u) is) (λ old. by-room old (leb (length bs) (length old)) ∙ ap (λ (l : List ℕ). joining l old) is)
+    several u (ap (λ (l : List ℕ). split l u) is)
+    (λ old. by-room old (leb (length bs) (length old)) ∙ ap (λ (l : List ℕ). joining l old) is)
   where
     joining : List ℕ → List ℕ → Handing
-    joining l old = ifB (leb (length l) (length old)) (record { at = recordOf (foundBy (Joined (length l) w)); left = putAt old 0 l }) (noRecord (verdict 10 0 0) old)
+    joining l old =
+        ifB (leb (length l) (length old)) (record { at = recordOf (foundBy (Joined (length l) w)); left = putAt old 0 l })
+        (noRecord (verdict 10 0 0) old)
 
     by-room : (old : List ℕ) (t : Bool)
-        → _≡_ {A = Handing} (record { at = recordOf (foundBy (ifB t (Joined (length bs) u) (NoStep 10))); left = ifB t (putAt old 0 bs) old })
+        → _≡_ {A = Handing} (record {
+          at = recordOf (foundBy (ifB t (Joined (length bs) u) (NoStep 10)));
+          left = ifB t
+              (putAt old 0 bs) old;
+        })
         (ifB t (record { at = recordOf (foundBy (Joined (length bs) w)); left = putAt old 0 bs }) (noRecord (verdict 10 0 0) old))
     by-room old true = refl
     by-room old false = refl
 record-stands s w r v noRecordHere e h = let z : _≡_ {A = ℕ} 0 1 = cc in absurd (omega arith)
 
 -- a walk's record is handed out by a step, and the walk moved on
-stands : (s : List ℕ) (w : Walk) (r : List ℕ) (v : Walk) → handed s (recordAt s w) ≡ ends r v → Handed s r (handingAt s w) (recordAt s w)
+stands : (s : List ℕ) (w : Walk) (r : List ℕ) (v : Walk) → handed s (recordAt s w) ≡ ends r v
+    → Handed s r (handingAt s w) (recordAt s w)
 unfolding stepAt joinAt
 stands s w r v h = record-stands s w r v (recordAt s w) refl h
 
-moved-on : (s old : List ℕ) (w : Walk) (r : List ℕ) (v : Walk) (x : Record) → handed s x ≡ ends r v → steppedOf w (stepBy (length old) x) .number ≡ 0
+moved-on : (s old : List ℕ) (w : Walk) (r : List ℕ) (v : Walk) (x : Record) → handed s x ≡ ends r v
+    → steppedOf w (stepBy (length old) x) .number ≡ 0
     → steppedOf w (stepBy (length old) x) .walk ≡ v
 unfolding handed stepBy steppedOf ifB
 moved-on s old w r v (whole start n u) h z = cc
 moved-on s old w r v (split bs u) h z = by-room (leb (length bs) (length old)) z
   where
-    by-room : (t : Bool) → steppedOf w (ifB t (Joined (length bs) u) (NoStep 10)) .number ≡ 0 → steppedOf w (ifB t (Joined (length bs) u) (NoStep 10)) .walk ≡ v
+    by-room : (t : Bool) → steppedOf w (ifB t (Joined (length bs) u) (NoStep 10)) .number ≡ 0
+        → steppedOf w (ifB t (Joined (length bs) u) (NoStep 10)) .walk ≡ v
     by-room true q = cc
     by-room false q = absurd (omega arith)
 moved-on s old w r v noRecordHere h z = let q : _≡_ {A = ℕ} 0 1 = cc in absurd (omega arith)
@@ -116,7 +129,8 @@ unfolding stepAt joinAt
 steps-walk s w [] h = λ old. let x = none-stands s old (recordAt s w) h in λ i. record { answer = steppedOf w (x .0 i); left = x .1 i }
 steps-walk s w (r ∷ rs) (v, e, rest) = (
   v,
-  handed-same s r (recordAt s w) _ (handingAt s w) (λ old i. record { at = located-by w (stepAt s (length old) w) i; left = joinAt s old w }) (stands s w r v e),
+  handed-same s r (recordAt s w) _ (handingAt s w)
+      (λ old i. record { at = located-by w (stepAt s (length old) w) i; left = joinAt s old w }) (stands s w r v e),
   λ old z. moved-on s old w r v (recordAt s w) e z,
   steps-walk s v rs rest,
 )
@@ -129,7 +143,8 @@ unfolding rowOn steppedOf stepBy stepsBy ifB
 row-on w (whole start n v) f = refl
 row-on w (split bs v) f = by-room (leb (length bs) 0)
   where
-    by-room : (t : Bool) → rowOn w (steppedOf w (ifB t (Joined (length bs) v) (NoStep 10))) f ≡ stepsBy w (ifB t (Joined (length bs) v) (NoStep 10)) f
+    by-room : (t : Bool) → rowOn w (steppedOf w (ifB t (Joined (length bs) v) (NoStep 10))) f
+        ≡ stepsBy w (ifB t (Joined (length bs) v) (NoStep 10)) f
     by-room true = refl
     by-room false = refl
 row-on w noRecordHere f = refl
@@ -138,7 +153,8 @@ row-by : (s : List ℕ) (room : ℕ) (w : Walk) → rowBy ours s room w ≡ step
 unfolding rowBy stepsAt stepAt
 row-by s zero w = refl
 row-by s (suc room) w =
-    ap (rowOn w (steppedOf w (stepBy 0 (recordAt s w)))) (λ i v. row-by s room v i) ∙ row-on w (recordAt s w) (λ v. stepsAt s room v)
+    ap (rowOn w (steppedOf w (stepBy 0 (recordAt s w)))) (λ i v. row-by s room v i)
+    ∙ row-on w (recordAt s w) (λ v. stepsAt s room v)
 
 pub steps-listed : (s : List ℕ) (w : Walk) (places lengths : List ℕ)
     → ours .steps s w places lengths ≡ listing places lengths (rowBy ours s (min (length places) (length lengths)) w)
@@ -159,7 +175,8 @@ passed-over s (split bs u) f e = let z : _≡_ {A = ℕ} 0 1 = cc in absurd (ome
 passed-over s noRecordHere f e = refl
 
 -- behind some of the records a walk hands out the others
-passed-walks : (s : List ℕ) (w : Walk) (rs ts : List (List ℕ)) → Walks s w (rs ++ ts) → (v : Walk) × (passed s (length rs) w ≡ At v) × Walks s v ts
+passed-walks : (s : List ℕ) (w : Walk) (rs ts : List (List ℕ)) → Walks s w (rs ++ ts)
+    → (v : Walk) × (passed s (length rs) w ≡ At v) × Walks s v ts
 unfolding passed
 passed-walks s w [] ts h = (w, refl, h)
 passed-walks s w (r ∷ rs) ts (u, e, h) =
@@ -171,27 +188,31 @@ abbrev handingIn : List ℕ → Place → List ℕ → Handing
 handingIn s p old = record { at = recordOf (foundIn s (length old) p); left = leftIn s old p }
 
 -- behind all of them, or more, there is none
-past-last : (s old : List ℕ) (w : Walk) (rs : List (List ℕ)) (k : ℕ) → Walks s w rs → length rs ≤ k → handingIn s (passed s k w) old ≡ noRecord (verdict 13 0 0) old
+past-last : (s old : List ℕ) (w : Walk) (rs : List (List ℕ)) (k : ℕ) → Walks s w rs → length rs ≤ k
+    → handingIn s (passed s k w) old ≡ noRecord (verdict 13 0 0) old
 unfolding passed foundIn leftIn foundBy stepAt joinAt
 past-last s old w [] zero h l = let x = none-stands s old (recordAt s w) h in λ i. record { at = recordOf (foundBy (x .0 i)); left = x .1 i }
 past-last s old w (r ∷ rs) zero h l = absurd (omega arith)
 past-last s old w [] (suc k) h l = ap (λ (p : Place). handingIn s p old) (passed-over s (recordAt s w) (λ y. passed s k y) h)
 past-last s old w (r ∷ rs) (suc k) (u, e, h) l =
-    ap (λ (p : Place). handingIn s p old) (passed-by s r u (recordAt s w) (λ y. passed s k y) e) ∙ past-last s old u rs k h (omega arith)
+    ap (λ (p : Place). handingIn s p old) (passed-by s r u (recordAt s w) (λ y. passed s k y) e)
+    ∙ past-last s old u rs k h (omega arith)
 
 -- record k of what was begun
 abbrev handingFrom : List ℕ → ℕ → List ℕ → Begun → Handing
 handingFrom s k old b = record { at = recordOf (foundFrom s k (length old) b); left = leftFrom s k old b }
 
 -- record k of a file that was begun stands where a walk over the records before it leads
-found-behind : (s : List ℕ) (n k : ℕ) (old : List ℕ) (f : FileAt) → begunAt s n ≡ Begins f → (k ≡ 0 → ⊥) → ours .find s n k old ≡ handingIn s (passed s (k - 1) (f .walk)) old
+found-behind : (s : List ℕ) (n k : ℕ) (old : List ℕ) (f : FileAt) → begunAt s n ≡ Begins f → (k ≡ 0 → ⊥)
+    → ours .find s n k old ≡ handingIn s (passed s (k - 1) (f .walk)) old
 unfolding foundAt leftAt foundFrom leftFrom
 found-behind s n k old f e z =
     let at = if-false (eqb k 0) (NotFound (verdict 13 0 0)) (foundIn s (length old) (passed s (k - 1) (f .walk))) (ne-eqb k 0 z) in
     let left = if-false (eqb k 0) old (leftIn s old (passed s (k - 1) (f .walk))) (ne-eqb k 0 z) in
     ap (handingFrom s k old) e ∙ λ i. record { at = recordOf (at i); left = left i }
 
-found-zero : (s : List ℕ) (n : ℕ) (old : List ℕ) (f : FileAt) → begunAt s n ≡ Begins f → ours .find s n 0 old ≡ noRecord (verdict 13 0 0) old
+found-zero : (s : List ℕ) (n : ℕ) (old : List ℕ) (f : FileAt) → begunAt s n ≡ Begins f
+    → ours .find s n 0 old ≡ noRecord (verdict 13 0 0) old
 unfolding foundAt leftAt foundFrom leftFrom ifB
 found-zero s n old f e = ap (handingFrom s 0 old) e
 
@@ -205,24 +226,33 @@ past n k out = by-last (decLt k n)
 
 -- ---- the files of an accepted set
 
-pub file-given : (s : List ℕ) (ds : List File) (d : File) (es : List File) → Accepted s → content s .files ≡ ds ++ (d ∷ es) → FileGiven ours s (length ds + 1) d
+pub file-given : (s : List ℕ) (ds : List File) (d : File) (es : List File) → Accepted s → content s .files ≡ ds ++ (d ∷ es)
+    → FileGiven ours s (length ds + 1) d
 unfolding beginningOf
 file-given s ds d es a e =
     let (f, begun, is) = walk-records s ds d es (accepted-iff s .1 a) e in
     record {
       begun = ap (λ (b : Begun). beginningOf b .verdict) begun;
-      fields = is .fields ∙ ap (λ (b : Begun). fieldsFrom (part (beginningOf b .first) 80 s) (part (beginningOf b .second) 80 s)) (sym begun);
-      walked = subst (λ (b : Begun). Steps ours s (beginningOf b .walk) (d .records)) (sym begun) (steps-walk s (f .walk) (d .records) (is .walks));
+      fields =
+          is .fields ∙ ap (λ (b : Begun). fieldsFrom (part (beginningOf b .first) 80 s) (part (beginningOf b .second) 80 s))
+          (sym begun);
+      walked =
+          subst (λ (b : Begun). Steps ours s (beginningOf b .walk) (d .records)) (sym begun)
+          (steps-walk s (f .walk) (d .records) (is .walks));
       asked = asked f begun is;
-      counted = ap (λ (b : Begun). ours .facts s (beginningOf b .walk)) begun ∙ ap factsOf (walks-records s (f .walk) (d .records) (is .walks));
+      counted =
+          ap (λ (b : Begun). ours .facts s (beginningOf b .walk)) begun
+          ∙ ap factsOf (walks-records s (f .walk) (d .records) (is .walks));
       none = none f begun is;
     }
   where
     n : ℕ
     n = length ds + 1
 
-    asked : (f : FileAt) → begunAt s n ≡ Begins f → FileIs s f d → (rs : List (List ℕ)) (r : List ℕ) (ts : List (List ℕ)) → d .records ≡ rs ++ (r ∷ ts)
-        → (w : Walk) × (passed s (length rs) (ours .begin s n .walk) ≡ At w) × Handed s r (λ old. ours .find s n (length rs + 1) old) (recordAt s w)
+    asked : (f : FileAt) → begunAt s n ≡ Begins f → FileIs s f d → (rs : List (List ℕ)) (r : List ℕ) (ts : List (List ℕ))
+        → d .records ≡ rs ++ (r ∷ ts)
+        → (w : Walk) × (passed s (length rs) (ours .begin s n .walk) ≡ At w)
+        × Handed s r (λ old. ours .find s n (length rs + 1) old) (recordAt s w)
     asked f begun is rs r ts q =
         let (v, there, (u, stood, _)) = passed-walks s (f .walk) rs (r ∷ ts) (subst (Walks s (f .walk)) q (is .walks)) in
         let k : length rs + 1 - 1 ≡ length rs = omega arith in
@@ -245,7 +275,8 @@ file-given s ds d es a e =
 
 -- a file number that is 0 or past the last
 pub no-file : (s : List ℕ) (n : ℕ) → Accepted s → OutOf (length (content s .files)) n
-    → (ours .begin s n ≡ beginningOf (NotBegun (verdict 13 0 0))) × ((r : ℕ) (old : List ℕ) → ours .find s n r old ≡ noRecord (verdict 13 0 0) old)
+    → (ours .begin s n ≡ beginningOf (NotBegun (verdict 13 0 0)))
+    × ((r : ℕ) (old : List ℕ) → ours .find s n r old ≡ noRecord (verdict 13 0 0) old)
 unfolding foundAt leftAt foundFrom leftFrom
 no-file s n a out =
     let none : begunAt s n ≡ NotBegun (verdict 13 0 0) = walk-none s n (accepted-iff s .1 a) out in
@@ -255,7 +286,8 @@ no-file s n a out =
 
 first-begun-by : (s : List ℕ) → Accepted s → begunBy (firstFile s) ≡ begunAt s 1
 unfolding begunAt
-first-begun-by s a = ap begunBy (sym (numbered-first s)) ∙ sym (if-true _ _ _ (eq-eqb (imageVerdict s .number) 0 (accepted-iff s .1 a)))
+first-begun-by s a =
+    ap begunBy (sym (numbered-first s)) ∙ sym (if-true _ _ _ (eq-eqb (imageVerdict s .number) 0 (accepted-iff s .1 a)))
 
 pub first-begun : (s : List ℕ) → Accepted s → ours .first s ≡ ours .begin s 1
 first-begun s a = ap beginningOf (first-begun-by s a)
@@ -265,13 +297,17 @@ next-at : (s : List ℕ) (f : FileAt) → nextFile s (record { first = f .first;
 unfolding nextFile
 next-at s f = refl
 
-pub further-begun : (s : List ℕ) (n : ℕ) → ours .begin s n .verdict .number ≡ 0 → ours .further s (ours .begin s n .first) (ours .begin s n .second) ≡ ours .begin s (n + 1)
+pub further-begun : (s : List ℕ) (n : ℕ) → ours .begin s n .verdict .number ≡ 0
+    → ours .further s (ours .begin s n .first) (ours .begin s n .second) ≡ ours .begin s (n + 1)
 unfolding begunAt beginningOf
 further-begun s n =
-    if-case (λ (b : Begun). Goal b) (eqb (imageVerdict s .number) 0) _ _ (λ e. by-file e (fileNumbered s n) refl) (λ e z. absurd (eqb-false (imageVerdict s .number) 0 e z))
+    if-case (λ (b : Begun). Goal b) (eqb (imageVerdict s .number) 0) _ _ (λ e. by-file e (fileNumbered s n) refl)
+    (λ e z. absurd (eqb-false (imageVerdict s .number) 0 e z))
   where
     Goal : Begun → Type 0
-    Goal b = beginningOf b .verdict .number ≡ 0 → ours .further s (beginningOf b .first) (beginningOf b .second) ≡ ours .begin s (n + 1)
+    Goal b =
+        beginningOf b .verdict .number ≡ 0
+        → ours .further s (beginningOf b .first) (beginningOf b .second) ≡ ours .begin s (n + 1)
 
     next-begun : eqb (imageVerdict s .number) 0 ≡ true → begunAt s (n + 1) ≡ begunBy (fileNumbered s (n + 1))
     next-begun e = if-true (eqb (imageVerdict s .number) 0) _ _ e
@@ -307,6 +343,7 @@ module _ (s : List ℕ) (out : Accepted s → ⊥) where
   unfolding textOf
   none-listed page = ap (λ (l : List ℕ). fitted l page) (if-false _ _ _ (ne-eqb (imageVerdict s .number) 0 z))
 
-  pub none-rewritten : (quota : ℕ) (names o : List ℕ) → rewrite s quota names o ≡ record { verdict = imageVerdict s; len = 0; out = o }
+  pub none-rewritten : (quota : ℕ) (names o : List ℕ)
+      → rewrite s quota names o ≡ record { verdict = imageVerdict s; len = 0; out = o }
   unfolding rewrite refusedWith
   none-rewritten quota names o = if-false _ _ _ (ne-eqb (imageVerdict s .number) 0 z)

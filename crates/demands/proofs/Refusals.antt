@@ -1,4 +1,5 @@
--- Demand 1: what each operation answers where it does not do what it is asked for, and that then nothing is changed. Assumes nothing.
+-- Demand 1: what each operation answers where it does not do what it is asked for, and that then nothing is changed. Assumes
+-- nothing.
 use mathlib.Core.Path.{_≡_, refl, sym, ap, _∙_}
 use mathlib.Core.Bool.{Bool, true, false, _&&_}
 use mathlib.Core.List.{List, [], _∷_, _++_, flatten as endToEnd}
@@ -60,7 +61,8 @@ is-other own ns P n h k = record { answer = other n h; kept = λ _. k }
 
 -- what holds of a step that hands out a record, and of one that is refused with 13 or 10, holds of every step
 by-record : (Q : Step → List ℕ → Type 0) (old : List ℕ) (x : Record) → ((start n : ℕ) (v : Walk) → Q (InImage start n v) old)
-    → ((bs : List ℕ) (v : Walk) → Q (Joined (length bs) v) (putAt old 0 bs)) → ((k : ℕ) → isIn (13 ∷ 10 ∷ []) k ≡ true → Q (NoStep k) old)
+    → ((bs : List ℕ) (v : Walk) → Q (Joined (length bs) v) (putAt old 0 bs))
+    → ((k : ℕ) → isIn (13 ∷ 10 ∷ []) k ≡ true → Q (NoStep k) old)
     → Q (stepBy (length old) x) (joinBy old x)
 unfolding stepBy joinBy ifB isIn
 by-record Q old (whole start n v) there here off = there start n v
@@ -77,47 +79,59 @@ unfolding stepsAt stepsBy
 none-taken s zero w h = refl
 none-taken s (suc room) w h = by-step (stepAt s 0 w) h
   where
-    by-step : (x : Step) → length (stepsBy w x (λ v. stepsAt s room v) .places) ≡ 0 → stepsBy w x (λ v. stepsAt s room v) ≡ stays w
+    by-step : (x : Step) → length (stepsBy w x (λ v. stepsAt s room v) .places) ≡ 0
+        → stepsBy w x (λ v. stepsAt s room v) ≡ stays w
     by-step (InImage start n v) e = absurd (omega arith)
     by-step (Joined n v) e = refl
     by-step (NoStep k) e = refl
 
-pub steps-none : (s : List ℕ) (w : Walk) (places lengths : List ℕ) → ours .steps s w places lengths .answer .count ≡ 0 → ours .steps s w places lengths ≡ listing places lengths (stays w)
+pub steps-none : (s : List ℕ) (w : Walk) (places lengths : List ℕ) → ours .steps s w places lengths .answer .count ≡ 0
+    → ours .steps s w places lengths ≡ listing places lengths (stays w)
 unfolding rowOf
 steps-none s w places lengths h = ap (listing places lengths) (none-taken s (min (length places) (length lengths)) w h)
 
-pub step-refused : (s : List ℕ) (w : Walk) (old : List ℕ) → Answered noneGiven (13 ∷ 10 ∷ []) (verdict (ours .step s w old .answer .number) 0 0)
+pub step-refused : (s : List ℕ) (w : Walk) (old : List ℕ)
+    → Answered noneGiven (13 ∷ 10 ∷ []) (verdict (ours .step s w old .answer .number) 0 0)
     (ours .step s w old ≡ record { answer = steppedOf w (NoStep (ours .step s w old .answer .number)); left = old })
 unfolding stepAt joinAt steppedOf
-step-refused s w old = by-record Q old (recordAt s w) (λ start n v. is-done _ _ _) (λ bs v. is-done _ _ _) (λ k h. is-other _ _ _ k h refl)
+step-refused s w old =
+    by-record Q old (recordAt s w) (λ start n v. is-done _ _ _) (λ bs v. is-done _ _ _) (λ k h. is-other _ _ _ k h refl)
   where
     Q : Step → List ℕ → Type 0
     Q x l =
         Answered noneGiven (13 ∷ 10 ∷ []) (verdict (steppedOf w x .number) 0 0)
-        (_≡_ {A = Moving} (record { answer = steppedOf w x; left = l }) (record { answer = steppedOf w (NoStep (steppedOf w x .number)); left = old }))
+        (_≡_ {A = Moving} (record { answer = steppedOf w x; left = l })
+        (record { answer = steppedOf w (NoStep (steppedOf w x .number)); left = old }))
 
-pub begin-refused : (s : List ℕ) (n : ℕ) → Answered (imageVerdict s) (13 ∷ []) (ours .begin s n .verdict) (ours .begin s n ≡ beginningOf (NotBegun (ours .begin s n .verdict)))
+pub begin-refused : (s : List ℕ) (n : ℕ)
+    → Answered (imageVerdict s) (13 ∷ []) (ours .begin s n .verdict)
+    (ours .begin s n ≡ beginningOf (NotBegun (ours .begin s n .verdict)))
 unfolding begunAt beginningOf
 begin-refused s n = if-case Q (eqb (imageVerdict s .number) 0) _ _ (λ _. by-file (fileNumbered s n)) (λ e. is-given _ _ _ e refl)
   where
     Q : Begun → Type 0
-    Q b = Answered (imageVerdict s) (13 ∷ []) (beginningOf b .verdict) (beginningOf b ≡ beginningOf (NotBegun (beginningOf b .verdict)))
+    Q b =
+        Answered (imageVerdict s) (13 ∷ []) (beginningOf b .verdict)
+        (beginningOf b ≡ beginningOf (NotBegun (beginningOf b .verdict)))
 
     by-file : (x : NextFile) → Q (begunBy x)
     by-file (There f) = unfold begunBy in is-done _ _ _
     by-file NoFile = unfold begunBy isIn ifB in is-other _ _ _ 13 refl refl
 
 -- a search, whatever it found
-pub search-refused : (x : NextFile) → Answered noneGiven (13 ∷ []) (fileOf x .verdict) (fileOf x ≡ beginningOf (NotBegun (fileOf x .verdict)))
+pub search-refused : (x : NextFile)
+    → Answered noneGiven (13 ∷ []) (fileOf x .verdict) (fileOf x ≡ beginningOf (NotBegun (fileOf x .verdict)))
 unfolding begunBy beginningOf isIn ifB
 search-refused (There f) = is-done _ _ _
 search-refused NoFile = is-other _ _ _ 13 refl refl
 
 pub find-refused : (s : List ℕ) (n r : ℕ) (old : List ℕ)
-    → Answered (imageVerdict s) (13 ∷ 10 ∷ []) (ours .find s n r old .at .verdict) (ours .find s n r old ≡ noRecord (ours .find s n r old .at .verdict) old)
+    → Answered (imageVerdict s) (13 ∷ 10 ∷ []) (ours .find s n r old .at .verdict)
+    (ours .find s n r old ≡ noRecord (ours .find s n r old .at .verdict) old)
 unfolding foundAt leftAt begunAt
 find-refused s n r old =
-    if-case (λ (b : Begun). Q (record { at = recordOf (foundFrom s r (length old) b); left = leftFrom s r old b })) (eqb (imageVerdict s .number) 0) _ _
+    if-case (λ (b : Begun). Q (record { at = recordOf (foundFrom s r (length old) b); left = leftFrom s r old b }))
+    (eqb (imageVerdict s .number) 0) _ _
     (λ _. by-file (fileNumbered s n)) (λ e. unfold foundFrom leftFrom recordOf in is-given _ _ _ e refl)
   where
     Q : Handing → Type 0
@@ -127,15 +141,22 @@ find-refused s n r old =
     by-place Nowhere = unfold foundIn leftIn recordOf isIn ifB in is-other _ _ _ 13 refl refl
     by-place (Behind w) =
         unfold foundIn leftIn stepAt joinAt foundBy recordOf in
-        by-record (λ x l. Q (record { at = recordOf (foundBy x); left = l })) old (recordAt s w) (λ start k v. is-done _ _ _) (λ bs v. is-done _ _ _)
+        by-record (λ x l. Q (record { at = recordOf (foundBy x); left = l })) old (recordAt s w) (λ start k v. is-done _ _ _)
+        (λ bs v. is-done _ _ _)
         (λ k h. is-other _ _ _ k h refl)
 
     by-zero : (t : Bool) (p : Place)
-        → Q (record { at = recordOf (ifB t (foundFrom s 0 (length old) (NotBegun (verdict 13 0 0))) (foundIn s (length old) p)); left = ifB t old (leftIn s old p) })
+        → Q (record {
+          at = recordOf
+              (ifB t (foundFrom s 0 (length old) (NotBegun (verdict 13 0 0))) (foundIn s (length old) p));
+          left = ifB t old
+              (leftIn s old p);
+        })
     by-zero true p = unfold ifB foundFrom recordOf isIn in is-other _ _ _ 13 refl refl
     by-zero false p = unfold ifB in by-place p
 
-    by-file : (x : NextFile) → Q (record { at = recordOf (foundFrom s r (length old) (begunBy x)); left = leftFrom s r old (begunBy x) })
+    by-file : (x : NextFile)
+        → Q (record { at = recordOf (foundFrom s r (length old) (begunBy x)); left = leftFrom s r old (begunBy x) })
     by-file (There f) = unfold begunBy foundFrom leftFrom in by-zero (eqb r 0) (passed s (r - 1) (f .walk))
     by-file NoFile = unfold begunBy foundFrom leftFrom recordOf isIn ifB in is-other _ _ _ 13 refl refl
 
@@ -148,24 +169,36 @@ reads-step w (Joined n v) = refl
 reads-step w (NoStep k) = refl
 
 opened-begun : (s : List ℕ) (w : Walk) (n : ℕ)
-    → openedAt s w n ≡ record { verdict = ours .begin s n .verdict; walk = ifB (eqb (ours .begin s n .verdict .number) 0) (ours .begin s n .walk) w }
+    → openedAt s w n ≡ record {
+      verdict = ours .begin s n .verdict;
+      walk = ifB (eqb (ours .begin s n .verdict .number) 0)
+          (ours .begin s n .walk) w;
+    }
 unfolding openedAt begunAt openedBy beginningOf
 opened-begun s w n =
     if-case Q (eqb (imageVerdict s .number) 0) _ _ (λ _. by-file (fileNumbered s n))
     (λ e. ap (λ (v : Walk). record { verdict = imageVerdict s; walk = v }) (sym (if-false _ _ _ e)))
   where
     Q : Begun → Type 0
-    Q b = openedBy w b ≡ record { verdict = beginningOf b .verdict; walk = ifB (eqb (beginningOf b .verdict .number) 0) (beginningOf b .walk) w }
+    Q b =
+        openedBy w b ≡ record {
+          verdict = beginningOf b .verdict;
+          walk = ifB (eqb (beginningOf b .verdict .number) 0)
+              (beginningOf b .walk) w;
+        }
 
     by-file : (x : NextFile) → Q (begunBy x)
     by-file (There f) = unfold begunBy verdict ifB in refl
     by-file NoFile = unfold begunBy verdict ifB in refl
 
-counted-begun : (s : List ℕ) (n : ℕ) → countAt s n ≡ record { verdict = ours .begin s n .verdict; facts = ours .facts s (ours .begin s n .walk) }
+counted-begun : (s : List ℕ) (n : ℕ)
+    → countAt s n ≡ record { verdict = ours .begin s n .verdict; facts = ours .facts s (ours .begin s n .walk) }
 unfolding countAt openedAt openedBy beginningOf
 counted-begun s n = by-begun (begunAt s n)
   where
-    by-begun : (b : Begun) → _≡_ {A = FileFacts} (record { verdict = openedBy noWalk b .verdict; facts = factsOf (recordsAt s (openedBy noWalk b .walk)) })
+    by-begun : (b : Begun)
+        → _≡_ {A = FileFacts}
+        (record { verdict = openedBy noWalk b .verdict; facts = factsOf (recordsAt s (openedBy noWalk b .walk)) })
         (record { verdict = beginningOf b .verdict; facts = factsOf (recordsAt s (beginningOf b .walk)) })
     by-begun (At f) = refl
     by-begun (NotBegun v) = refl
@@ -180,7 +213,8 @@ by-reader =
     }
 
 -- of a file that was not begun
-pub no-facts : (s : List ℕ) (n : ℕ) → (ours .begin s n .verdict .number ≡ 0 → ⊥) → ours .facts s (ours .begin s n .walk) ≡ factsOf []
+pub no-facts : (s : List ℕ) (n : ℕ) → (ours .begin s n .verdict .number ≡ 0 → ⊥)
+    → ours .facts s (ours .begin s n .walk) ≡ factsOf []
 unfolding beginningOf
 no-facts s n z = ap (λ (b : Beginning). ours .facts s (b .walk)) (begin-refused s n .kept z) ∙ ap factsOf (nowhere-none s)
 
@@ -195,7 +229,8 @@ unfolding refused
 writes-refused ns out n h = is-other _ _ _ n h (refl, refl)
 
 writes-fitted : (ns s out : List ℕ) → isIn ns 10 ≡ true → Writes ns out (fitted s out)
-writes-fitted ns s out h = if-case (Writes ns out) (leb (length s) (length out)) _ _ (λ _. is-done _ _ _) (λ _. writes-refused ns out 10 h)
+writes-fitted ns s out h =
+    if-case (Writes ns out) (leb (length s) (length out)) _ _ (λ _. is-done _ _ _) (λ _. writes-refused ns out 10 h)
 
 pub list-refused : (s out : List ℕ) → Writes (10 ∷ []) out (fitted (textOf s) out)
 unfolding isIn ifB
@@ -230,14 +265,16 @@ unfolding sheetNumber
 sheet-in x =
     if-case Legality _ 9 _ (λ _. is-nine)
     (λ _. if-case Legality _ 9 _ (λ _. is-nine)
-    (λ _. if-case Legality (addsUp x) _ 11 (λ _. if-case Legality (legalSheet (sheetOf x)) 0 11 (λ _. is-legal) (λ _. is-eleven)) (λ _. is-eleven)))
+    (λ _. if-case Legality (addsUp x) _ 11 (λ _. if-case Legality (legalSheet (sheetOf x)) 0 11 (λ _. is-legal) (λ _. is-eleven))
+    (λ _. is-eleven)))
 
 reels-in : (quota : ℕ) (names : List ℕ) → Legality (reelsNumber quota names)
 unfolding reelsNumber
 reels-in quota names =
     if-case Legality _ 9 _ (λ _. is-nine)
     (λ _. if-case Legality _ _ 11
-    (λ _. if-case Legality (legalQuota quota) _ 11 (λ _. if-case Legality (legalNames (inParts 6 names)) 0 11 (λ _. is-legal) (λ _. is-eleven)) (λ _. is-eleven))
+    (λ _. if-case Legality (legalQuota quota) _ 11
+    (λ _. if-case Legality (legalNames (inParts 6 names)) 0 11 (λ _. is-legal) (λ _. is-eleven)) (λ _. is-eleven))
     (λ _. is-eleven))
 
 pub write-refused : (x : Flat) (out : List ℕ) → Writes numbers out (write x out)
@@ -258,7 +295,8 @@ gives-writes own ns out w r = record { answer = anyhow _ (r .answer); kept = r .
     anyhow v (given z) = absurd (z (unfold verdict in refl))
     anyhow v (other n h) = other n h
 
-pub rewrite-refused : (s : List ℕ) (quota : ℕ) (names out : List ℕ) → Gives (imageVerdict s) numbers out (rewrite s quota names out)
+pub rewrite-refused : (s : List ℕ) (quota : ℕ) (names out : List ℕ)
+    → Gives (imageVerdict s) numbers out (rewrite s quota names out)
 unfolding rewrite refusedWith writeSheet
 rewrite-refused s quota names out =
     if-case (Gives (imageVerdict s) numbers out) (eqb (imageVerdict s .number) 0) _ _
@@ -289,4 +327,6 @@ export-refused s out lengths =
     (λ e. is-given _ _ _ e refl)
   where
     Q : Converted → Type 0
-    Q c = Answered (framing s) (10 ∷ []) (c .verdict) (c ≡ record { verdict = c .verdict; len = 0; files = 0; out = out; lengths = lengths })
+    Q c =
+        Answered (framing s) (10 ∷ []) (c .verdict)
+        (c ≡ record { verdict = c .verdict; len = 0; files = 0; out = out; lengths = lengths })

@@ -43,12 +43,15 @@ module _ (tape lengths out : List ℕ) (z : fromSimh tape lengths out .verdict .
   )
     where
       framed : framing (imageIn (fromSimh tape lengths out)) .number ≡ 0
-      framed = ap (λ (s : List ℕ). framing s .number) (given .image) ∙ ap (λ (v : Verdict). v .number) (converted-framing tape lengths (given .sound) (given .small))
+      framed =
+          ap (λ (s : List ℕ). framing s .number) (given .image)
+          ∙ ap (λ (v : Verdict). v .number) (converted-framing tape lengths (given .sound) (given .small))
 
 -- ---- the files of an image
 
 -- equal files have equal items, and so one meaning
-same-items : (a b : List ℕ) (c d : Converted) → Out a c → Out b d → tapeIn c ≡ tapeIn d → lengthsIn c ≡ lengthsIn d → items a ≡ items b
+same-items : (a b : List ℕ) (c d : Converted) → Out a c → Out b d → tapeIn c ≡ tapeIn d → lengthsIn c ≡ lengthsIn d
+    → items a ≡ items b
 same-items a b c d x y t l =
     let first : endToEnd (reelsIn (tapeIn c) (lengthsIn c)) ≡ items a
     = ap endToEnd (ap₂ reelsIn (x .tape) (x .lengths) ∙ files-read a (x .framed)) ∙ reels-joined (items a) in
@@ -58,13 +61,18 @@ same-items a b c d x y t l =
 
 -- two images are converted into the same files where they are equal, and only where their meanings are
 module _ (a b o p ls ms : List ℕ) (za : toSimh a o ls .verdict .number ≡ 0) (zb : toSimh b p ms .verdict .number ≡ 0) where
-  pub equal-files : a ≡ b → (tapeIn (toSimh a o ls) ≡ tapeIn (toSimh b p ms)) × (lengthsIn (toSimh a o ls) ≡ lengthsIn (toSimh b p ms))
+  pub equal-files : a ≡ b
+      → (tapeIn (toSimh a o ls) ≡ tapeIn (toSimh b p ms)) × (lengthsIn (toSimh a o ls) ≡ lengthsIn (toSimh b p ms))
   equal-files e =
       let x : Out a (toSimh a o ls) = to-zero a o ls za in
-      let y : Out b (toSimh b p ms) = to-zero b p ms zb in
-      (x .tape ∙ ap (λ (s : List ℕ). endToEnd (filesOf s)) e ∙ sym (y .tape), x .lengths ∙ ap (λ (s : List ℕ). map length (filesOf s)) e ∙ sym (y .lengths))
+      let y : Out b (toSimh b p ms) = to-zero b p ms zb in (
+        x .tape ∙ ap (λ (s : List ℕ). endToEnd (filesOf s)) e ∙ sym (y .tape),
+        x .lengths
+            ∙ ap (λ (s : List ℕ). map length (filesOf s)) e ∙ sym (y .lengths),
+      )
 
-  pub files-mean : tapeIn (toSimh a o ls) ≡ tapeIn (toSimh b p ms) → lengthsIn (toSimh a o ls) ≡ lengthsIn (toSimh b p ms) → content a ≡ content b
+  pub files-mean : tapeIn (toSimh a o ls) ≡ tapeIn (toSimh b p ms) → lengthsIn (toSimh a o ls) ≡ lengthsIn (toSimh b p ms)
+      → content a ≡ content b
   unfolding content
   files-mean t l =
       ap (λ (xs : List Item). meaningOf (handedOut (runs start xs)))
@@ -96,7 +104,8 @@ reel-torn n (broken ∷ xs) = torn-at n
 reels-torn : (n : ℕ) (rs : List (List Item)) → Torn (reelsVerdict n rs)
 unfolding reelsVerdict
 reels-torn n [] = whole
-reels-torn n (r ∷ rs) = if-case Torn (eqb (reelVerdict n r .number) 0) _ _ (λ _. reels-torn (n + length r) rs) (λ _. reel-torn n r)
+reels-torn n (r ∷ rs) =
+    if-case Torn (eqb (reelVerdict n r .number) 0) _ _ (λ _. reels-torn (n + length r) rs) (λ _. reel-torn n r)
 
 pub tape-torn : (tape lengths : List ℕ) → Torn (tapeVerdict tape lengths)
 unfolding tapeVerdict isIn ifB

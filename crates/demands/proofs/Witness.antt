@@ -1,4 +1,5 @@
--- Document 01's whole set meets every condition that the demands ask of a set, a quota and names, and its order sheet every one that they ask of a sheet: so nothing
+-- Document 01's whole set meets every condition that the demands ask of a set, a quota and names, and its order sheet every one
+-- that they ask of a sheet: so nothing
 -- there is said of nothing. What is claimed is computed. Assumes nothing.
 use mathlib.Core.Path.{_≡_, refl, ap, _∙_}
 use mathlib.Core.List.{List, [], _∷_, _++_}
@@ -120,13 +121,15 @@ pub sheet-fits : (room : ℕ) → 448 ≤ room → Fits (sheetOf document01) roo
 sheet-fits room h = record { items = items set; laying = computed .9; limit = omega (arith, size); enough = omega (arith, size) }
 
 -- the same set with a miscounting trailer is refused, though its file can be found
-pub miscounted : (imageVerdict (ledger "000002") ≡ verdict 6 6 55) × (length (ledger "000002") ≡ 448) × (beginningOf (begunBy (fileNumbered (ledger "000002") 1)) .verdict ≡ verdict 0 0 0)
+pub miscounted : (imageVerdict (ledger "000002") ≡ verdict 6 6 55) × (length (ledger "000002") ≡ 448)
+    × (beginningOf (begunBy (fileNumbered (ledger "000002") 1)) .verdict ≡ verdict 0 0 0)
 unfolding ledger ifB part same allAre isDigit allDigits value digits fault verdict orElse isA classOf allA isCentury isYearDay isDate numberIn framedFrom items framing word ledBy shape itemOf behind decodeF decode three bytesOf encodeBy encode upToNine dues choose dueAfter isKind volumeOf setOf sectionOf sequenceOf countOf formatOf blockLengthOf recordLengthOf offsetOf leastRecord suits suitsBoth isLength isRecordLength isPositive isFormat hasRecordLength good firstBad goodAt agreeAt accessOf accessAt fieldFault labelFault required family numbered optional orNamed namedBy kindOf fieldsOf bytes onto cutOne cutF cut someUnits units outcome isTurn openAfter turnsFrom turned blockOutcome fixed measured variable segment unitOf lengthOf says valueOf lower crossed isAmong volumeFault newFilePlace laterPlace fileFault firstHeaderFault secondHeaderFault firstTrailerFault openFault fileEndFault secondTrailerFault outcomeIn blockFault contextFault itemFault onFirst joined fieldsFrom collect setFrom meaningOf handedOut content further next runs answerOf imageVerdict start isDue kindIn bytesIn namesAfter filesAfter goesOnAfter firstAfter secondAfter countAfter pendingAfter stateAfter segmentsOf segmentsIn eventsOf judged ordered step putAt fitted filled madeVolume madeFirst madeSecond formatFrom blockLengthFrom inPartsF inParts enters taken indicatorOf controlWord startOf unitIn fill after weights weight blocksF blocksLeft blocksOf put headers fileEnd volumeEnd rest layFiles layOn reelsOf lay sheetFrom wordOf isSound legalEntry recordLengthFrom legalRecord legalRecords legalFile legalFiles legalMeaning legalName freshNames legalNames legalQuota legalSheet filesFrom addsUp sheetOf sheetNumber reelsNumber sum cutBy placeBehind markFrom beginsFile ledTo goesOnBehind firstBehind partIn ontoParts partsBy partsFrom isWanted firstIn asFile fileIn fileFrom firstFile fromFile filesOn fileNumbered begunBy beginningOf
 miscounted = (refl, refl, refl)
 
 -- the record stands in one unit: a part of the image, whatever the joining buffer
 pub record-found : ((room : ℕ) → foundAt set 1 1 room ≡ InImage 260 10)
-    × (recordAt set (beginningOf (begunAt set 1) .walk) ≡ whole 260 10 (record { format = 70; size = 10; offset = 0; at = 270; left = 0 }))
+    × (recordAt set (beginningOf (begunAt set 1) .walk)
+    ≡ whole 260 10 (record { format = 70; size = 10; offset = 0; at = 270; left = 0 }))
 unfolding ledger ifB part same allAre isDigit allDigits value digits fault verdict orElse isA classOf allA isCentury isYearDay isDate numberIn framedFrom items framing word ledBy shape itemOf behind decodeF decode three bytesOf encodeBy encode upToNine dues choose dueAfter isKind volumeOf setOf sectionOf sequenceOf countOf formatOf blockLengthOf recordLengthOf offsetOf leastRecord suits suitsBoth isLength isRecordLength isPositive isFormat hasRecordLength good firstBad goodAt agreeAt accessOf accessAt fieldFault labelFault required family numbered optional orNamed namedBy kindOf fieldsOf bytes onto cutOne cutF cut someUnits units outcome isTurn openAfter turnsFrom turned blockOutcome fixed measured variable segment unitOf lengthOf says valueOf lower crossed isAmong volumeFault newFilePlace laterPlace fileFault firstHeaderFault secondHeaderFault firstTrailerFault openFault fileEndFault secondTrailerFault outcomeIn blockFault contextFault itemFault onFirst joined fieldsFrom collect setFrom meaningOf handedOut content further next runs answerOf imageVerdict start isDue kindIn bytesIn namesAfter filesAfter goesOnAfter firstAfter secondAfter countAfter pendingAfter stateAfter segmentsOf segmentsIn eventsOf judged ordered step putAt fitted filled madeVolume madeFirst madeSecond formatFrom blockLengthFrom inPartsF inParts enters taken indicatorOf controlWord startOf unitIn fill after weights weight blocksF blocksLeft blocksOf put headers fileEnd volumeEnd rest layFiles layOn reelsOf lay sheetFrom wordOf isSound legalEntry recordLengthFrom legalRecord legalRecords legalFile legalFiles legalMeaning legalName freshNames legalNames legalQuota legalSheet filesFrom addsUp sheetOf sheetNumber reelsNumber sum cutBy placeBehind markFrom beginsFile ledTo goesOnBehind firstBehind partIn ontoParts partsBy partsFrom isWanted firstIn asFile fileIn fileFrom firstFile fromFile filesOn fileNumbered begunBy beginningOf foundAt foundFrom foundIn passed stepAt stepBy recordAt isInside begunRecord unitFrom unitHere orNext unitTaken unitNext nextUnitIn blockNext opened leftOf dataFrom blockIn asBlock foundBy begunAt
 record-found = ((λ room. refl), refl)
 
@@ -150,7 +153,8 @@ message =
     ∷ [])
 
 -- it is joined in a buffer of three bytes, and refused with 10 in one of two
-pub record-joined : (imageVerdict message ≡ verdict 0 0 0) × (foundAt message 1 1 3 ≡ Joined 3) × (leftAt message 1 1 (0 ∷ 0 ∷ 0 ∷ 0 ∷ []) ≡ bytes "ABC" ++ (0 ∷ []))
+pub record-joined : (imageVerdict message ≡ verdict 0 0 0) × (foundAt message 1 1 3 ≡ Joined 3)
+    × (leftAt message 1 1 (0 ∷ 0 ∷ 0 ∷ 0 ∷ []) ≡ bytes "ABC" ++ (0 ∷ []))
     × (foundAt message 1 1 2 ≡ Refused (verdict 10 0 0))
 unfolding message ifB part same allAre isDigit allDigits value digits fault verdict orElse isA classOf allA isCentury isYearDay isDate numberIn framedFrom items framing word ledBy shape itemOf behind decodeF decode three bytesOf encodeBy encode upToNine dues choose dueAfter isKind volumeOf setOf sectionOf sequenceOf countOf formatOf blockLengthOf recordLengthOf offsetOf leastRecord suits suitsBoth isLength isRecordLength isPositive isFormat hasRecordLength good firstBad goodAt agreeAt accessOf accessAt fieldFault labelFault required family numbered optional orNamed namedBy kindOf fieldsOf bytes onto cutOne cutF cut someUnits units outcome isTurn openAfter turnsFrom turned blockOutcome fixed measured variable segment unitOf lengthOf says valueOf lower crossed isAmong volumeFault newFilePlace laterPlace fileFault firstHeaderFault secondHeaderFault firstTrailerFault openFault fileEndFault secondTrailerFault outcomeIn blockFault contextFault itemFault onFirst joined fieldsFrom collect setFrom meaningOf handedOut content further next runs answerOf imageVerdict start isDue kindIn bytesIn namesAfter filesAfter goesOnAfter firstAfter secondAfter countAfter pendingAfter stateAfter segmentsOf segmentsIn eventsOf judged ordered step putAt fitted filled madeVolume madeFirst madeSecond formatFrom blockLengthFrom inPartsF inParts enters taken indicatorOf controlWord startOf unitIn fill after weights weight blocksF blocksLeft blocksOf put headers fileEnd volumeEnd rest layFiles layOn reelsOf lay sheetFrom wordOf isSound legalEntry recordLengthFrom legalRecord legalRecords legalFile legalFiles legalMeaning legalName freshNames legalNames legalQuota legalSheet filesFrom addsUp sheetOf sheetNumber reelsNumber sum cutBy placeBehind markFrom beginsFile ledTo goesOnBehind firstBehind partIn ontoParts partsBy partsFrom isWanted firstIn asFile fileIn fileFrom firstFile fromFile filesOn fileNumbered begunBy beginningOf foundAt foundFrom foundIn passed stepAt stepBy recordAt isInside begunRecord unitFrom unitHere orNext unitTaken unitNext nextUnitIn blockNext opened leftOf dataFrom blockIn asBlock foundBy begunAt splitBy restAt restF restBy before leftAt leftFrom leftIn joinAt joinBy
 record-joined = (refl, refl, refl, refl)

@@ -48,8 +48,11 @@ use Rattle.demands.proofs.NewYear.{first, reel, ledger, newYear, oldYea
 use Rattle.demands.specs.Demands.{Demand1, Demand2, Demand3}
 use Rattle.demands.proofs.Witness.{set, names, document01, set-accepted, reels-legal, set-fits, sheet-legal, sheet-fits, size, set-long, three-legal, three-laid, miscounted, ledgerFile, set-files, record-found, lostReel, lost, noSheet, no-sheet-legal}
 
--- ours, with another checker, beginning of a file, search for the next file, search for a record, step, steps at once, writer and rewriter
-abbrev pub program : (List ℕ → Verdict) → (List ℕ → ℕ → Beginning) → (List ℕ → ℕ → ℕ → Beginning) → (List ℕ → ℕ → ℕ → List ℕ → Handing) → (List ℕ → Walk → List ℕ → Moving) → (List ℕ → Walk → List ℕ → List ℕ → Listing) → (Flat → List ℕ → Written) → (List ℕ → ℕ → List ℕ → List ℕ → Result) → Operations
+-- ours, with another checker, beginning of a file, search for the next file, search for a record, step, steps at once, writer and
+-- rewriter
+abbrev pub program : (List ℕ → Verdict) → (List ℕ → ℕ → Beginning) → (List ℕ → ℕ → ℕ → Beginning)
+    → (List ℕ → ℕ → ℕ → List ℕ → Handing) → (List ℕ → Walk → List ℕ → Moving) → (List ℕ → Walk → List ℕ → List ℕ → Listing)
+    → (Flat → List ℕ → Written) → (List ℕ → ℕ → List ℕ → List ℕ → Result) → Operations
 program check begin further find step steps write rewrite =
     record {
       check = check;
@@ -112,7 +115,9 @@ half-way d =
     omega arith
 
 -- a step that refuses, and has moved the walk
-pub moves-and-refuses : Demand1 (stepping (λ s w old. record { answer = record { number = 13; joined = 0; start = 0; len = 0; walk = noWalk }; left = old })) → ⊥
+pub moves-and-refuses : Demand1
+    (stepping (λ s w old. record { answer = record { number = 13; joined = 0; start = 0; len = 0; walk = noWalk }; left = old }))
+    → ⊥
 unfolding verdict steppedOf
 moves-and-refuses d =
     let kept = d .step [] (record { format = 0; size = 1; offset = 0; at = 0; left = 0 }) [] .kept (λ z. omega arith) in
@@ -120,7 +125,14 @@ moves-and-refuses d =
     omega arith
 
 -- steps that shorten the lists to what they found: here nothing
-pub shortens : Demand1 (rowing (λ s w places lengths. record { answer = rowOf (stepsIn s places lengths w); places = stepsIn s places lengths w .places; lengths = stepsIn s places lengths w .lengths })) → ⊥
+pub shortens : Demand1
+    (rowing (λ s w places lengths. record {
+      answer = rowOf
+          (stepsIn s places lengths w);
+      places = stepsIn s places lengths w .places;
+      lengths = stepsIn s places lengths w .lengths;
+    }))
+    → ⊥
 unfolding stepsAt stepsBy stepAt stepBy recordAt rowOf ifB
 shortens d =
     let kept = d .steps [] noWalk (1 ∷ []) (1 ∷ []) refl in
@@ -167,7 +179,8 @@ later-fault d =
     omega (arith, within, item, lost .1)
 
 -- a walk that stands still, and hands out the first record again and again
-pub stands-still : Demand2 (stepping (λ s w old. record { answer = still w (ours .step s w old .answer); left = ours .step s w old .left })) → ⊥
+pub stands-still : Demand2
+    (stepping (λ s w old. record { answer = still w (ours .step s w old .answer); left = ours .step s w old .left })) → ⊥
 unfolding still ledgerFile locatedIn recordOf verdict steppedOf ifB bytes
 stands-still d =
     let (v, handed, moved, last) = d .files set [] ledgerFile [] set-accepted set-files .walked in
@@ -182,7 +195,8 @@ stands-still d =
     p : Operations
     p = stepping (λ s w old. record { answer = still w (ours .step s w old .answer); left = ours .step s w old .left })
 
-    taken : Handed set (bytes "0123456789") (λ old. handing (p .step set (ours .begin set 1 .walk) old)) (recordAt set (ours .begin set 1 .walk))
+    taken : Handed set (bytes "0123456789") (λ old. handing (p .step set (ours .begin set 1 .walk) old))
+        (recordAt set (ours .begin set 1 .walk))
         → ours .step set (ours .begin set 1 .walk) (replicate 10 0) .answer .number ≡ 0
     taken (one start v stood is at) = ap (λ (h : Handing). h .at .verdict .number) (at (replicate 10 0))
     taken (several v stood at) = ap (λ (h : Handing). h .at .verdict .number) (at (replicate 10 0))
@@ -203,8 +217,10 @@ takes-none d =
     x : Stepped
     x = ours .step set w [] .answer
 
-    taken : Handed set (bytes "0123456789") (λ old. handing (ours .step set w old)) (recordAt set w) → (x .number ≡ 0) × (x .joined ≡ 0)
-    taken (one start v stood is at) = (ap (λ (h : Handing). h .at .verdict .number) (at []), ap (λ (h : Handing). h .at .joined) (at []))
+    taken : Handed set (bytes "0123456789") (λ old. handing (ours .step set w old)) (recordAt set w)
+        → (x .number ≡ 0) × (x .joined ≡ 0)
+    taken (one start v stood is at) =
+        (ap (λ (h : Handing). h .at .verdict .number) (at []), ap (λ (h : Handing). h .at .joined) (at []))
     taken (several v stood at) = let q = sym (record-found .1) ∙ stood in let z : _≡_ {A = ℕ} 0 1 = cc in absurd (omega arith)
 
 -- a search that stays at its file, and so finds it again and again: here there is one file
@@ -223,9 +239,12 @@ same-file-again d =
 -- a search that joins every record in the buffer, be it one unit, and so gives 10 for it
 unfoldable pub copied : List ℕ → List ℕ → Located → Handing
 copied s old x =
-    ifB (leb (x .len) (length old)) (record { at = recordOf (Joined (x .len)); left = putAt old 0 (part (x .start) (x .len) s) }) (noRecord (verdict 10 0 0) old)
+    ifB (leb (x .len) (length old)) (record { at = recordOf (Joined (x .len)); left = putAt old 0 (part (x .start) (x .len) s) })
+    (noRecord (verdict 10 0 0) old)
 
-pub joins-all : Demand2 (finding (λ s n r old. ifB (eqb (ours .find s n r old .at .verdict .number) 0) (copied s old (ours .find s n r old .at)) (ours .find s n r old))) → ⊥
+pub joins-all : Demand2
+    (finding (λ s n r old. ifB (eqb (ours .find s n r old .at .verdict .number) 0) (copied s old (ours .find s n r old .at))
+    (ours .find s n r old))) → ⊥
 unfolding ledgerFile recordOf verdict ifB bytes passed copied
 joins-all d =
     let (w, there, handed) = d .files set [] ledgerFile [] set-accepted set-files .asked [] (bytes "0123456789") [] refl in
@@ -233,10 +252,14 @@ joins-all d =
     by-way (subst (λ (u : Walk). Handed set (bytes "0123456789") f (recordAt set u)) (sym same) handed)
   where
     f : List ℕ → Handing
-    f old = ifB (eqb (ours .find set 1 1 old .at .verdict .number) 0) (copied set old (ours .find set 1 1 old .at)) (ours .find set 1 1 old)
+    f old =
+        ifB (eqb (ours .find set 1 1 old .at .verdict .number) 0) (copied set old (ours .find set 1 1 old .at))
+        (ours .find set 1 1 old)
 
     asks : f [] .at .verdict .number ≡ 10
-    asks = ap (λ (x : Found). ifB (eqb (recordOf x .verdict .number) 0) (copied set [] (recordOf x)) (record { at = recordOf x; left = leftAt set 1 1 [] }) .at .verdict .number) (record-found .0 0)
+    asks =
+        ap (λ (x : Found). ifB (eqb (recordOf x .verdict .number) 0) (copied set [] (recordOf x))
+        (record { at = recordOf x; left = leftAt set 1 1 [] }) .at .verdict .number) (record-found .0 0)
 
     by-way : Handed set (bytes "0123456789") f (recordAt set (ours .begin set 1 .walk)) → ⊥
     by-way (one start v stood is at) = let z : _≡_ {A = ℕ} 10 0 = sym asks ∙ ap (λ (h : Handing). h .at .verdict .number) (at []) in omega arith
@@ -265,7 +288,8 @@ idle d = let z : _≡_ {A = ℕ} 1 0 = d .reads-back document01 [] refl .accepte
 pub made-up-count : Demand2 (writing (λ x out. record { number = 0; len = 448; out = miscounting "000002" ++ drop 448 out })) → ⊥
 made-up-count d =
     let image : take 448 (miscounting "000002" ++ []) ≡ miscounting "000002" = take-at (miscounting "000002") [] 448 (miscounted .1) in
-    refused-not (miscounting "000002") 6 6 55 (λ z. omega arith) (miscounted .0) (subst Accepted image (d .reads-back document01 [] refl .accepted))
+    refused-not (miscounting "000002") 6 6 55 (λ z. omega arith) (miscounted .0)
+    (subst Accepted image (d .reads-back document01 [] refl .accepted))
 
 -- a writer that refuses all sheets
 pub refuses-sheets : Demand2 (writing (λ x out. refused 12 out)) → ⊥
@@ -293,7 +317,8 @@ ten-for-all d =
     omega arith
 
 -- a rewriter that fills the buffer behind its image
-rest-stays : (n : ℕ) (x : Sheet) (out : List ℕ) (w : Written) → WriteOutcome n x out w → w .number ≡ 0 → drop (w .len) (w .out) ≡ drop (w .len) out
+rest-stays : (n : ℕ) (x : Sheet) (out : List ℕ) (w : Written) → WriteOutcome n x out w → w .number ≡ 0
+    → drop (w .len) (w .out) ≡ drop (w .len) out
 unfolding refused
 rest-stays n x out w (fits z f) e = drop-append-seam (image f) (drop (length (image f)) out)
 rest-stays n x out w (illegal z) e = absurd (z e)
@@ -337,7 +362,9 @@ twelve d =
     omega arith
 
 -- or 10 where the buffer begins with 0
-pub ten-at-zero : Demand3 (rewriting (λ s quota names out. ifB (eqb (getD out 0 1) 0) (refusedWith (verdict 10 0 0) out) (rewrite s quota names out))) → ⊥
+pub ten-at-zero : Demand3
+    (rewriting (λ s quota names out. ifB (eqb (getD out 0 1) 0) (refusedWith (verdict 10 0 0) out) (rewrite s quota names out)))
+    → ⊥
 unfolding refusedWith verdict zeros ifB
 ten-at-zero d =
     let fits = set-fits (length zeros) (omega arith) in
@@ -364,7 +391,8 @@ wide : List ℕ
 wide = replicate 1334 0
 
 -- a rewriter that copies
-pub copies : Demand3 (rewriting (λ s quota names out. record { verdict = verdict 0 0 0; len = length s; out = s ++ drop (length s) out })) → ⊥
+pub copies : Demand3 (rewriting
+    (λ s quota names out. record { verdict = verdict 0 0 0; len = length s; out = s ++ drop (length s) out })) → ⊥
 unfolding imageIn three wide
 copies d =
     let a : List ℕ = imageOf newYear in
@@ -378,7 +406,8 @@ copies d =
     omega arith
 
 -- one fixed set
-pub fixed : Demand3 (rewriting (λ s quota names out. record { verdict = verdict 0 0 0; len = 448; out = set ++ drop 448 out })) → ⊥
+pub fixed : Demand3 (rewriting (λ s quota names out. record { verdict = verdict 0 0 0; len = 448; out = set ++ drop 448 out }))
+    → ⊥
 unfolding imageIn three wide imageOf
 fixed d =
     let a : List ℕ = imageOf newYear in

@@ -1,6 +1,9 @@
--- The operations that a caller can reach, each as a function of what it is given: an image, an order sheet, a lent buffer is a list of bytes. `ours` are the
--- definitions that the promises of the public functions cite: what these say of lists, the functions do with slices. The measures of `content` by which these are made, its search from
--- a file's data on and the line of a refusal are no operations of their own: each function's promise is its definition, on any bytes.
+-- The operations that a caller can reach, each as a function of what it is given: an image, an order sheet, a lent buffer is a
+-- list of bytes. `ours` are the
+-- definitions that the promises of the public functions cite: what these say of lists, the functions do with slices. The measures
+-- of `content` by which these are made, its search from
+-- a file's data on and the line of a refusal are no operations of their own: each function's promise is its definition, on any
+-- bytes.
 use mathlib.Core.List.{List}
 use Prim.Native.Nat.{ℕ}
 use lib.ListN.{length}
@@ -99,7 +102,8 @@ readingOf x =
 
 -- steps, put at the front of the two lists
 abbrev pub listing : List ℕ → List ℕ → StepRow → Listing
-listing places lengths x = record { answer = rowOf x; places = putAt places 0 (x .places); lengths = putAt lengths 0 (x .lengths) }
+listing places lengths x =
+    record { answer = rowOf x; places = putAt places 0 (x .places); lengths = putAt lengths 0 (x .lengths) }
 
 abbrev pub ours : Operations
 ours =

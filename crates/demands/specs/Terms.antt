@@ -60,13 +60,17 @@ OutOf n k = (i : ℕ) → i < n → i + 1 ≡ k → ⊥
 abbrev pub noRecord : Verdict → List ℕ → Handing
 noRecord v old = record { at = recordOf (NotFound v); left = old }
 
--- Record r of image s is handed out by f, whatever the joining buffer held. Where x, the record as it stands, is one unit, it is that part of the image, and the buffer, of whatever length,
--- stays; where it is several segments, they are joined in the front of the buffer, and refused with 10 exactly where that is shorter than the record.
+-- Record r of image s is handed out by f, whatever the joining buffer held. Where x, the record as it stands, is one unit, it is
+-- that part of the image, and the buffer, of whatever length,
+-- stays; where it is several segments, they are joined in the front of the buffer, and refused with 10 exactly where that is
+-- shorter than the record.
 pub data Handed (s r : List ℕ) (f : List ℕ → Handing) (x : Record) : Type 0 where
   one : (start : ℕ) (v : Walk) → x ≡ whole start (length r) v → part start (length r) s ≡ r
       → ((old : List ℕ) → f old ≡ record { at = recordOf (InImage start (length r)); left = old }) → Handed s r f x
   several : (v : Walk) → x ≡ split r v
-      → ((old : List ℕ) → f old ≡ ifB (leb (length r) (length old)) (record { at = recordOf (Joined (length r)); left = putAt old 0 r }) (noRecord (verdict 10 0 0) old))
+      → ((old : List ℕ) → f old
+      ≡ ifB (leb (length r) (length old)) (record { at = recordOf (Joined (length r)); left = putAt old 0 r })
+      (noRecord (verdict 10 0 0) old))
       → Handed s r f x
 
 -- what a step hands out
@@ -80,12 +84,14 @@ handing x = record { at = locatedIn (x .answer); left = x .left }
 abbrev pub Steps : Operations → List ℕ → Walk → List (List ℕ) → Type 0
 Steps p s w [] = (old : List ℕ) → p .step s w old ≡ record { answer = steppedOf w (NoStep 13); left = old }
 Steps p s w (r ∷ rs) =
-    (v : Walk) × Handed s r (λ old. handing (p .step s w old)) (recordAt s w) × ((old : List ℕ) → p .step s w old .answer .number ≡ 0 → p .step s w old .answer .walk ≡ v)
+    (v : Walk) × Handed s r (λ old. handing (p .step s w old)) (recordAt s w)
+    × ((old : List ℕ) → p .step s w old .answer .number ≡ 0 → p .step s w old .answer .walk ≡ v)
     × Steps p s v rs
 
 -- at most so many steps from w, one after the other and without a buffer to join in, as long as each gives a part of the image
 unfoldable pub rowOn : Walk → Stepped → (Walk → Row) → Row
-rowOn w x others = ifB (eqb (x .number) 0) (ifB (eqb (x .joined) 0) (ahead (x .start) (x .len) (others (x .walk))) (stays w)) (stays w)
+rowOn w x others =
+    ifB (eqb (x .number) 0) (ifB (eqb (x .joined) 0) (ahead (x .start) (x .len) (others (x .walk))) (stays w)) (stays w)
 
 unfoldable pub rowBy : Operations → List ℕ → ℕ → Walk → Row
 rowBy p s zero w = stays w
@@ -97,16 +103,22 @@ pub record FileGiven (p : Operations) (s : List ℕ) (n : ℕ) (d : File) : Type
   pub fields : d .fields ≡ fieldsFrom (part (p .begin s n .first) 80 s) (part (p .begin s n .second) 80 s)
   pub walked : Steps p s (p .begin s n .walk) (d .records)
   pub asked : (rs : List (List ℕ)) (r : List ℕ) (ts : List (List ℕ)) → d .records ≡ rs ++ (r ∷ ts)
-      → (w : Walk) × (passed s (length rs) (p .begin s n .walk) ≡ At w) × Handed s r (λ old. p .find s n (length rs + 1) old) (recordAt s w)
+      → (w : Walk) × (passed s (length rs) (p .begin s n .walk) ≡ At w)
+      × Handed s r (λ old. p .find s n (length rs + 1) old) (recordAt s w)
   pub counted : p .facts s (p .begin s n .walk) ≡ factsOf (d .records)
   pub none : (k : ℕ) → OutOf (length (d .records)) k → (old : List ℕ) → p .find s n k old ≡ noRecord (verdict 13 0 0) old
 
 -- a reader says what beginning a file and stepping say, and moves with them
 pub record ByReader (p : Operations) : Type 0 where
   pub opened : (s : List ℕ) (w : Walk) (n : ℕ)
-      → p .opened s w n ≡ record { verdict = p .begin s n .verdict; walk = ifB (eqb (p .begin s n .verdict .number) 0) (p .begin s n .walk) w }
+      → p .opened s w n ≡ record {
+        verdict = p .begin s n .verdict;
+        walk = ifB (eqb (p .begin s n .verdict .number) 0)
+            (p .begin s n .walk) w;
+      }
   pub next : (s : List ℕ) (w : Walk) (old : List ℕ) → p .next s w old ≡ p .step s w old
-  pub count : (s : List ℕ) (n : ℕ) → p .count s n ≡ record { verdict = p .begin s n .verdict; facts = p .facts s (p .begin s n .walk) }
+  pub count : (s : List ℕ) (n : ℕ)
+      → p .count s n ≡ record { verdict = p .begin s n .verdict; facts = p .facts s (p .begin s n .walk) }
 
 -- ---- room
 
@@ -123,14 +135,18 @@ image f = head ++ encode (f .items)
 
 -- ---- writing
 
--- What writing sheet x gives, where n is the number of its legality, 0, 9 or 11: the image fixed in document 01 at the front of the buffer, whose other bytes stay, exactly where it fits;
+-- What writing sheet x gives, where n is the number of its legality, 0, 9 or 11: the image fixed in document 01 at the front of
+-- the buffer, whose other bytes stay, exactly where it fits;
 -- else the first of 9 or 11, 12, 14 and 10 that applies.
 pub data WriteOutcome (n : ℕ) (x : Sheet) (out : List ℕ) : Written → Type 0 where
-  fits : n ≡ 0 → (f : Fits x (length out)) → WriteOutcome n x out (record { number = 0; len = length (image f); out = image f ++ drop (length (image f)) out })
+  fits : n ≡ 0 → (f : Fits x (length out))
+      → WriteOutcome n x out (record { number = 0; len = length (image f); out = image f ++ drop (length (image f)) out })
   illegal : (n ≡ 0 → ⊥) → WriteOutcome n x out (refused n out)
   fewReels : n ≡ 0 → lay x ≡ short → WriteOutcome n x out (refused 12 out)
-  tooLong : n ≡ 0 → (xs : List Item) → lay x ≡ laid xs → mostImage < length (head ++ encode xs) → WriteOutcome n x out (refused 14 out)
-  noRoom : n ≡ 0 → (xs : List Item) → lay x ≡ laid xs → length (head ++ encode xs) ≤ mostImage → length out < length (head ++ encode xs) → WriteOutcome n x out (refused 10 out)
+  tooLong : n ≡ 0 → (xs : List Item) → lay x ≡ laid xs → mostImage < length (head ++ encode xs)
+      → WriteOutcome n x out (refused 14 out)
+  noRoom : n ≡ 0 → (xs : List Item) → lay x ≡ laid xs → length (head ++ encode xs) ≤ mostImage
+      → length out < length (head ++ encode xs) → WriteOutcome n x out (refused 10 out)
 
 -- 15 at an item, or 2, which has no place
 pub record Torn (v : Verdict) : Type 0 where

@@ -1,4 +1,5 @@
--- Items in any container: the equations of reading them one behind the other, and the two round trips. A container says which item stands at the head of
+-- Items in any container: the equations of reading them one behind the other, and the two round trips. A container says which
+-- item stands at the head of
 -- some bytes, what is left behind it, and the bytes of an item. Assumes nothing.
 use mathlib.Core.Path.{_≡_, refl, sym, ap, _∙_}
 use mathlib.Core.Bool.{Bool, true, false, false≢true}
@@ -15,11 +16,14 @@ use Rattle.image.specs.Byte.{Bytes}
 
 pub all-first : (x : Item) (xs : List Item) → allItems (x ∷ xs) ≡ true → isItem x ≡ true
 unfolding allItems
-all-first x xs h = if-case (λ (b : Bool). b ≡ true → isItem x ≡ true) (isItem x) (allItems xs) false (λ e _. e) (λ _ q. absurd (false≢true q)) h
+all-first x xs h =
+    if-case (λ (b : Bool). b ≡ true → isItem x ≡ true) (isItem x) (allItems xs) false (λ e _. e) (λ _ q. absurd (false≢true q)) h
 
 pub all-rest : (x : Item) (xs : List Item) → allItems (x ∷ xs) ≡ true → allItems xs ≡ true
 unfolding allItems
-all-rest x xs h = if-case (λ (b : Bool). b ≡ true → allItems xs ≡ true) (isItem x) (allItems xs) false (λ _ q. q) (λ _ q. absurd (false≢true q)) h
+all-rest x xs h =
+    if-case (λ (b : Bool). b ≡ true → allItems xs ≡ true) (isItem x) (allItems xs) false (λ _ q. q)
+    (λ _ q. absurd (false≢true q)) h
 
 pub all-append : (xs ys : List Item) → allItems xs ≡ true → allItems ys ≡ true → allItems (xs ++ ys) ≡ true
 unfolding allItems
@@ -39,7 +43,8 @@ pub by-append : (bytes : Item → List ℕ) (xs ys : List Item) → encodeBy byt
 unfolding encodeBy
 by-append bytes [] ys = refl
 by-append bytes (x ∷ xs) ys =
-    ap (λ (l : List ℕ). bytes x ++ l) (by-append bytes xs ys) ∙ sym (append-assoc (bytes x) (encodeBy bytes xs) (encodeBy bytes ys))
+    ap (λ (l : List ℕ). bytes x ++ l) (by-append bytes xs ys)
+    ∙ sym (append-assoc (bytes x) (encodeBy bytes xs) (encodeBy bytes ys))
 
 -- every item has a byte, so less is left behind it
 abbrev pub Less : (List ℕ → List ℕ) → Type 0
@@ -68,9 +73,11 @@ module _ (item : List ℕ → Item) (rest : List ℕ → List ℕ) where
     unfolding decodeF
     read-more [] h = absurd (omega arith)
     read-more (x ∷ xs) h =
-        ap (λ (l : List Item). item (x ∷ xs) ∷ l) (enough (length xs) (length (rest (x ∷ xs))) (rest (x ∷ xs)) (less x xs) (omega arith))
+        ap (λ (l : List Item). item (x ∷ xs) ∷ l)
+        (enough (length xs) (length (rest (x ∷ xs))) (rest (x ∷ xs)) (less x xs) (omega arith))
 
-    by-fuel : (P : List ℕ → Type 0) → P [] → ((s : List ℕ) → 0 < length s → P (rest s) → P s) → (f : ℕ) (s : List ℕ) → length s ≤ f → P s
+    by-fuel : (P : List ℕ → Type 0) → P [] → ((s : List ℕ) → 0 < length s → P (rest s) → P s) → (f : ℕ) (s : List ℕ)
+        → length s ≤ f → P s
     by-fuel P none more zero [] h = none
     by-fuel P none more zero (x ∷ xs) h = absurd (omega arith)
     by-fuel P none more (suc f) [] h = none
@@ -78,13 +85,15 @@ module _ (item : List ℕ → Item) (rest : List ℕ → List ℕ) where
         let fewer : length (rest (x ∷ xs)) ≤ length xs = less x xs in
         more (x ∷ xs) (omega arith) (by-fuel P none more f (rest (x ∷ xs)) (omega arith))
 
-    -- induction over the items: what holds of no bytes, and of some bytes where it holds of what is left behind their first item, holds of any
+    -- induction over the items: what holds of no bytes, and of some bytes where it holds of what is left behind their first item,
+    -- holds of any
     pub by-read : (P : List ℕ → Type 0) → P [] → ((s : List ℕ) → 0 < length s → P (rest s) → P s) → (s : List ℕ) → P s
     by-read P none more s = by-fuel P none more (length s) s (omega arith)
 
     module _ (bytes : Item → List ℕ) where
       -- bytes, their items, the bytes again: it is enough that the item at the head has the bytes at whose head it stands
-      pub bytes-again : ((s : List ℕ) → Bytes s → isItem (item s) ≡ true → bytes (item s) ++ rest s ≡ s) → ((s : List ℕ) → Bytes s → Bytes (rest s))
+      pub bytes-again : ((s : List ℕ) → Bytes s → isItem (item s) ≡ true → bytes (item s) ++ rest s ≡ s)
+          → ((s : List ℕ) → Bytes s → Bytes (rest s))
           → (s : List ℕ) → Bytes s → allItems (decodeBy item rest s) ≡ true → encodeBy bytes (decodeBy item rest s) ≡ s
       unfolding encodeBy
       bytes-again again kept =

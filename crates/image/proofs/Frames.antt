@@ -1,4 +1,5 @@
--- Laws of the framing, as the loop over the items of an image wants them: what is left from a place answers as the whole. Assumes nothing.
+-- Laws of the framing, as the loop over the items of an image wants them: what is left from a place answers as the whole. Assumes
+-- nothing.
 use mathlib.Core.Path.{_≡_, refl, sym, ap, _∙_, subst}
 use mathlib.Core.Bool.{Bool, true, false, false≢true}
 use mathlib.Core.List.{List, _∷_}
@@ -28,7 +29,8 @@ unfolding part
 head-first s p b e h = h ∙ ap (λ (l : List ℕ). same l head) e
 
 -- behind sixteen reels no item may stand
-framed-full : (n r : ℕ) (closed : Bool) (x : Item) (xs : List Item) → r ≡ mostReels → framedFrom n r closed (x ∷ xs) ≡ verdict 2 n 0
+framed-full : (n r : ℕ) (closed : Bool) (x : Item) (xs : List Item) → r ≡ mostReels
+    → framedFrom n r closed (x ∷ xs) ≡ verdict 2 n 0
 unfolding framedFrom
 framed-full n r closed (block bs) xs e = if-true _ _ _ (eq-eqb r mostReels e)
 framed-full n r closed mark xs e = if-true _ _ _ (eq-eqb r mostReels e)
@@ -41,7 +43,8 @@ pub framed-block : (n r : ℕ) (closed : Bool) (bs : List ℕ) (xs : List Item) 
 unfolding framedFrom
 framed-block n r closed bs xs h = if-false _ _ _ (ne-eqb r mostReels h)
 
-pub framed-mark : (n r : ℕ) (closed : Bool) (xs : List Item) → (r ≡ mostReels → ⊥) → framedFrom n r closed (mark ∷ xs) ≡ framedFrom (n + 1) r false xs
+pub framed-mark : (n r : ℕ) (closed : Bool) (xs : List Item) → (r ≡ mostReels → ⊥)
+    → framedFrom n r closed (mark ∷ xs) ≡ framedFrom (n + 1) r false xs
 unfolding framedFrom
 framed-mark n r closed xs h = if-false _ _ _ (ne-eqb r mostReels h)
 
@@ -57,10 +60,12 @@ pub record FramedUpTo (s : List ℕ) (whole : Verdict) (at n r : ℕ) (closed : 
   pub reels : r ≤ mostReels
   pub left : framedFrom n r closed (decode (drop at s)) ≡ whole
 
-pub walked-none : (s : List ℕ) (at n r : ℕ) (closed : Bool) → n ≤ mostImage → r ≤ mostReels → FramedUpTo s (framedFrom n r closed (decode (drop at s))) at n r closed
+pub walked-none : (s : List ℕ) (at n r : ℕ) (closed : Bool) → n ≤ mostImage → r ≤ mostReels
+    → FramedUpTo s (framedFrom n r closed (decode (drop at s))) at n r closed
 walked-none s at n r closed c e = record { counted = omega arith; reels = e; left = refl }
 
-pub walked-block : (s : List ℕ) (whole : Verdict) (at n r m : ℕ) (closed : Bool) (p : Shape) → FramedUpTo s whole at n r closed → at < length s → (r ≡ mostReels → ⊥)
+pub walked-block : (s : List ℕ) (whole : Verdict) (at n r m : ℕ) (closed : Bool) (p : Shape) → FramedUpTo s whole at n r closed
+    → at < length s → (r ≡ mostReels → ⊥)
     → p ≡ shape (drop at s) → p ≡ Block m → FramedUpTo s whole (at + 3 + m) (n + 1) r false
 walked-block s whole at n r m closed p w h f e q =
     record {
@@ -69,7 +74,8 @@ walked-block s whole at n r m closed p w h f e q =
       left = sym (ap (framedFrom n r closed) (decode-block s at m p h e q) ∙ framed-block n r closed _ _ f) ∙ w .left;
     }
 
-pub walked-mark : (s : List ℕ) (whole : Verdict) (at n r : ℕ) (closed : Bool) (p : Shape) → FramedUpTo s whole at n r closed → at < length s → (r ≡ mostReels → ⊥)
+pub walked-mark : (s : List ℕ) (whole : Verdict) (at n r : ℕ) (closed : Bool) (p : Shape) → FramedUpTo s whole at n r closed
+    → at < length s → (r ≡ mostReels → ⊥)
     → p ≡ shape (drop at s) → p ≡ Mark → FramedUpTo s whole (at + 3) (n + 1) r false
 walked-mark s whole at n r closed p w h f e q =
     record {
@@ -78,7 +84,8 @@ walked-mark s whole at n r closed p w h f e q =
       left = sym (ap (framedFrom n r closed) (decode-mark s at p h e q) ∙ framed-mark n r closed _ f) ∙ w .left;
     }
 
-pub walked-reel-end : (s : List ℕ) (whole : Verdict) (at n r : ℕ) (closed : Bool) (p : Shape) → FramedUpTo s whole at n r closed → at < length s → (r ≡ mostReels → ⊥)
+pub walked-reel-end : (s : List ℕ) (whole : Verdict) (at n r : ℕ) (closed : Bool) (p : Shape) → FramedUpTo s whole at n r closed
+    → at < length s → (r ≡ mostReels → ⊥)
     → p ≡ shape (drop at s) → p ≡ ReelEnd → FramedUpTo s whole (at + 3) (n + 1) (r + 1) true
 walked-reel-end s whole at n r closed p w h f e q =
     record {
@@ -87,24 +94,32 @@ walked-reel-end s whole at n r closed p w h f e q =
       left = sym (ap (framedFrom n r closed) (decode-reel-end s at p h e q) ∙ framed-reel-end n r closed _ f) ∙ w .left;
     }
 
-pub walked-full : (s : List ℕ) (whole : Verdict) (at n r : ℕ) (closed : Bool) (v : Verdict) → v ≡ verdict 2 n 0 → FramedUpTo s whole at n r closed → at < length s → r ≡ mostReels → v ≡ whole
-walked-full s whole at n r closed v a w h e = a ∙ sym (ap (framedFrom n r closed) (decode-at s at h) ∙ framed-full n r closed _ _ e) ∙ w .left
+pub walked-full : (s : List ℕ) (whole : Verdict) (at n r : ℕ) (closed : Bool) (v : Verdict) → v ≡ verdict 2 n 0
+    → FramedUpTo s whole at n r closed → at < length s → r ≡ mostReels → v ≡ whole
+walked-full s whole at n r closed v a w h e =
+    a ∙ sym (ap (framedFrom n r closed) (decode-at s at h) ∙ framed-full n r closed _ _ e) ∙ w .left
 
-pub walked-broken : (s : List ℕ) (whole : Verdict) (at n r : ℕ) (closed : Bool) (p : Shape) (v : Verdict) → v ≡ verdict 2 n 0 → FramedUpTo s whole at n r closed → at < length s
+pub walked-broken : (s : List ℕ) (whole : Verdict) (at n r : ℕ) (closed : Bool) (p : Shape) (v : Verdict) → v ≡ verdict 2 n 0
+    → FramedUpTo s whole at n r closed → at < length s
     → p ≡ shape (drop at s) → p ≡ Broken → v ≡ whole
 unfolding framedFrom
 walked-broken s whole at n r closed p v a w h e q = a ∙ sym (ap (framedFrom n r closed) (decode-broken s at p h e q)) ∙ w .left
 
 -- behind the last item: right only behind the end of a reel
-pub walked-closed : (s : List ℕ) (whole : Verdict) (at n r : ℕ) (closed : Bool) (v : Verdict) → v ≡ verdict 0 0 0 → FramedUpTo s whole at n r closed → length s ≤ at → closed ≡ true → v ≡ whole
+pub walked-closed : (s : List ℕ) (whole : Verdict) (at n r : ℕ) (closed : Bool) (v : Verdict) → v ≡ verdict 0 0 0
+    → FramedUpTo s whole at n r closed → length s ≤ at → closed ≡ true → v ≡ whole
 unfolding framedFrom
-walked-closed s whole at n r closed v a w h e = a ∙ sym (ap (framedFrom n r closed) (decode-past s at h) ∙ if-true _ _ _ e) ∙ w .left
+walked-closed s whole at n r closed v a w h e =
+    a ∙ sym (ap (framedFrom n r closed) (decode-past s at h) ∙ if-true _ _ _ e) ∙ w .left
 
-pub walked-open : (s : List ℕ) (whole : Verdict) (at n r : ℕ) (closed : Bool) (v : Verdict) → v ≡ verdict 2 n 0 → FramedUpTo s whole at n r closed → length s ≤ at → closed ≡ false → v ≡ whole
+pub walked-open : (s : List ℕ) (whole : Verdict) (at n r : ℕ) (closed : Bool) (v : Verdict) → v ≡ verdict 2 n 0
+    → FramedUpTo s whole at n r closed → length s ≤ at → closed ≡ false → v ≡ whole
 unfolding framedFrom
-walked-open s whole at n r closed v a w h e = a ∙ sym (ap (framedFrom n r closed) (decode-past s at h) ∙ if-false _ _ _ e) ∙ w .left
+walked-open s whole at n r closed v a w h e =
+    a ∙ sym (ap (framedFrom n r closed) (decode-past s at h) ∙ if-false _ _ _ e) ∙ w .left
 
-pub ruleset walks = (walked-none, walked-block, walked-mark, walked-reel-end, walked-full, walked-broken, walked-closed, walked-open, block-fits, needs)
+pub ruleset walks =
+    (walked-none, walked-block, walked-mark, walked-reel-end, walked-full, walked-broken, walked-closed, walked-open, block-fits, needs)
 
 -- ---- what number 0 says: no item is broken
 
@@ -143,7 +158,8 @@ right-more mark xs good again n r closed = right-next mark xs n r (n + 1) r fals
 right-more reelEnd xs good again n r closed = right-next reelEnd xs n r (n + 1) (r + 1) true refl again
 right-more broken xs good again n r closed = λ q. absurd (omega arith)
 
-pub framed-items : (s : List ℕ) (n r : ℕ) (closed : Bool) → framedFrom n r closed (decode s) .number ≡ 0 → allItems (decode s) ≡ true
+pub framed-items : (s : List ℕ) (n r : ℕ) (closed : Bool) → framedFrom n r closed (decode s) .number ≡ 0
+    → allItems (decode s) ≡ true
 unfolding allItems
 framed-items =
     by-items (λ (s : List ℕ). Right (decode s)) (λ n r closed q. ap allItems decode-none)
@@ -160,7 +176,8 @@ unfolding framing verdict
 framing-zero s =
     if-case (λ (v : Verdict). v .number ≡ 0 → Framed s) (ltb mostImage (length s)) _ _ (λ _ q. absurd (omega arith))
     (λ l. if-case (λ (v : Verdict). v .number ≡ 0 → Framed s) (same (take 5 s) head) _ _
-    (λ e q. record { small = ltb-false mostImage (length s) l; headed = same-true (take 5 s) head e; right = q }) (λ _ q. absurd (omega arith)))
+    (λ e q. record { small = ltb-false mostImage (length s) l; headed = same-true (take 5 s) head e; right = q })
+    (λ _ q. absurd (omega arith)))
 
 pub framing-items : (s : List ℕ) → framing s .number ≡ 0 → allItems (items s) ≡ true
 unfolding items
@@ -171,7 +188,8 @@ pub framing-from : (s : List ℕ) (at n r : ℕ) (closed : Bool) → length s �
     → framingFrom s at n r closed ≡ framedFrom n r closed (decode (drop at s))
 unfolding framingFrom
 framing-from s at n r closed short counted reels =
-    if-false _ _ _ (le-ltb mostImage (length s) short) ∙ if-false _ _ _ (le-ltb mostImage n counted) ∙ if-false _ _ _ (le-ltb mostReels r reels)
+    if-false _ _ _ (le-ltb mostImage (length s) short) ∙ if-false _ _ _ (le-ltb mostImage n counted)
+    ∙ if-false _ _ _ (le-ltb mostReels r reels)
 
 -- ---- an image that opens as one
 
@@ -182,7 +200,8 @@ pub record OpensAs (s : List ℕ) : Type 0 where
 pub opens-right : (s : List ℕ) → opens s ≡ true → OpensAs s
 unfolding opens
 opens-right s =
-    if-case (λ (b : Bool). b ≡ true → OpensAs s) (ltb mostImage (length s)) false (same (take 5 s) head) (λ _ q. absurd (false≢true q))
+    if-case (λ (b : Bool). b ≡ true → OpensAs s) (ltb mostImage (length s)) false (same (take 5 s) head)
+    (λ _ q. absurd (false≢true q))
     (λ l q. record { small = ltb-false mostImage (length s) l; headed = same-true (take 5 s) head q })
 
 pub opens-small : (s : List ℕ) (b : Bool) → b ≡ opens s → b ≡ true → length s ≤ mostImage
@@ -192,11 +211,13 @@ opens-small s b e h = opens-right s (sym e ∙ h) .small
 pub framing-opened : (s : List ℕ) → opens s ≡ true → framing s ≡ framedFrom 0 0 false (items s)
 unfolding opens framing
 framing-opened s =
-    if-case (λ (b : Bool). b ≡ true → framing s ≡ framedFrom 0 0 false (items s)) (ltb mostImage (length s)) false (same (take 5 s) head) (λ _ q. absurd (false≢true q))
+    if-case (λ (b : Bool). b ≡ true → framing s ≡ framedFrom 0 0 false (items s)) (ltb mostImage (length s)) false
+    (same (take 5 s) head) (λ _ q. absurd (false≢true q))
     (λ l q. if-false _ _ _ l ∙ if-true _ _ _ q)
 
 pub framing-shut : (s : List ℕ) → opens s ≡ false → framing s .number ≡ 0 → ⊥
 unfolding opens
 framing-shut s e z =
     let f : Framed s = framing-zero s z in
-    false≢true (sym e ∙ if-false _ _ _ (le-ltb mostImage (length s) (f .small)) ∙ ap (λ (l : List ℕ). same l head) (f .headed) ∙ same-refl head)
+    false≢true (sym e ∙ if-false _ _ _ (le-ltb mostImage (length s) (f .small)) ∙ ap (λ (l : List ℕ). same l head) (f .headed)
+    ∙ same-refl head)

@@ -1,4 +1,5 @@
--- The equations of `decode`, by which everything above reads an image, and the item at a place as a walk over the places wants it.
+-- The equations of `decode`, by which everything above reads an image, and the item at a place as a walk over the places wants
+-- it.
 -- Assumes nothing.
 use mathlib.Core.Path.{_≡_, refl, sym, ap, ap₂, _∙_, subst}
 use mathlib.Core.Bool.{true, false}
@@ -63,7 +64,8 @@ word-at s at =
     omega (arith, first, getD-drop at s 1 0, getD-drop at s 2 0)
 
 -- where three bytes are left, the word and what is left behind it decide
-led-at : (s : List ℕ) (at w : ℕ) (p : Shape) → p ≡ ledBy w (length s - at - 3) → 3 ≤ length s - at → w ≡ word (drop at s) → p ≡ shape (drop at s)
+led-at : (s : List ℕ) (at w : ℕ) (p : Shape) → p ≡ ledBy w (length s - at - 3) → 3 ≤ length s - at → w ≡ word (drop at s)
+    → p ≡ shape (drop at s)
 unfolding shape
 led-at s at w p e h l =
     let room : length s - at - 3 ≡ length (drop 3 (drop at s)) = simp length-drop (omega arith) in
@@ -89,11 +91,13 @@ pub length-short : (s : List ℕ) (at : ℕ) → length s - at < 3 → 0 ≡ blo
 unfolding blockLength
 length-short s at h = ap blockLength (shape-short s at h)
 
-pub length-low : (s : List ℕ) (at b c n : ℕ) → n ≡ blockLength (ledBy (b * 256 + c) (length s - at - 3)) → 3 ≤ length s - at → getD s at 0 ≡ 0
+pub length-low : (s : List ℕ) (at b c n : ℕ) → n ≡ blockLength (ledBy (b * 256 + c) (length s - at - 3)) → 3 ≤ length s - at
+    → getD s at 0 ≡ 0
     → b ≡ getD s (at + 1) 0 → c ≡ getD s (at + 2) 0 → n ≡ blockLength (shape (drop at s))
 length-low s at b c n e h i j k = e ∙ ap blockLength (shape-low s at b c _ refl h i j k)
 
-pub length-led : (s : List ℕ) (at a b c n : ℕ) → n ≡ blockLength (ledBy (a * 65536 + (b * 256 + c)) (length s - at - 3)) → 3 ≤ length s - at
+pub length-led : (s : List ℕ) (at a b c n : ℕ) → n ≡ blockLength (ledBy (a * 65536 + (b * 256 + c)) (length s - at - 3))
+    → 3 ≤ length s - at
     → a ≡ getD s at 0 → b ≡ getD s (at + 1) 0 → c ≡ getD s (at + 2) 0 → n ≡ blockLength (shape (drop at s))
 length-led s at a b c n e h i j k = e ∙ ap blockLength (shape-led s at a b c _ refl h i j k)
 
@@ -102,18 +106,21 @@ pub length-whole : (w n : ℕ) → w ≤ 99999 → w ≤ n → w ≡ blockLength
 unfolding ledBy blockLength
 length-whole w n h k =
     if-case (λ (p : Shape). w ≡ blockLength p) (eqb w 0) _ _ (λ e. eqb-true w 0 e)
-    (λ _. sym (ap blockLength (if-false _ _ _ (ne-eqb w 16777215 (λ e. omega arith)) ∙ if-true _ _ _ (le-leb w 99999 h) ∙ if-true _ _ _ (le-leb w n k))))
+    (λ _. sym (ap blockLength
+    (if-false _ _ _ (ne-eqb w 16777215 (λ e. omega arith)) ∙ if-true _ _ _ (le-leb w 99999 h) ∙ if-true _ _ _ (le-leb w n k))))
 
 pub length-cut : (w n : ℕ) → w ≤ 99999 → n < w → 0 ≡ blockLength (ledBy w n)
 unfolding ledBy blockLength
 length-cut w n h k =
-    sym (ap blockLength (if-false _ _ _ (ne-eqb w 0 (λ e. omega arith)) ∙ if-false _ _ _ (ne-eqb w 16777215 (λ e. omega arith)) ∙ if-true _ _ _ (le-leb w 99999 h) ∙ if-false _ _ _ (lt-leb w n k)))
+    sym (ap blockLength (if-false _ _ _ (ne-eqb w 0 (λ e. omega arith)) ∙ if-false _ _ _ (ne-eqb w 16777215 (λ e. omega arith))
+    ∙ if-true _ _ _ (le-leb w 99999 h) ∙ if-false _ _ _ (lt-leb w n k)))
 
 pub length-over : (w n : ℕ) → 99999 < w → 0 ≡ blockLength (ledBy w n)
 unfolding ledBy blockLength
 length-over w n h =
     if-case (λ (p : Shape). 0 ≡ blockLength p) (eqb w 0) _ _ (λ _. refl)
-    (λ _. if-case (λ (p : Shape). 0 ≡ blockLength p) (eqb w 16777215) _ _ (λ _. refl) (λ _. sym (ap blockLength (if-false _ _ _ (lt-leb w 99999 h)))))
+    (λ _. if-case (λ (p : Shape). 0 ≡ blockLength p) (eqb w 16777215) _ _ (λ _. refl)
+    (λ _. sym (ap blockLength (if-false _ _ _ (lt-leb w 99999 h)))))
 
 -- where it is not 0, a block stands there
 pub block-there : (p : Shape) (n : ℕ) → n ≡ blockLength p → (n ≡ 0 → ⊥) → p ≡ Block n
@@ -146,7 +153,8 @@ Shaped s Mark = WordAt s 0
 Shaped s ReelEnd = WordAt s reelEndWord
 Shaped s Broken = Unit {0}
 
-whole-block : (s : List ℕ) → 3 ≤ length s → eqb (word s) 0 ≡ false → leb (word s) mostBytes ≡ true → leb (word s) (length (drop 3 s)) ≡ true
+whole-block : (s : List ℕ) → 3 ≤ length s → eqb (word s) 0 ≡ false → leb (word s) mostBytes ≡ true
+    → leb (word s) (length (drop 3 s)) ≡ true
     → BlockAt s (word s)
 whole-block s h z m l =
     let some : 1 ≤ word s = omega (arith, eqb-false (word s) 0 z) in
@@ -186,7 +194,8 @@ block-within s at n p e q =
     omega arith
 
 -- so the place behind it fits a `usize`
-pub block-fits : (s : List ℕ) (at n : ℕ) (p : Shape) → p ≡ shape (drop at s) → p ≡ Block n → length s < 2 ^ 64 → Fits w64 (at + 3 + n)
+pub block-fits : (s : List ℕ) (at n : ℕ) (p : Shape) → p ≡ shape (drop at s) → p ≡ Block n → length s < 2 ^ 64
+    → Fits w64 (at + 3 + n)
 block-fits s at n p e q h = let within : at + 3 + n ≤ length s = block-within s at n p e q in record { fits = omega arith }
 
 pub mark-within : (s : List ℕ) (at : ℕ) (p : Shape) → p ≡ shape (drop at s) → p ≡ Mark → at + 3 ≤ length s
@@ -244,9 +253,12 @@ decode-mark s at p h e q = decode-shape s at Mark h (sym e ∙ q) ∙ ap (λ (l 
 pub decode-reel-end : (s : List ℕ) (at : ℕ) (p : Shape) → at < length s → p ≡ shape (drop at s) → p ≡ ReelEnd
     → decode (drop at s) ≡ reelEnd ∷ decode (drop (at + 3) s)
 unfolding itemOf
-decode-reel-end s at p h e q = decode-shape s at ReelEnd h (sym e ∙ q) ∙ ap (λ (l : List ℕ). reelEnd ∷ decode l) (behind-reel-end s at)
+decode-reel-end s at p h e q =
+    decode-shape s at ReelEnd h (sym e ∙ q) ∙ ap (λ (l : List ℕ). reelEnd ∷ decode l) (behind-reel-end s at)
 
-pub decode-broken : (s : List ℕ) (at : ℕ) (p : Shape) → at < length s → p ≡ shape (drop at s) → p ≡ Broken → decode (drop at s) ≡ broken ∷ []
+pub decode-broken : (s : List ℕ) (at : ℕ) (p : Shape) → at < length s → p ≡ shape (drop at s) → p ≡ Broken
+    → decode (drop at s) ≡ broken ∷ []
 unfolding itemOf
 decode-broken s at p h e q =
-    decode-shape s at Broken h (sym e ∙ q) ∙ ap (λ (l : List ℕ). broken ∷ decode l) (behind-broken s at) ∙ ap (λ (l : List Item). broken ∷ l) decode-none
+    decode-shape s at Broken h (sym e ∙ q) ∙ ap (λ (l : List ℕ). broken ∷ decode l) (behind-broken s at)
+    ∙ ap (λ (l : List Item). broken ∷ l) decode-none

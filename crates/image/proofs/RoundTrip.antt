@@ -1,4 +1,5 @@
--- The two round trips of the container: items that can stand in an image are read again from their bytes, and an image in which no item is
+-- The two round trips of the container: items that can stand in an image are read again from their bytes, and an image in which
+-- no item is
 -- broken is written again from its items. Assumes nothing.
 use mathlib.Core.Path.{_≡_, refl, sym, ap, ap₂, _∙_, subst}
 use mathlib.Core.Bool.{true, false, false≢true}
@@ -55,7 +56,8 @@ word-three n rest = omega arith
 shape-three : (n : ℕ) (rest : List ℕ) → shape (three n ++ rest) ≡ ledBy n (length rest)
 unfolding shape three
 shape-three n rest =
-    if-true _ _ _ (le-leb 3 (suc (suc (suc (length rest)))) (omega arith)) ∙ ap (λ (w : ℕ). ledBy w (length rest)) (word-three n rest)
+    if-true _ _ _ (le-leb 3 (suc (suc (suc (length rest)))) (omega arith))
+    ∙ ap (λ (w : ℕ). ledBy w (length rest)) (word-three n rest)
 
 -- what is read from a length word and what follows it
 decode-three : (n : ℕ) (rest : List ℕ) (p : Shape) → ledBy n (length rest) ≡ p
@@ -70,7 +72,8 @@ unfolding ledBy
 led-block n k some most room =
     let not-mark : n ≡ 0 → ⊥ = omega arith in
     let not-end : n ≡ reelEndWord → ⊥ = omega arith in
-    if-false _ _ _ (ne-eqb n 0 not-mark) ∙ if-false _ _ _ (ne-eqb n reelEndWord not-end) ∙ if-true _ _ _ (le-leb n mostBytes most) ∙ if-true _ _ _ (le-leb n k room)
+    if-false _ _ _ (ne-eqb n 0 not-mark) ∙ if-false _ _ _ (ne-eqb n reelEndWord not-end) ∙ if-true _ _ _ (le-leb n mostBytes most)
+    ∙ if-true _ _ _ (le-leb n k room)
 
 led-mark : (k : ℕ) → ledBy 0 k ≡ Mark
 unfolding ledBy
@@ -128,7 +131,8 @@ three-word (x ∷ y ∷ z ∷ s) b h =
 -- a length word and what stands behind it are the whole
 word-again : (s : List ℕ) (w : ℕ) → Bytes s → WordAt s w → three w ++ drop 3 s ≡ s
 word-again s w b a =
-    ap (λ (k : ℕ). three k ++ drop 3 s) (sym (a .led)) ∙ ap (λ (l : List ℕ). l ++ drop 3 s) (three-word s b (a .whole)) ∙ take-append-drop 3 s
+    ap (λ (k : ℕ). three k ++ drop 3 s) (sym (a .led)) ∙ ap (λ (l : List ℕ). l ++ drop 3 s) (three-word s b (a .whole))
+    ∙ take-append-drop 3 s
 
 whole-again : (s : List ℕ) (n : ℕ) → Bytes s → BlockAt s n → three (length (part 3 n s)) ++ part 3 n s ++ drop (3 + n) s ≡ s
 unfolding part
@@ -141,7 +145,8 @@ whole-again s n b a =
     ∙ word-again s n b (record { led = a .led; whole = omega arith })
 
 -- an item that is not broken has the bytes at whose head it stands
-item-again : (p : Shape) (s : List ℕ) → shape s ≡ p → Bytes s → isItem (itemOf p s) ≡ true → bytesOf (itemOf p s) ++ behind p s ≡ s
+item-again : (p : Shape) (s : List ℕ) → shape s ≡ p → Bytes s → isItem (itemOf p s) ≡ true
+    → bytesOf (itemOf p s) ++ behind p s ≡ s
 unfolding itemOf behind bytesOf isItem
 item-again (Block n) s e b h = whole-again s n b (block-at s n e)
 item-again Mark s e b h = word-again s 0 b (mark-at s e)

@@ -1,5 +1,7 @@
--- The framing of an image. Document 01, "Numbers given back": over-long is 9; under five bytes, or mark or version wrong, is 1; then, for
--- the whole image, 2: the bad or cut item, the first item of a 17th reel, or the number after the last item where no reel or no end of
+-- The framing of an image. Document 01, "Numbers given back": over-long is 9; under five bytes, or mark or version wrong, is 1;
+-- then, for
+-- the whole image, 2: the bad or cut item, the first item of a 17th reel, or the number after the last item where no reel or no
+-- end of
 -- reel stands; the first of these counts.
 use mathlib.Core.Bool.{Bool, true, false}
 use mathlib.Core.List.{List, [], _∷_}
@@ -39,7 +41,8 @@ items s = decode (drop 5 s)
 unfoldable pub opens : List ℕ → Bool
 opens s = ifB (ltb mostImage (length s)) false (same (take 5 s) head)
 
--- the framing of what stands from a place on, behind n items and r ended reels; 9 where the image is too long, or n or r are more than an image has
+-- the framing of what stands from a place on, behind n items and r ended reels; 9 where the image is too long, or n or r are more
+-- than an image has
 unfoldable pub framingFrom : List ℕ → ℕ → ℕ → ℕ → Bool → Verdict
 framingFrom s at n r closed =
     ifB (ltb mostImage (length s)) (verdict 9 0 0)

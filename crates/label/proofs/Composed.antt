@@ -1,4 +1,5 @@
--- A call's answer at what its arguments are equal to: one law for each function that is called on the answers of calls. Assumes nothing.
+-- A call's answer at what its arguments are equal to: one law for each function that is called on the answers of calls. Assumes
+-- nothing.
 use mathlib.Core.Path.{_≡_}
 use mathlib.Core.Bool.{Bool, true, false}
 use mathlib.Core.List.{List}
@@ -38,7 +39,8 @@ pub record-wrong : (f : ℕ) (b r o : Number) → r ≡ Wrong → false ≡ isRe
 unfolding isRecordLength
 record-wrong f b r o g = cc
 
-pub record-is : (t : Bool) (f g : ℕ) (b r o p q s : Number) → t ≡ isRecordLength f b r o → f ≡ g → b ≡ p → r ≡ q → o ≡ s → t ≡ isRecordLength g p q s
+pub record-is : (t : Bool) (f g : ℕ) (b r o p q s : Number) → t ≡ isRecordLength f b r o → f ≡ g → b ≡ p → r ≡ q → o ≡ s
+    → t ≡ isRecordLength g p q s
 record-is t f g b r o p q s e h i j k = cc
 
 pub both-wrong : (f r : ℕ) (b o : Number) → b ≡ Wrong → true ≡ suitsBoth f b r o
@@ -56,11 +58,13 @@ both-values t f v r w b o e g h = cc
 pub good-is : (t : Bool) (rule : ℕ) (l f g : List ℕ) → t ≡ good rule l f → f ≡ g → t ≡ good rule l g
 good-is t rule l f g e h = cc
 
-pub named-is : (r a b : Kind) (x y u v : List ℕ) (d e : ℕ) → r ≡ orElse a b → a ≡ required x → x ≡ u → b ≡ optional y d → y ≡ v → d ≡ e
+pub named-is : (r a b : Kind) (x y u v : List ℕ) (d e : ℕ) → r ≡ orElse a b → a ≡ required x → x ≡ u → b ≡ optional y d → y ≡ v
+    → d ≡ e
     → r ≡ orElse (required u) (optional v e)
 named-is r a b x y u v d e h i j k l m = cc
 
-pub fault-is : (r f : Fault) (w v a b : ℕ) (l : List ℕ) → r ≡ fieldFault w f → w ≡ v → f ≡ accessAt a l → a ≡ b → r ≡ fieldFault v (accessAt b l)
+pub fault-is : (r f : Fault) (w v a b : ℕ) (l : List ℕ) → r ≡ fieldFault w f → w ≡ v → f ≡ accessAt a l → a ≡ b
+    → r ≡ fieldFault v (accessAt b l)
 fault-is r f w v a b l e g h i = cc
 
 pub field-is : (r l f g : List ℕ) (at w : ℕ) → r ≡ putAt l at (fitted w f) → f ≡ g → r ≡ putAt l at (fitted w g)

@@ -40,7 +40,8 @@ isRow (w ∷ r ∷ s ∷ rows) (suc k) = isRow rows k
 
 -- every row is as asked, of fields from place `at` on
 abbrev HoldFrom : (ℕ → ℕ → ℕ → ℕ → Bool) → ℕ → List ℕ → Type 0
-HoldFrom ok at rows = (k : ℕ) → isRow rows k ≡ true → ok (ruleOf rows k) (scopeOf rows k) (at + placeOf rows k) (widthOf rows k) ≡ true
+HoldFrom ok at rows =
+    (k : ℕ) → isRow rows k ≡ true → ok (ruleOf rows k) (scopeOf rows k) (at + placeOf rows k) (widthOf rows k) ≡ true
 
 -- every row is as asked
 abbrev pub Hold : (ℕ → ℕ → ℕ → ℕ → Bool) → List ℕ → Type 0
@@ -90,7 +91,9 @@ all-hold ok rows h k e =
 
 field-none : (w : ℕ) (f : Fault) → fieldFault w f .number ≡ 0 → w ≡ 0
 unfolding fieldFault fault
-field-none w f = if-case (λ (g : Fault). g .number ≡ 0 → w ≡ 0) (eqb w 0) f (fault 4 w) (λ e _. eqb-true w 0 e) (λ _ q. absurd (eqb-false 4 0 refl q))
+field-none w f =
+    if-case (λ (g : Fault). g .number ≡ 0 → w ≡ 0) (eqb w 0) f (fault 4 w) (λ e _. eqb-true w 0 e)
+    (λ _ q. absurd (eqb-false 4 0 refl q))
 
 -- a label without fault has no wrong field
 pub sound-fields : (k : Kind) (l : List ℕ) → labelFault k l .number ≡ 0 → wrongIn l (fieldsOf k) ≡ 0
@@ -98,6 +101,7 @@ unfolding labelFault
 sound-fields k l h = field-none (wrongIn l (fieldsOf k)) (accessAt (accessOf k) l) h
 
 -- one without a wrong field and with free access has no fault
-pub sound : (k : Kind) (l : List ℕ) → wrongIn l (fieldsOf k) ≡ 0 → accessAt (accessOf k) l ≡ fault 0 0 → labelFault k l ≡ fault 0 0
+pub sound : (k : Kind) (l : List ℕ) → wrongIn l (fieldsOf k) ≡ 0 → accessAt (accessOf k) l ≡ fault 0 0
+    → labelFault k l ≡ fault 0 0
 unfolding labelFault fieldFault
 sound k l h a = if-true _ _ _ (eq-eqb (wrongIn l (fieldsOf k)) 0 h) ∙ a

@@ -42,13 +42,15 @@ unfolding optional numbered
 optional-label i d =
     if-case Label (same i _) _ _ (λ _. refl)
     (λ _. if-case Label (same i _) _ _ (λ _. refl)
-    (λ _. if-case Label (leb 49 d) _ _ (λ _. if-case Label (leb d 57) _ _ (λ _. family-label i (d - 48)) (λ _. refl)) (λ _. refl)))
+    (λ _. if-case Label (leb 49 d) _ _ (λ _. if-case Label (leb d 57) _ _ (λ _. family-label i (d - 48)) (λ _. refl))
+    (λ _. refl)))
 
 kind-label : (l : List ℕ) → Label (kindOf l)
 unfolding kindOf named orElse
 kind-label l =
     if-case Label (eqb (length l) 80) _ _
-    (λ _. if-case Label _ (optional (part 0 3 l) (getD l 3 0)) (required (part 0 4 l)) (λ _. optional-label (part 0 3 l) (getD l 3 0)) (λ _. required-label (part 0 4 l)))
+    (λ _. if-case Label _ (optional (part 0 3 l) (getD l 3 0)) (required (part 0 4 l))
+    (λ _. optional-label (part 0 3 l) (getD l 3 0)) (λ _. required-label (part 0 4 l)))
     (λ _. refl)
 
 pub kind-other : (l : List ℕ) (f n : ℕ) → 7 < f → isKind (kindOf l) (kind f n) ≡ false

@@ -1,4 +1,5 @@
--- Labels laid of fields, against their table: that they have no wrong field, and none that is unequal. A field set anew asks for one fact on its row alone,
+-- Labels laid of fields, against their table: that they have no wrong field, and none that is unequal. A field set anew asks for
+-- one fact on its row alone,
 -- which a table gives by computing. Assumes nothing.
 use mathlib.Core.Path.{_≡_, refl, sym, ap, ap₂, _∙_, subst}
 use mathlib.Core.Bool.{Bool, true, false, false≢true, not, _&&_}
@@ -38,10 +39,12 @@ good-alike r l m f h =
     (ifB (eqb r 5) (isPositive (numberIn f))
     (ifB (eqb r 6) (isDate f)
     (ifB (eqb r 7) (same f (52 ∷ []))
-    (ifB (eqb r 8) (isFormat f) t)))))))) (if-false (eqb r 9) (hasRecordLength l) true h ∙ sym (if-false (eqb r 9) (hasRecordLength m) true h))
+    (ifB (eqb r 8) (isFormat f) t))))))))
+    (if-false (eqb r 9) (hasRecordLength l) true h ∙ sym (if-false (eqb r 9) (hasRecordLength m) true h))
 
 -- so a field that suits its rule in one label suits it in another, if that one's record length is good where it is asked for
-good-other : (r : ℕ) (l m f : List ℕ) → (eqb r recordLength ≡ true → hasRecordLength m ≡ true) → good r l f ≡ true → good r m f ≡ true
+good-other : (r : ℕ) (l m f : List ℕ) → (eqb r recordLength ≡ true → hasRecordLength m ≡ true) → good r l f ≡ true
+    → good r m f ≡ true
 unfolding good ifB
 good-other r l m f h g = by (eqb r recordLength) refl
   where
@@ -64,7 +67,8 @@ filled-fine rows fs s =
 -- and the other way round
 pub fine-filled : (rows : List ℕ) (fs : List (List ℕ)) → wrongIn (laid rows fs) rows ≡ 0 → Suit rows (laid rows fs) fs
 unfolding goodAt
-fine-filled rows fs h k e = ap (good (ruleOf rows k) (laid rows fs)) (sym (filled-back rows fs k)) ∙ all-hold (goodAt (laid rows fs)) rows h k e
+fine-filled rows fs h k e =
+    ap (good (ruleOf rows k) (laid rows fs)) (sym (filled-back rows fs k)) ∙ all-hold (goodAt (laid rows fs)) rows h k e
 
 -- the table with rule x in row j
 abbrev pub ruled : ℕ → ℕ → List ℕ → List ℕ
@@ -75,7 +79,8 @@ ruled zero x (w ∷ r ∷ s ∷ rows) = w ∷ x ∷ s ∷ rows
 ruled (suc j) x (w ∷ r ∷ s ∷ rows) = w ∷ r ∷ s ∷ ruled j x rows
 
 -- a field set anew, with a rule that it suits
-pub suit-with : (rows l : List ℕ) (fs : List (List ℕ)) (j x : ℕ) (f : List ℕ) → Suit rows l fs → good x l (fitted (widthOf rows j) f) ≡ true
+pub suit-with : (rows l : List ℕ) (fs : List (List ℕ)) (j x : ℕ) (f : List ℕ) → Suit rows l fs
+    → good x l (fitted (widthOf rows j) f) ≡ true
     → Suit (ruled j x rows) l (fielded j f fs)
 suit-with [] l fs j x f h g k e = absurd (false≢true e)
 suit-with (w ∷ []) l fs j x f h g k e = absurd (false≢true e)
@@ -101,7 +106,8 @@ plain-row (w ∷ r ∷ s ∷ rows) (suc k) e h =
     if-case (λ (t : Bool). t ≡ false) (eqb r recordLength) false (isPlain rows) (λ _. refl) (λ _. plain-row rows k e h)
 
 -- fields that suit the table in one label suit it in another
-pub suit-other : (rows l m : List ℕ) (fs : List (List ℕ)) → (isPlain rows ≡ false → hasRecordLength m ≡ true) → Suit rows l fs → Suit rows m fs
+pub suit-other : (rows l m : List ℕ) (fs : List (List ℕ)) → (isPlain rows ≡ false → hasRecordLength m ≡ true) → Suit rows l fs
+    → Suit rows m fs
 suit-other rows l m fs h s k e = good-other (ruleOf rows k) l m _ (λ r. h (plain-row rows k e r)) (s k e)
 
 -- ---- the fields of a label that was read
@@ -131,7 +137,8 @@ pub read-suit : (rows l : List ℕ) → widths rows ≤ length l → wrongIn l r
 unfolding goodAt
 read-suit rows l long h k e =
     let place : 0 + placeOf rows k ≡ placeOf rows k = omega arith in
-    ap (good (ruleOf rows k) l) (read-from rows l 0 (omega arith) k e ∙ ap (λ (n : ℕ). part n (widthOf rows k) l) place) ∙ all-hold (goodAt l) rows h k e
+    ap (good (ruleOf rows k) l) (read-from rows l 0 (omega arith) k e ∙ ap (λ (n : ℕ). part n (widthOf rows k) l) place)
+    ∙ all-hold (goodAt l) rows h k e
 
 -- ---- two labels
 
@@ -140,7 +147,8 @@ abbrev pub Alike : ℕ → List ℕ → List (List ℕ) → List (List ℕ) → 
 Alike n rows fs gs = (k : ℕ) → isRow rows k ≡ true → leb n (scopeOf rows k) ≡ true → fieldAt k fs ≡ fieldAt k gs
 
 -- a field of a smaller scope set anew
-pub alike-with : (n : ℕ) (rows : List ℕ) (fs gs : List (List ℕ)) (j : ℕ) (f : List ℕ) → leb n (scopeOf rows j) ≡ false → Alike n rows fs gs
+pub alike-with : (n : ℕ) (rows : List ℕ) (fs gs : List (List ℕ)) (j : ℕ) (f : List ℕ) → leb n (scopeOf rows j) ≡ false
+    → Alike n rows fs gs
     → Alike n rows fs (fielded j f gs)
 alike-with n [] fs gs j f d h k e t = absurd (false≢true e)
 alike-with n (w ∷ []) fs gs j f d h k e t = absurd (false≢true e)
@@ -148,10 +156,12 @@ alike-with n (w ∷ r ∷ []) fs gs j f d h k e t = absurd (false≢true e)
 alike-with n (w ∷ r ∷ s ∷ rows) fs gs zero f d h zero e t = absurd (false≢true (sym d ∙ t))
 alike-with n (w ∷ r ∷ s ∷ rows) fs gs zero f d h (suc k) e t = h (suc k) e t
 alike-with n (w ∷ r ∷ s ∷ rows) fs gs (suc j) f d h zero e t = h zero e t
-alike-with n (w ∷ r ∷ s ∷ rows) fs gs (suc j) f d h (suc k) e t = alike-with n rows (restOf fs) (restOf gs) j f d (λ i. h (suc i)) k e t
+alike-with n (w ∷ r ∷ s ∷ rows) fs gs (suc j) f d h (suc k) e t =
+    alike-with n rows (restOf fs) (restOf gs) j f d (λ i. h (suc i)) k e t
 
 -- labels whose fields are the same where they are compared have no unequal field
-pub filled-alike : (n : ℕ) (rows : List ℕ) (fs gs : List (List ℕ)) → Alike n rows fs gs → unequalIn n (laid rows fs) (laid rows gs) rows ≡ 0
+pub filled-alike : (n : ℕ) (rows : List ℕ) (fs gs : List (List ℕ)) → Alike n rows fs gs
+    → unequalIn n (laid rows fs) (laid rows gs) rows ≡ 0
 unfolding agreeAt
 filled-alike n rows fs gs h = none-bad (agreeAt n (laid rows fs) (laid rows gs)) rows row
   where

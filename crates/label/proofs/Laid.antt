@@ -50,7 +50,8 @@ fitted-all w f h = take-at f (replicate w 32) w h
 
 -- ---- laid end to end
 
-pub laid-row : (w r s : ℕ) (rows : List ℕ) (fs : List (List ℕ)) → laid (w ∷ r ∷ s ∷ rows) fs ≡ fitted w (headOf fs) ++ laid rows (restOf fs)
+pub laid-row : (w r s : ℕ) (rows : List ℕ) (fs : List (List ℕ))
+    → laid (w ∷ r ∷ s ∷ rows) fs ≡ fitted w (headOf fs) ++ laid rows (restOf fs)
 unfolding laid
 laid-row w r s rows [] = refl
 laid-row w r s rows (f ∷ fs) = refl
@@ -77,12 +78,15 @@ part-behind x y w at n h =
     ap (λ (k : ℕ). take n (drop k (x ++ y))) place ∙ ap (take n) (drop-append-add x y at)
 
 -- cutting a laid label at a row gives that field again
-pub filled-back : (rows : List ℕ) (fs : List (List ℕ)) (k : ℕ) → part (placeOf rows k) (widthOf rows k) (laid rows fs) ≡ fitted (widthOf rows k) (fieldAt k fs)
+pub filled-back : (rows : List ℕ) (fs : List (List ℕ)) (k : ℕ)
+    → part (placeOf rows k) (widthOf rows k) (laid rows fs) ≡ fitted (widthOf rows k) (fieldAt k fs)
 unfolding laid part fitted
 filled-back [] fs k = refl
 filled-back (w ∷ []) fs k = refl
 filled-back (w ∷ r ∷ []) fs k = refl
-filled-back (w ∷ r ∷ s ∷ rows) fs zero = ap (part 0 w) (laid-row w r s rows fs) ∙ part-front (fitted w (headOf fs)) (laid rows (restOf fs)) w (length-fitted w (headOf fs))
+filled-back (w ∷ r ∷ s ∷ rows) fs zero =
+    ap (part 0 w) (laid-row w r s rows fs)
+    ∙ part-front (fitted w (headOf fs)) (laid rows (restOf fs)) w (length-fitted w (headOf fs))
 filled-back (w ∷ r ∷ s ∷ rows) fs (suc k) =
     ap (part (w + placeOf rows k) (widthOf rows k)) (laid-row w r s rows fs)
     ∙ part-behind (fitted w (headOf fs)) (laid rows (restOf fs)) w (placeOf rows k) (widthOf rows k) (length-fitted w (headOf fs))
@@ -97,10 +101,12 @@ put-field (w ∷ []) fs k f = refl
 put-field (w ∷ r ∷ []) fs k f = refl
 put-field (w ∷ r ∷ s ∷ rows) fs zero f =
     ap (λ (l : List ℕ). putAt l 0 (fitted w f)) (laid-row w r s rows fs)
-    ∙ put-front (fitted w (headOf fs)) (laid rows (restOf fs)) (fitted w f) (length-fitted w f ∙ sym (length-fitted w (headOf fs)))
+    ∙ put-front (fitted w (headOf fs)) (laid rows (restOf fs)) (fitted w f)
+    (length-fitted w f ∙ sym (length-fitted w (headOf fs)))
 put-field (w ∷ r ∷ s ∷ rows) fs (suc k) f =
     ap (λ (l : List ℕ). putAt l (w + placeOf rows k) (fitted (widthOf rows k) f)) (laid-row w r s rows fs)
-    ∙ put-behind (fitted w (headOf fs)) (laid rows (restOf fs)) (fitted (widthOf rows k) f) w (placeOf rows k) (length-fitted w (headOf fs))
+    ∙ put-behind (fitted w (headOf fs)) (laid rows (restOf fs)) (fitted (widthOf rows k) f) w (placeOf rows k)
+    (length-fitted w (headOf fs))
     ∙ ap (λ (l : List ℕ). fitted w (headOf fs) ++ l) (put-field rows (restOf fs) k f)
 
 -- ---- the tables

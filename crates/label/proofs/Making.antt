@@ -13,7 +13,8 @@ use Rattle.label.proofs.Laid.{fielded, put-field}
 -- one more field set
 one-more : (rows : List ℕ) (fs : List (List ℕ)) (k : ℕ) (f l l′ : List ℕ) → l ≡ laid rows fs
     → l′ ≡ putAt l (placeOf rows k) (fitted (widthOf rows k) f) → l′ ≡ laid rows (fielded k f fs)
-one-more rows fs k f l l′ e h = h ∙ ap (λ (x : List ℕ). putAt x (placeOf rows k) (fitted (widthOf rows k) f)) e ∙ put-field rows fs k f
+one-more rows fs k f l l′ e h =
+    h ∙ ap (λ (x : List ℕ). putAt x (placeOf rows k) (fitted (widthOf rows k) f)) e ∙ put-field rows fs k f
 
 -- 80 SPACEs are a label without fields
 blank-vol1 : replicate 80 32 ≡ laid vol1 []
@@ -37,7 +38,8 @@ volume-made id a b c p q r =
     one-more vol1 _ 7 (52 ∷ []) b c y r
 
 pub second-made : (name file a b c d e : List ℕ)
-    → a ≡ putAt (replicate 80 32) 0 (fitted 4 name) → b ≡ putAt a 4 (fitted 1 (part 35 1 file)) → c ≡ putAt b 5 (fitted 5 (part 36 5 file))
+    → a ≡ putAt (replicate 80 32) 0 (fitted 4 name) → b ≡ putAt a 4 (fitted 1 (part 35 1 file))
+    → c ≡ putAt b 5 (fitted 5 (part 36 5 file))
     → d ≡ putAt c 10 (fitted 5 (part 41 5 file)) → e ≡ putAt d 50 (fitted 2 (digits 2 0)) → e ≡ madeSecond name file
 unfolding madeSecond
 second-made name file a b c d e p q r s t =

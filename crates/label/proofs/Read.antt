@@ -24,7 +24,8 @@ use Rattle.label.proofs.Laid.{fieldAt, length-laid, filled-back, fitted
 -- the fields of which HDR1, EOV1 and EOF1 are made
 abbrev pub firstFields : List ℕ → List ℕ → List ℕ → ℕ → ℕ → ℕ → List (List ℕ)
 firstFields name set e a q c =
-    name ∷ identifierIn e ∷ set ∷ digits 4 a ∷ digits 4 q ∷ generationIn e ∷ versionIn e ∷ createdIn e ∷ expiresIn e ∷ [] ∷ digits 6 c ∷ []
+    name ∷ identifierIn e ∷ set ∷ digits 4 a ∷ digits 4 q ∷ generationIn e ∷ versionIn e ∷ createdIn e ∷ expiresIn e ∷ [] ∷
+    digits 6 c ∷ []
 
 -- those of HDR2, EOV2 and EOF2
 abbrev pub secondFields : List ℕ → List ℕ → List (List ℕ)
@@ -35,7 +36,8 @@ module _ (name set e : List ℕ) (a q c : ℕ) where
   pub first-field : (k : ℕ) → length (fieldAt k (firstFields name set e a q c)) ≡ widthOf hdr1 k
       → field hdr1 k (madeFirst name set e a q c) ≡ fieldAt k (firstFields name set e a q c)
   unfolding madeFirst
-  first-field k h = filled-back hdr1 (firstFields name set e a q c) k ∙ fitted-all (widthOf hdr1 k) (fieldAt k (firstFields name set e a q c)) h
+  first-field k h =
+      filled-back hdr1 (firstFields name set e a q c) k ∙ fitted-all (widthOf hdr1 k) (fieldAt k (firstFields name set e a q c)) h
 
   pub length-first : length (madeFirst name set e a q c) ≡ 80
   unfolding madeFirst
@@ -47,7 +49,8 @@ module _ (name set e : List ℕ) (a q c : ℕ) where
   access-first = if-true _ _ _ (ap (λ (l : List ℕ). same l (32 ∷ [])) (filled-back hdr1 (firstFields name set e a q c) accessRow))
 
 module _ (name e : List ℕ) where
-  pub second-field : (k : ℕ) → length (fieldAt k (secondFields name e)) ≡ widthOf hdr2 k → field hdr2 k (madeSecond name e) ≡ fieldAt k (secondFields name e)
+  pub second-field : (k : ℕ) → length (fieldAt k (secondFields name e)) ≡ widthOf hdr2 k
+      → field hdr2 k (madeSecond name e) ≡ fieldAt k (secondFields name e)
   unfolding madeSecond
   second-field k h = filled-back hdr2 (secondFields name e) k ∙ fitted-all (widthOf hdr2 k) (fieldAt k (secondFields name e)) h
 
@@ -66,7 +69,8 @@ length-volume n = length-laid vol1 _ ∙ eighty-vol1
 -- ---- the kind
 
 -- a label of 80 bytes is of the kind that its name says
-kind-named : (l name : List ℕ) (k : Kind) → length l ≡ 80 → part 0 4 l ≡ name → required name ≡ k → isKind k other ≡ false → kindOf l ≡ k
+kind-named : (l name : List ℕ) (k : Kind) → length l ≡ 80 → part 0 4 l ≡ name → required name ≡ k → isKind k other ≡ false
+    → kindOf l ≡ k
 unfolding kindOf named orElse
 kind-named l name k h n r o =
     let p : required (part 0 4 l) ≡ k = ap required n ∙ r in
@@ -80,5 +84,6 @@ pub kind-first : (name set e : List ℕ) (a q c : ℕ) (k : Kind) → length nam
     → kindOf (madeFirst name set e a q c) ≡ k
 kind-first name set e a q c k h = kind-named _ name k (length-first name set e a q c) (first-field name set e a q c 0 h)
 
-pub kind-second : (name e : List ℕ) (k : Kind) → length name ≡ 4 → required name ≡ k → isKind k other ≡ false → kindOf (madeSecond name e) ≡ k
+pub kind-second : (name e : List ℕ) (k : Kind) → length name ≡ 4 → required name ≡ k → isKind k other ≡ false
+    → kindOf (madeSecond name e) ≡ k
 kind-second name e k h = kind-named _ name k (length-second name e) (second-field name e 0 h)

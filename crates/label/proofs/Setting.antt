@@ -58,7 +58,8 @@ setting-more old at w f made i x c h e =
           ∙ c .left;
     }
 
-pub setting-all : (old : List ℕ) (at w : ℕ) (f made : List ℕ) (i : ℕ) → Setting old at w f made i → w ≤ i → made ≡ putAt old at (fitted w f)
+pub setting-all : (old : List ℕ) (at w : ℕ) (f made : List ℕ) (i : ℕ) → Setting old at w f made i → w ≤ i
+    → made ≡ putAt old at (fitted w f)
 setting-all old at w f made i c h =
     let done : length (fitted w f) ≤ i = rw (length-fitted w f) h in
     sym (ap (putAt made (at + i)) (drop-of-length-le (fitted w f) done) ∙ put-none made (at + i)) ∙ c .left

@@ -67,8 +67,10 @@ pub record RowsPassed (ok : ℕ → ℕ → ℕ → ℕ → Bool) (table : List 
 pub walked-none : (ok : ℕ → ℕ → ℕ → ℕ → Bool) (table : List ℕ) → length table ≤ 64 → RowsPassed ok table 0 0
 walked-none ok table h = record { few = h; within = omega arith; small = omega arith; left = refl }
 
-pub walked-more : (ok : ℕ → ℕ → ℕ → ℕ → Bool) (table : List ℕ) (at i w : ℕ) (p : Bool) → RowsPassed ok table at i → i + 2 < length table
-    → w ≡ getD table i 0 → w < 256 → p ≡ ok (getD table (i + 1) 0) (getD table (i + 2) 0) at w → p ≡ true → RowsPassed ok table (at + w) (i + 3)
+pub walked-more : (ok : ℕ → ℕ → ℕ → ℕ → Bool) (table : List ℕ) (at i w : ℕ) (p : Bool) → RowsPassed ok table at i
+    → i + 2 < length table
+    → w ≡ getD table i 0 → w < 256 → p ≡ ok (getD table (i + 1) 0) (getD table (i + 2) 0) at w → p ≡ true
+    → RowsPassed ok table (at + w) (i + 3)
 walked-more ok table at i w p c h e s q t =
     let here : rowAt ok table at i ≡ true = ap (ok (getD table (i + 1) 0) (getD table (i + 2) 0) at) (sym e) ∙ sym q ∙ t in
     record {
@@ -78,12 +80,14 @@ walked-more ok table at i w p c h e s q t =
       left = ap (λ (k : ℕ). firstBad ok (at + k) (drop (i + 3) table)) e ∙ sym (bad-more ok table at i h here) ∙ c .left;
     }
 
-pub walked-bad : (ok : ℕ → ℕ → ℕ → ℕ → Bool) (table : List ℕ) (at i w : ℕ) (p : Bool) → RowsPassed ok table at i → i + 2 < length table
+pub walked-bad : (ok : ℕ → ℕ → ℕ → ℕ → Bool) (table : List ℕ) (at i w : ℕ) (p : Bool) → RowsPassed ok table at i
+    → i + 2 < length table
     → w ≡ getD table i 0 → p ≡ ok (getD table (i + 1) 0) (getD table (i + 2) 0) at w → p ≡ false → at + 1 ≡ firstBad ok 0 table
 walked-bad ok table at i w p c h e q t =
     sym (bad-here ok table at i h (ap (ok (getD table (i + 1) 0) (getD table (i + 2) 0) at) (sym e) ∙ sym q ∙ t)) ∙ c .left
 
-pub walked-all : (ok : ℕ → ℕ → ℕ → ℕ → Bool) (table : List ℕ) (at i : ℕ) → RowsPassed ok table at i → length table ≤ i + 2 → 0 ≡ firstBad ok 0 table
+pub walked-all : (ok : ℕ → ℕ → ℕ → ℕ → Bool) (table : List ℕ) (at i : ℕ) → RowsPassed ok table at i → length table ≤ i + 2
+    → 0 ≡ firstBad ok 0 table
 walked-all ok table at i c h = sym (bad-end ok table at i h) ∙ c .left
 
 -- that a place in the table is small enough for a sum
@@ -98,15 +102,18 @@ by-table ok n t rows e h = e ∙ ap (firstBad ok 0) h
 
 -- ---- what is asked of a field
 
-pub asked-suits : (t : Bool) (a : Ask) (l m : List ℕ) (r s at w : ℕ) → t ≡ goodAt l r s at w → a ≡ Suits → t ≡ asked a l m r s at w
+pub asked-suits : (t : Bool) (a : Ask) (l m : List ℕ) (r s at w : ℕ) → t ≡ goodAt l r s at w → a ≡ Suits
+    → t ≡ asked a l m r s at w
 unfolding asked
 asked-suits t a l m r s at w e h = e ∙ ap (λ (x : Ask). asked x l m r s at w) (sym h)
 
-pub asked-agrees : (t : Bool) (a : Ask) (n : ℕ) (l m : List ℕ) (r s at w : ℕ) → t ≡ agreeAt n l m r s at w → a ≡ Agrees n → t ≡ asked a l m r s at w
+pub asked-agrees : (t : Bool) (a : Ask) (n : ℕ) (l m : List ℕ) (r s at w : ℕ) → t ≡ agreeAt n l m r s at w → a ≡ Agrees n
+    → t ≡ asked a l m r s at w
 unfolding asked
 asked-agrees t a n l m r s at w e h = e ∙ ap (λ (x : Ask). asked x l m r s at w) (sym h)
 
-pub asked-ends : (t : Bool) (a : Ask) (b : ℕ) (l m : List ℕ) (r s at w : ℕ) → t ≡ endsBefore b r s at w → a ≡ Ends b → t ≡ asked a l m r s at w
+pub asked-ends : (t : Bool) (a : Ask) (b : ℕ) (l m : List ℕ) (r s at w : ℕ) → t ≡ endsBefore b r s at w → a ≡ Ends b
+    → t ≡ asked a l m r s at w
 unfolding asked
 asked-ends t a b l m r s at w e h = e ∙ ap (λ (x : Ask). asked x l m r s at w) (sym h)
 

@@ -1,6 +1,8 @@
--- The judgement of one label: its first wrong field (number 4), its accessibility (5), and the lowest unequal field of two labels (for 6); and the field in
+-- The judgement of one label: its first wrong field (number 4), its accessibility (5), and the lowest unequal field of two labels
+-- (for 6); and the field in
 -- which a byte stands, for whoever shows a label.
--- Document 01, "Numbers given back": within one item the smallest number; for 4, 5 and 6 the place is the first BP of the lowest wrong field.
+-- Document 01, "Numbers given back": within one item the smallest number; for 4, 5 and 6 the place is the first BP of the lowest
+-- wrong field.
 use mathlib.Core.Bool.{Bool, true}
 use mathlib.Core.List.{List, [], _∷_}
 use Prim.Native.Nat.{ℕ, _+_, _-_}
@@ -14,7 +16,8 @@ use Rattle.order.specs.declared.Kind.{Kind}
 use Rattle.label.specs.Field.{good}
 use Rattle.label.specs.Table.{fieldsOf, bpOf, vol1, hdr1, trailer1, volumeAccessRow, accessRow}
 
--- the BP of the first field, from place `at` on, that is not as its row of the table asks, or 0; `ok` sees the rule, the scope, the place and the width
+-- the BP of the first field, from place `at` on, that is not as its row of the table asks, or 0; `ok` sees the rule, the scope,
+-- the place and the width
 unfoldable pub firstBad : (ℕ → ℕ → ℕ → ℕ → Bool) → ℕ → List ℕ → ℕ
 firstBad ok at [] = 0
 firstBad ok at (w ∷ []) = 0

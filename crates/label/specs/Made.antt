@@ -32,7 +32,8 @@ rowOf rows k = take 3 (drop (3 * k) rows)
 -- the table of an entry
 abbrev pub entry : List ℕ
 entry =
-    rowOf hdr1 identifierRow ++ rowOf hdr1 generationRow ++ rowOf hdr1 versionRow ++ rowOf hdr1 createdRow ++ rowOf hdr1 expiresRow ++ rowOf hdr2 formatRow ++ rowOf hdr2 blockLengthRow ++ rowOf hdr2 recordLengthRow
+    rowOf hdr1 identifierRow ++ rowOf hdr1 generationRow ++ rowOf hdr1 versionRow ++ rowOf hdr1 createdRow ++
+    rowOf hdr1 expiresRow ++ rowOf hdr2 formatRow ++ rowOf hdr2 blockLengthRow ++ rowOf hdr2 recordLengthRow
 
 abbrev pub identifierIn : List ℕ → List ℕ
 identifierIn file = field entry 0 file
@@ -62,7 +63,8 @@ recordLengthIn file = field entry 7 file
 unfoldable pub madeFirst : List ℕ → List ℕ → List ℕ → ℕ → ℕ → ℕ → List ℕ
 madeFirst name set file section sequence count =
     laid hdr1
-    (name ∷ identifierIn file ∷ set ∷ digits 4 section ∷ digits 4 sequence ∷ generationIn file ∷ versionIn file ∷ createdIn file ∷ expiresIn file ∷ [] ∷ digits 6 count ∷ [])
+    (name ∷ identifierIn file ∷ set ∷ digits 4 section ∷ digits 4 sequence ∷ generationIn file ∷ versionIn file ∷ createdIn file ∷
+    expiresIn file ∷ [] ∷ digits 6 count ∷ [])
 
 -- HDR2, EOV2 or EOF2: the file's entry, offset length 00
 unfoldable pub madeSecond : List ℕ → List ℕ → List ℕ

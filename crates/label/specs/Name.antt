@@ -1,4 +1,5 @@
--- The kind of a label, by its name. Document 01: a label is a block of exactly 80 bytes (house); its kind is read from BP 1-4 (UHL and UTL:
+-- The kind of a label, by its name. Document 01: a label is a block of exactly 80 bytes (house); its kind is read from BP 1-4
+-- (UHL and UTL:
 -- 1-3). The label number is a digit 1 to 9.
 use mathlib.Core.Bool.{Bool, true, false, _&&_}
 use mathlib.Core.List.{List, [], _∷_}

@@ -1,4 +1,5 @@
--- The fields of each label, a row a field: its width, the rule of what it may hold, and the scope in which it is one. The widths add up to 80 and the byte
+-- The fields of each label, a row a field: its width, the rule of what it may hold, and the scope in which it is one. The widths
+-- add up to 80 and the byte
 -- position runs along.
 -- Document 01, "Label fields" (8.3.1, 8.5.1 and 8.5.2 of ECMA-13), and "Cross-checks" for the scopes.
 use mathlib.Core.List.{List, [], _∷_}
@@ -67,7 +68,8 @@ vol1 =
     28 ∷ spaces ∷ perLabel ∷  -- 52-79
     1 ∷ standard ∷ perLabel ∷ []  -- 80 `4`
 
--- HDR1, EOV1 and EOF1, with the rule of the block count; dates belong to a section (8.5.1.10 and 8.5.1.11 of ECMA-13; P2 of document 02)
+-- HDR1, EOV1 and EOF1, with the rule of the block count; dates belong to a section (8.5.1.10 and 8.5.1.11 of ECMA-13; P2 of
+-- document 02)
 abbrev pub first : ℕ → List ℕ
 first count =
     4 ∷ free ∷ perLabel ∷  -- 1-4 the kind

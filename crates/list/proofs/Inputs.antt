@@ -12,13 +12,17 @@ use Rattle.output.specs.declared.Written.{Written as Answer}
 use Rattle.listing.specs.Text.{refusalLine, textOf}
 use Rattle.list.specs.code.Input.{inputText}
 
-pub input-long : (s out : List ℕ) (a : Answer) (p : List ℕ) → 60000 < length s → Answers (fitted (refusalLine (record { number = 9; item = 0; byte = 0 })) out) a p
+pub input-long : (s out : List ℕ) (a : Answer) (p : List ℕ) → 60000 < length s
+    → Answers (fitted (refusalLine (record { number = 9; item = 0; byte = 0 })) out) a p
     → Answers (fitted (inputText s) out) a p
 unfolding inputText verdict
-input-long s out a p h c = subst (λ (text : List ℕ). Answers (fitted text out) a p) (sym (if-true _ _ _ (lt-ltb 60000 (length s) h))) c
+input-long s out a p h c =
+    subst (λ (text : List ℕ). Answers (fitted text out) a p) (sym (if-true _ _ _ (lt-ltb 60000 (length s) h))) c
 
-pub input-image : (s out : List ℕ) (a : Answer) (p : List ℕ) → length s ≤ 60000 → Answers (fitted (textOf s) out) a p → Answers (fitted (inputText s) out) a p
+pub input-image : (s out : List ℕ) (a : Answer) (p : List ℕ) → length s ≤ 60000 → Answers (fitted (textOf s) out) a p
+    → Answers (fitted (inputText s) out) a p
 unfolding inputText
-input-image s out a p h c = subst (λ (text : List ℕ). Answers (fitted text out) a p) (sym (if-false _ _ _ (le-ltb 60000 (length s) h))) c
+input-image s out a p h c =
+    subst (λ (text : List ℕ). Answers (fitted text out) a p) (sym (if-false _ _ _ (le-ltb 60000 (length s) h))) c
 
 pub ruleset inputs = (input-long, input-image, needs)

@@ -29,7 +29,8 @@ decimal-enough (suc f) (suc g) n h k =
     (λ e. sym (if-true _ _ _ e))
     (λ e.
     let more : 10 ≤ n = ltb-false n 10 e in
-    ap (λ (l : List ℕ). l ++ ((48 + n % 10) ∷ [])) (decimal-enough f g (n / 10) (omega arith) (omega arith)) ∙ sym (if-false _ _ _ e))
+    ap (λ (l : List ℕ). l ++ ((48 + n % 10) ∷ [])) (decimal-enough f g (n / 10) (omega arith) (omega arith))
+    ∙ sym (if-false _ _ _ e))
 
 pub decimal-one : (n : ℕ) → n < 10 → decimal n ≡ (48 + n) ∷ []
 unfolding decimal decimalF
@@ -38,7 +39,8 @@ decimal-one n h = if-true _ _ _ (lt-ltb n 10 h)
 pub decimal-more : (n : ℕ) → 10 ≤ n → decimal n ≡ decimal (n / 10) ++ ((48 + n % 10) ∷ [])
 unfolding decimal decimalF
 decimal-more n h =
-    if-false _ _ _ (le-ltb n 10 h) ∙ ap (λ (l : List ℕ). l ++ ((48 + n % 10) ∷ [])) (decimal-enough n (suc (n / 10)) (n / 10) (omega arith) (omega arith))
+    if-false _ _ _ (le-ltb n 10 h)
+    ∙ ap (λ (l : List ℕ). l ++ ((48 + n % 10) ∷ [])) (decimal-enough n (suc (n / 10)) (n / 10) (omega arith) (omega arith))
 
 -- a number below a power of ten has no more digits
 tens-below : (k n : ℕ) → n < 10 ^ (suc k) → n / 10 < 10 ^ k
@@ -66,20 +68,28 @@ pub record DigitsSpelled (n : ℕ) (d : List ℕ) (i rest : ℕ) : Type 0 where
 drop-set : (d : List ℕ) (i x : ℕ) → i < length d → drop i (set d i x) ≡ x ∷ drop (i + 1) d
 drop-set d i x h =
     drop-cons (set d i x) i 0 (subst (λ (k : ℕ). i < k) (sym (length-set d i x)) h)
-    ∙ ap₂ _∷_ (getD-set-same d i x 0 h) (ap (λ (k : ℕ). drop k (set d i x)) (sym (add-one i)) ∙ drop-set-lt (i + 1) d i x (omega arith))
+    ∙ ap₂ _∷_ (getD-set-same d i x 0 h)
+    (ap (λ (k : ℕ). drop k (set d i x)) (sym (add-one i)) ∙ drop-set-lt (i + 1) d i x (omega arith))
 
 pub spelled-none : (n : ℕ) (d : List ℕ) → Fits w64 n → length d ≡ 20 → DigitsSpelled n d 19 n
 spelled-none n d h l =
     let small : n < 10 ^ (19 + 1) = omega (arith, h) in
     let none : length d ≤ 19 + 1 = omega arith in
-    record { size = l; within = omega arith; small = small; left = ap (λ (k : List ℕ). decimal n ++ k) (drop-of-length-le d none) ∙ append-nil (decimal n) }
+    record {
+      size = l;
+      within = omega arith;
+      small = small;
+      left = ap (λ (k : List ℕ). decimal n ++ k) (drop-of-length-le d none)
+          ∙ append-nil (decimal n);
+    }
 
 -- a number of two digits or more has a place before its last
 pub place-before : (n : ℕ) (d : List ℕ) (i rest : ℕ) → DigitsSpelled n d i rest → 10 ≤ rest → 1 ≤ i
 place-before n d zero rest c h = absurd (omega (arith, c .small))
 place-before n d (suc i) rest c h = omega arith
 
-pub spelled-more : (n : ℕ) (d : List ℕ) (i rest : ℕ) → DigitsSpelled n d i rest → 10 ≤ rest → DigitsSpelled n (set d i (48 + rest % 10)) (i - 1) (rest / 10)
+pub spelled-more : (n : ℕ) (d : List ℕ) (i rest : ℕ) → DigitsSpelled n d i rest → 10 ≤ rest
+    → DigitsSpelled n (set d i (48 + rest % 10)) (i - 1) (rest / 10)
 spelled-more n d i rest c h =
     let x : ℕ = 48 + rest % 10 in
     let before : 1 ≤ i = place-before n d i rest c h in
@@ -99,7 +109,8 @@ spelled-more n d i rest c h =
           ∙ c .left;
     }
 
-pub spelled-all : (n : ℕ) (d : List ℕ) (i rest : ℕ) → DigitsSpelled n d i rest → rest < 10 → take (20 - i) (drop i (set d i (48 + rest))) ≡ decimal n
+pub spelled-all : (n : ℕ) (d : List ℕ) (i rest : ℕ) → DigitsSpelled n d i rest → rest < 10
+    → take (20 - i) (drop i (set d i (48 + rest))) ≡ decimal n
 spelled-all n d i rest c h =
     take-all (20 - i) (drop i (set d i (48 + rest))) (simp (length-drop, length-set) (omega (arith, c .size)))
     ∙ drop-set d i (48 + rest) (omega (arith, c .size, c .within))

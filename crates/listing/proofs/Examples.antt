@@ -1,4 +1,5 @@
--- Document 01's whole set, byte for byte, and its listing; and the same set with another block count in EOF1. Both texts are computed.
+-- Document 01's whole set, byte for byte, and its listing; and the same set with another block count in EOF1. Both texts are
+-- computed.
 use mathlib.Core.Path.{_≡_, refl}
 use mathlib.Core.List.{List, [], _∷_, _++_}
 use Prim.Native.Nat.{ℕ}
@@ -49,7 +50,8 @@ ledger count =
     ∷ reelEnd
     ∷ [])
 
-pub ledger-texts : (textOf (ledger "000001") ≡ bytes "SEQ FILE              FMT RECORDS BYTES" ++ newline ++ bytes "0001 LEDGER            F 1 10" ++ newline)
+pub ledger-texts : (textOf (ledger "000001") ≡ bytes "SEQ FILE              FMT RECORDS BYTES" ++ newline ++
+    bytes "0001 LEDGER            F 1 10" ++ newline)
     × (textOf (ledger "000002") ≡ bytes "refused 6 at item 6 byte 55" ++ newline)
 unfolding ledger ifB part same allAre isDigit allDigits value digits fault verdict orElse isA classOf allA isCentury isYearDay isDate numberIn framedFrom items framing word ledBy shape itemOf behind decodeF decode three bytesOf encodeBy encode upToNine dues choose dueAfter isKind volumeOf setOf sectionOf sequenceOf countOf formatOf blockLengthOf recordLengthOf offsetOf leastRecord suits suitsBoth isLength isRecordLength isPositive isFormat hasRecordLength good firstBad goodAt agreeAt accessOf accessAt fieldFault labelFault required family numbered optional orNamed namedBy kindOf fieldsOf bytes onto cutOne cutF cut someUnits units outcome isTurn openAfter turnsFrom turned blockOutcome fixed measured variable segment unitOf lengthOf says valueOf lower crossed isAmong volumeFault newFilePlace laterPlace fileFault firstHeaderFault secondHeaderFault firstTrailerFault openFault fileEndFault secondTrailerFault outcomeIn blockFault contextFault itemFault onFirst joined fieldsFrom collect setFrom meaningOf handedOut content further next runs answerOf imageVerdict start isDue kindIn bytesIn namesAfter filesAfter goesOnAfter firstAfter secondAfter countAfter pendingAfter stateAfter segmentsOf segmentsIn eventsOf judged ordered step sum decimalF decimal heading named counted described line lines listingOf placed refusalLine textOf
 ledger-texts = (refl, refl)

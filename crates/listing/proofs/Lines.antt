@@ -37,7 +37,8 @@ use Rattle.listing.specs.code.Place.{describedAt, lineAt}
 -- ---- a line
 
 -- what is said of a file, by the parts of the image that the code cuts out
-pub described-written : (s : List ℕ) (f : FileAt) (first second i g : List ℕ) (x : Held) (o : List ℕ) (a : ℕ) (p : List ℕ) (r : ℕ) (q : List ℕ) (t : ℕ)
+pub described-written : (s : List ℕ) (f : FileAt) (first second i g : List ℕ) (x : Held) (o : List ℕ) (a : ℕ) (p : List ℕ) (r : ℕ)
+    (q : List ℕ) (t : ℕ)
     → first ≡ part (f .first) 80 s → second ≡ part (f .second) 80 s → i ≡ part 4 17 first → g ≡ part 4 1 second
     → PageWrote o a (named i g) p r → PageWrote p r (counted (x .records) (x .bytes)) q t → PageWrote o a (describedAt s f x) q t
 unfolding describedAt
@@ -106,7 +107,8 @@ pub record Lining (s o : List ℕ) (a : ℕ) (p : List ℕ) (r n : ℕ) (x : Nex
 wrote-none : (o : List ℕ) (a : ℕ) → a ≤ endless → PageWrote o a [] o a
 wrote-none o a h = record { kept = refl; place = omega arith; done = λ _ _. sym (put-none o a) }
 
-pub lining-none : (s o p : List ℕ) (r : ℕ) (x : NextFile) → length s < 18446744073709551616 → imageVerdict s .number ≡ 0 → x ≡ firstFile s → PageWrote o 0 heading p r
+pub lining-none : (s o p : List ℕ) (r : ℕ) (x : NextFile) → length s < 18446744073709551616 → imageVerdict s .number ≡ 0
+    → x ≡ firstFile s → PageWrote o 0 heading p r
     → Lining s p r p r 1 x
 unfolding firstFile
 lining-none s o p r x l h e w =
@@ -151,14 +153,17 @@ next-file s n x f (d ∷ ds) (g, e′, is, others) e =
       lined = ap (λ (l : List ℕ). l ++ lines (n + 1) ds) (sym (line-is s n f d here));
     }
 
-pub lining-all : (s e o : List ℕ) (a : ℕ) (p : List ℕ) (r n : ℕ) (x : NextFile) → PageWrote e 0 heading o a → Lining s o a p r n x → x ≡ Nowhere
+pub lining-all : (s e o : List ℕ) (a : ℕ) (p : List ℕ) (r n : ℕ) (x : NextFile) → PageWrote e 0 heading o a → Lining s o a p r n x
+    → x ≡ Nowhere
     → PageWrote e 0 (listingOf (content s)) p r
 unfolding isFile lines listingOf
 lining-all s e o a p r n x w c z =
-    wrote-same e 0 (heading ++ c .before) (listingOf (content s)) p r (ap (λ (l : List ℕ). heading ++ l) (all (c .rest) (c .filed) (c .whole)))
+    wrote-same e 0 (heading ++ c .before) (listingOf (content s)) p r
+    (ap (λ (l : List ℕ). heading ++ l) (all (c .rest) (c .filed) (c .whole)))
     (wrote-wrote e 0 heading o a (c .before) p r w (c .wrote))
   where
-    all : (ds : List File) → Filed s x ds → c .before ++ lines n ds ≡ lines 1 (content s .files) → c .before ≡ lines 1 (content s .files)
+    all : (ds : List File) → Filed s x ds → c .before ++ lines n ds ≡ lines 1 (content s .files)
+        → c .before ≡ lines 1 (content s .files)
     all [] h q = sym (append-nil (c .before)) ∙ q
     all (d ∷ ds) (g, e′, _, _) q = absurd (false≢true (sym (ap isFile z) ∙ ap isFile e′))
 
@@ -167,7 +172,8 @@ abbrev pub left : List ℕ → NextFile → ℕ
 left s (At f) = suc (length s - f .second)
 left s Nowhere = 0
 
-left-falls : (s : List ℕ) (f : FileAt) (y : NextFile) → f .second + 80 ≤ length s → NoEarlier (f .second + 80) y → left s y < left s (At f)
+left-falls : (s : List ℕ) (f : FileAt) (y : NextFile) → f .second + 80 ≤ length s → NoEarlier (f .second + 80) y
+    → left s y < left s (At f)
 left-falls s f (At g) h b = omega arith
 left-falls s f Nowhere h b = omega arith
 
@@ -189,7 +195,8 @@ module _ (s o : List ℕ) (a : ℕ) (p : List ℕ) (r n : ℕ) (x : NextFile) (f
   found : (y : FileHeld) (z : NextFile) → y ≡ fileHeld s (f .walk) → z ≡ fileBehind s f (y .end) → z ≡ nextFile s f
   found y z h k = k ∙ ap (λ (x : FileHeld). fileBehind s f (x .end)) h ∙ next .is .amounts .behind
 
-  pub lining-more : (y : FileHeld) (q : List ℕ) (t : ℕ) (z : NextFile) → y ≡ fileHeld s (f .walk) → PageWrote p r (lineAt s n f (y .held)) q t
+  pub lining-more : (y : FileHeld) (q : List ℕ) (t : ℕ) (z : NextFile) → y ≡ fileHeld s (f .walk)
+      → PageWrote p r (lineAt s n f (y .held)) q t
       → z ≡ fileBehind s f (y .end) → Lining s o a q t (n + 1) z
   lining-more y q t z h w k =
       record {
@@ -203,7 +210,9 @@ module _ (s o : List ℕ) (a : ℕ) (p : List ℕ) (r n : ℕ) (x : NextFile) (f
             ∙ ap (λ (u : FileHeld). c .before ++ (lineAt s n f (u .held) ++ lines (n + 1) (next .others))) h
             ∙ ap (λ (l : List ℕ). c .before ++ l) (sym (next .lined))
             ∙ c .whole;
-        number = subst (NoEarlier (n + 1 + 1)) (sym (found y z h k)) (behind-less (n + 1 + 1) (f .second + 80) (nextFile s f) (omega (arith, after)) behind);
+        number =
+            subst (NoEarlier (n + 1 + 1)) (sym (found y z h k))
+            (behind-less (n + 1 + 1) (f .second + 80) (nextFile s f) (omega (arith, after)) behind);
       }
 
   pub lining-falls : (y : FileHeld) (z : NextFile) → y ≡ fileHeld s (f .walk) → z ≡ fileBehind s f (y .end) → left s z < left s x

@@ -33,7 +33,8 @@ use Rattle.listing.specs.Text.{newline, heading, named, counted, describ
 use Rattle.listing.proofs.Decimals.{decimal-long}
 
 -- a file has no more records, and no more bytes of them, than the image has bytes
-few-records : (s : List ℕ) (f : FileAt) (d : File) → FileIs s f d → (length (d .records) ≤ length s) × (sum (map length (d .records)) ≤ length s)
+few-records : (s : List ℕ) (f : FileAt) (d : File) → FileIs s f d
+    → (length (d .records) ≤ length s) × (sum (map length (d .records)) ≤ length s)
 unfolding fileHeld
 few-records s f d c =
     let w = f .walk in
@@ -48,7 +49,15 @@ named-long : (i g : List ℕ) → length (named i g) ≡ 2 + length i + length g
 unfolding named
 named-long i g =
     let is : length (named i g) ≡ length (bytes " " ++ i ++ bytes " " ++ g) = refl in
-    omega (arith, is, space, length-append (bytes " " ++ i ++ bytes " ") g, length-append (bytes " " ++ i) (bytes " "), length-append (bytes " ") i)
+    omega (
+      arith,
+      is,
+      space,
+      length-append (bytes " " ++ i ++ bytes " ") g,
+      length-append (bytes " " ++ i)
+          (bytes " "),
+      length-append (bytes " ") i,
+    )
 
 part-most : (a n : ℕ) (l : List ℕ) → length (part a n l) ≤ n
 unfolding part
@@ -62,7 +71,18 @@ counted-long n m a b =
     let first = bytes " " ++ decimal n in
     let second = bytes " " ++ decimal m in
     let is : length (counted n m) ≡ length (first ++ second ++ newline) = refl in
-    omega (arith, is, p, q, space, length-append (first ++ second) newline, length-append first second, length-append (bytes " ") (decimal n), length-append (bytes " ") (decimal m))
+    omega (
+      arith,
+      is,
+      p,
+      q,
+      space,
+      length-append (first ++ second) newline,
+      length-append first second,
+      length-append (bytes " ")
+          (decimal n),
+      length-append (bytes " ") (decimal m),
+    )
 
 line-long : (n : ℕ) (d : File) → length (d .records) < 10 ^ 8 → sum (map length (d .records)) < 10 ^ 8 → length (line n d) ≤ 43
 unfolding line described
@@ -82,7 +102,8 @@ line-long n d a b =
       counted-long (length (d .records)) (sum (map length (d .records))) a b,
     )
 
-lines-long : (s : List ℕ) (ds : List File) (x : NextFile) (n : ℕ) → length s ≤ 16777215 → Filed s x ds → length (lines n ds) ≤ 43 * length ds
+lines-long : (s : List ℕ) (ds : List File) (x : NextFile) (n : ℕ) → length s ≤ 16777215 → Filed s x ds
+    → length (lines n ds) ≤ 43 * length ds
 unfolding lines
 lines-long s [] x n h c = omega arith
 lines-long s (d ∷ ds) x n h (f, e, is, rest) =
@@ -97,7 +118,8 @@ few-files : (m : Meaning) → legalMeaning m ≡ true → length (m .files) ≤ 
 unfolding legalMeaning
 few-files m =
     if-case P (leb 1 (length (m .files))) (ifB (leb (length (m .files)) 64) (legalFiles (m .set) (m .files)) false) false
-    (λ _. if-case P (leb (length (m .files)) 64) (legalFiles (m .set) (m .files)) false (λ t _. leb-true (length (m .files)) 64 t) never)
+    (λ _. if-case P (leb (length (m .files)) 64) (legalFiles (m .set) (m .files)) false
+    (λ t _. leb-true (length (m .files)) 64 t) never)
     never
   where
     P : Bool → Type 0

@@ -1,5 +1,6 @@
 -- A number as decimal digits without leading zeros: the digits of its tens, then its last one.
--- `decimalF` counts down a number that is large enough; `decimal-one` and `decimal-more` (proofs/Decimals.antt) are the equations of `decimal`.
+-- `decimalF` counts down a number that is large enough; `decimal-one` and `decimal-more` (proofs/Decimals.antt) are the equations
+-- of `decimal`.
 use mathlib.Core.List.{List, [], _∷_, _++_}
 use Prim.Native.Nat.{ℕ, zero, suc, _+_, _/_, _%_}
 use lib.Dec.{ltb}

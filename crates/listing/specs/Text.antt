@@ -1,5 +1,7 @@
--- The listing of a set. Document 01, "One whole set": a heading, and for each file a line with its sequence number, its identifier in 17 columns, its
--- format, its records and its record bytes; counts have no leading zeros. Of a refused set one line says the number and its place.
+-- The listing of a set. Document 01, "One whole set": a heading, and for each file a line with its sequence number, its
+-- identifier in 17 columns, its
+-- format, its records and its record bytes; counts have no leading zeros. Of a refused set one line says the number and its
+-- place.
 -- Each line ends with a newline (docs/DECISIONS.md).
 use mathlib.Core.List.{List, [], _∷_, _++_, map}
 use Prim.Native.Nat.{ℕ, _+_}
@@ -37,7 +39,8 @@ unfoldable pub counted : ℕ → ℕ → List ℕ
 counted records size = said " " records ++ said " " size ++ newline
 
 unfoldable pub described : File → List ℕ
-described d = named (identifierIn (d .fields)) (formatIn (d .fields)) ++ counted (length (d .records)) (sum (map length (d .records)))
+described d =
+    named (identifierIn (d .fields)) (formatIn (d .fields)) ++ counted (length (d .records)) (sum (map length (d .records)))
 
 -- file n, from 1
 unfoldable pub line : ℕ → File → List ℕ

@@ -1,4 +1,5 @@
--- Along a set that follows the order, where an item stands is known from its phase alone; and what follows what, as the law of the walks wants it.
+-- Along a set that follows the order, where an item stands is known from its phase alone; and what follows what, as the law of
+-- the walks wants it.
 -- Assumes nothing.
 use mathlib.Core.Path.{_≡_, refl, ap, _∙_}
 use mathlib.Core.Bool.{Bool, true, false, not, _&&_, false≢true}
@@ -51,7 +52,8 @@ labels p = eqb (groupOf p) amongHeaders && isWithin (stage p)
 abbrev isLabel : Kind → Bool
 isLabel k = not (isKind k dataBlock) && (not (isKind k (eof 1)) && not (isKind k endOfReel))
 
--- the phase behind an item stands where the groups lead; HDR2 leads right behind it; a data block leads on to data; among the labels a mark leads to
+-- the phase behind an item stands where the groups lead; HDR2 leads right behind it; a data block leads on to data; among the
+-- labels a mark leads to
 -- the data, and all else is a label
 abbrev Row : Phase → Kind → Phase → Type 0
 Row p k q =
@@ -126,22 +128,27 @@ not-so true h = no h
 not-so false h = refl
 
 -- all else is a label
-pub label-labels : (p : Phase) (k : Kind) (q : Phase) → labels p ≡ true → isKind k tapeMark ≡ false → dueAfter p k ≡ To q → Label k q
+pub label-labels : (p : Phase) (k : Kind) (q : Phase) → labels p ≡ true → isKind k tapeMark ≡ false → dueAfter p k ≡ To q
+    → Label k q
 label-labels p k q h m e =
     let both : labels q && isLabel k ≡ true = row p k q e .4 (and-true (labels p) (not (isKind k tapeMark)) h (ap not m)) in
     let is : isLabel k ≡ true = and-second (labels q) (isLabel k) both in
     let two : not (isKind k (eof 1)) && not (isKind k endOfReel) ≡ true = and-second (not (isKind k dataBlock)) (not (isKind k (eof 1)) && not (isKind k endOfReel)) is in
     record {
       phase = and-first (labels q) (isLabel k) both;
-      datum = not-so (isKind k dataBlock) (and-first (not (isKind k dataBlock)) (not (isKind k (eof 1)) && not (isKind k endOfReel)) is);
+      datum =
+          not-so (isKind k dataBlock)
+          (and-first (not (isKind k dataBlock)) (not (isKind k (eof 1)) && not (isKind k endOfReel)) is);
       fileEnd = not-so (isKind k (eof 1)) (and-first (not (isKind k (eof 1))) (not (isKind k endOfReel)) two);
       reelEnd = not-so (isKind k endOfReel) (and-second (not (isKind k (eof 1))) (not (isKind k endOfReel)) two);
     }
 
 -- one more optional label is no data block
-past-nine : (n : ℕ) (t : DueItem) (ts : List DueItem) → isKind dataBlock (t .item) ≡ false → choose ts dataBlock ≡ Wrong → choose (upToNine n t ts) dataBlock ≡ Wrong
+past-nine : (n : ℕ) (t : DueItem) (ts : List DueItem) → isKind dataBlock (t .item) ≡ false → choose ts dataBlock ≡ Wrong
+    → choose (upToNine n t ts) dataBlock ≡ Wrong
 unfolding upToNine choose
-past-nine n t ts h e = if-case (λ (us : List DueItem). choose us dataBlock ≡ Wrong) (ltb n 9) (t ∷ ts) ts (λ _. if-false _ _ _ h ∙ e) (λ _. e)
+past-nine n t ts h e =
+    if-case (λ (us : List DueItem). choose us dataBlock ≡ Wrong) (ltb n 9) (t ∷ ts) ts (λ _. if-false _ _ _ h ∙ e) (λ _. e)
 
 -- a data block is due exactly among data blocks
 pub data-group : (p : Phase) → dueAfter p dataBlock ≡ ifB (eqb (groupOf p) amongData) (To Data) Wrong

@@ -32,7 +32,8 @@ and-so a b p h q = q ∙ and-then a b h
 pub ruleset ands = (and-then, and-so, and-not, eq-eqb, ne-eqb, lt-ltb, le-ltb, needs)
 
 -- one more optional label is due, and is there
-pub choose-next : (n : ℕ) (i : Kind) (p : Phase) (ts : List DueItem) (k : Kind) (m : Bool) → m ≡ (ltb n 9 && isKind k i) → m ≡ true
+pub choose-next : (n : ℕ) (i : Kind) (p : Phase) (ts : List DueItem) (k : Kind) (m : Bool) → m ≡ (ltb n 9 && isKind k i)
+    → m ≡ true
     → To p ≡ choose (upToNine n (turn i p) ts) k
 unfolding choose upToNine ifB
 choose-next n i p ts k m e h =
@@ -43,7 +44,8 @@ choose-next n i p ts k m e h =
     go false q = absurd (mathlib.Core.Bool.false≢true q)
 
 -- it is not there, or no more is due: what else is due decides
-pub choose-rest : (n : ℕ) (i : Kind) (p : Phase) (ts : List DueItem) (k : Kind) (m : Bool) (r : Due) → m ≡ (ltb n 9 && isKind k i) → m ≡ false
+pub choose-rest : (n : ℕ) (i : Kind) (p : Phase) (ts : List DueItem) (k : Kind) (m : Bool) (r : Due) → m ≡ (ltb n 9 && isKind k i)
+    → m ≡ false
     → r ≡ choose ts k → r ≡ choose (upToNine n (turn i p) ts) k
 unfolding choose upToNine ifB
 choose-rest n i p ts k m r e h q =
@@ -78,7 +80,8 @@ pub due-data : (k : Kind) → dueAfter Data k ≡ ifB (isKind k dataBlock) (To D
 unfolding dueAfter dues choose
 due-data k = refl
 
-pub due-trailer : (k : Kind) → dueAfter Trailer k ≡ ifB (isKind k (eof 1)) (To FirstEof) (ifB (isKind k (eov 1)) (To FirstEov) Wrong)
+pub due-trailer : (k : Kind)
+    → dueAfter Trailer k ≡ ifB (isKind k (eof 1)) (To FirstEof) (ifB (isKind k (eov 1)) (To FirstEov) Wrong)
 unfolding dueAfter dues choose
 due-trailer k = refl
 
@@ -90,7 +93,8 @@ pub due-first-eov : (k : Kind) → dueAfter FirstEov k ≡ ifB (isKind k (eov 2)
 unfolding dueAfter dues choose
 due-first-eov k = refl
 
-pub due-file-end : (k : Kind) → dueAfter FileEnd k ≡ ifB (isKind k (hdr 1)) (To FirstHeader) (ifB (isKind k tapeMark) (To SetClosed) Wrong)
+pub due-file-end : (k : Kind)
+    → dueAfter FileEnd k ≡ ifB (isKind k (hdr 1)) (To FirstHeader) (ifB (isKind k tapeMark) (To SetClosed) Wrong)
 unfolding dueAfter dues choose
 due-file-end k = refl
 
@@ -130,7 +134,8 @@ abbrev pub Each : (Kind → Phase → Type 0) → List DueItem → Type 0
 Each P [] = Unit {0}
 Each P (t ∷ ts) = P (t .item) (t .phase) × Each P ts
 
-pub nine : (P : Kind → Phase → Type 0) (n : ℕ) (t : DueItem) (ts : List DueItem) → P (t .item) (t .phase) → Each P ts → Each P (upToNine n t ts)
+pub nine : (P : Kind → Phase → Type 0) (n : ℕ) (t : DueItem) (ts : List DueItem) → P (t .item) (t .phase) → Each P ts
+    → Each P (upToNine n t ts)
 unfolding upToNine
 nine P n t ts h k = if-case (Each P) (ltb n 9) (t ∷ ts) ts (λ _. (h, k)) (λ _. k)
 
@@ -147,7 +152,8 @@ pub at-phase : (p q : Phase) (k : Kind) (r s : Due) → r ≡ s → s ≡ dueAft
 at-phase p q k r s h e g = h ∙ e ∙ ap (λ (x : Phase). dueAfter x k) (sym g)
 
 -- the same with two tests
-pub at-two : (p q : Phase) (k : Kind) (t : Bool) (r a m s : Due) → r ≡ ifB t a m → m ≡ s → dueAfter q k ≡ ifB t a s → p ≡ q → r ≡ dueAfter p k
+pub at-two : (p q : Phase) (k : Kind) (t : Bool) (r a m s : Due) → r ≡ ifB t a m → m ≡ s → dueAfter q k ≡ ifB t a s → p ≡ q
+    → r ≡ dueAfter p k
 at-two p q k t r a m s h e d g = h ∙ ap (λ (x : Due). ifB t a x) e ∙ sym d ∙ ap (λ (x : Phase). dueAfter x k) (sym g)
 
 -- nothing is due behind the end

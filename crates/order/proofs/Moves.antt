@@ -1,4 +1,5 @@
--- The stages of a reading, and which kinds of items lead from one to another. Only five kinds matter to the meaning: HDR1 and HDR2, a data
+-- The stages of a reading, and which kinds of items lead from one to another. Only five kinds matter to the meaning: HDR1 and
+-- HDR2, a data
 -- block, EOF1 and EOV1. All others, which leave alone what the meaning hangs on, are quiet. Assumes nothing.
 use mathlib.Core.Path.{_≡_, refl}
 use mathlib.Core.Bool.{Bool, true, false}
@@ -107,7 +108,8 @@ pub record Goes (p : Phase) (k : Kind) (q : Phase) : Type 0 where
 
 -- ---- quiet kinds
 
-quiet-family : (f n : ℕ) → eqb f 3 ≡ false → eqb f 8 ≡ false → eqb f 5 ≡ false → eqb f 6 ≡ false → eqb f 11 ≡ false → Quiet (kind f n)
+quiet-family : (f n : ℕ) → eqb f 3 ≡ false → eqb f 8 ≡ false → eqb f 5 ≡ false → eqb f 6 ≡ false → eqb f 11 ≡ false
+    → Quiet (kind f n)
 unfolding isKind
 quiet-family f n a b c d e =
     record {
@@ -129,11 +131,13 @@ quiet-hdr n h =
 
 quiet-eof : (n : ℕ) → 2 ≤ n → Quiet (eof (n + 1))
 unfolding isKind
-quiet-eof n h = record { first = refl; second = refl; datum = refl; fileEnd = more-than-two n h .0; reelEnd = refl; imageEnd = refl }
+quiet-eof n h =
+    record { first = refl; second = refl; datum = refl; fileEnd = more-than-two n h .0; reelEnd = refl; imageEnd = refl }
 
 quiet-eov : (n : ℕ) → 2 ≤ n → Quiet (eov (n + 1))
 unfolding isKind
-quiet-eov n h = record { first = refl; second = refl; datum = refl; fileEnd = refl; reelEnd = more-than-two n h .0; imageEnd = refl }
+quiet-eov n h =
+    record { first = refl; second = refl; datum = refl; fileEnd = refl; reelEnd = more-than-two n h .0; imageEnd = refl }
 
 quiet-eof2 : Quiet (eof 2)
 unfolding isKind
@@ -170,13 +174,15 @@ moves (Volume n) h =
     nine (Goes (Volume n)) n _ _ (record { move = stays (quiet-vol (n + 1)); numbered = tt })
     (record { move = stays (quiet-uvl 1); numbered = tt }, (record { move = header1; numbered = tt }, tt))
 moves (UserVolume n) h =
-    nine (Goes (UserVolume n)) n _ _ (record { move = stays (quiet-uvl (n + 1)); numbered = tt }) (record { move = header1; numbered = tt }, tt)
+    nine (Goes (UserVolume n)) n _ _ (record { move = stays (quiet-uvl (n + 1)); numbered = tt })
+    (record { move = header1; numbered = tt }, tt)
 moves FirstHeader h = (record { move = header2; numbered = omega arith }, tt)
 moves (Header n) h =
     nine (Goes (Header n)) n _ _ (record { move = stays (quiet-hdr n h); numbered = omega arith })
     (record { move = stays quiet-uhl; numbered = tt }, (record { move = stays quiet-mark; numbered = tt }, tt))
 moves (UserHeader n) h =
-    nine (Goes (UserHeader n)) n _ _ (record { move = stays quiet-uhl; numbered = tt }) (record { move = stays quiet-mark; numbered = tt }, tt)
+    nine (Goes (UserHeader n)) n _ _ (record { move = stays quiet-uhl; numbered = tt })
+    (record { move = stays quiet-mark; numbered = tt }, tt)
 moves Data h = (record { move = datum; numbered = tt }, (record { move = stays quiet-mark; numbered = tt }, tt))
 moves Trailer h = (record { move = eof1; numbered = tt }, (record { move = eov1; numbered = tt }, tt))
 moves FirstEof h = (record { move = stays quiet-eof2; numbered = omega arith }, tt)
@@ -184,13 +190,15 @@ moves (Eof n) h =
     nine (Goes (Eof n)) n _ _ (record { move = stays (quiet-eof n h); numbered = omega arith })
     (record { move = stays quiet-utl; numbered = tt }, (record { move = stays quiet-mark; numbered = tt }, tt))
 moves (EofUser n) h =
-    nine (Goes (EofUser n)) n _ _ (record { move = stays quiet-utl; numbered = tt }) (record { move = stays quiet-mark; numbered = tt }, tt)
+    nine (Goes (EofUser n)) n _ _ (record { move = stays quiet-utl; numbered = tt })
+    (record { move = stays quiet-mark; numbered = tt }, tt)
 moves FirstEov h = (record { move = stays quiet-eov2; numbered = omega arith }, tt)
 moves (Eov n) h =
     nine (Goes (Eov n)) n _ _ (record { move = stays (quiet-eov n h); numbered = omega arith })
     (record { move = stays quiet-utl; numbered = tt }, (record { move = stays quiet-mark; numbered = tt }, tt))
 moves (EovUser n) h =
-    nine (Goes (EovUser n)) n _ _ (record { move = stays quiet-utl; numbered = tt }) (record { move = stays quiet-mark; numbered = tt }, tt)
+    nine (Goes (EovUser n)) n _ _ (record { move = stays quiet-utl; numbered = tt })
+    (record { move = stays quiet-mark; numbered = tt }, tt)
 moves FileEnd h = (record { move = nextFile; numbered = tt }, (record { move = stays quiet-mark; numbered = tt }, tt))
 moves VolumeEnd h = (record { move = stays quiet-mark; numbered = tt }, tt)
 moves SetClosed h = (record { move = stays quiet-reel; numbered = tt }, tt)

@@ -3,9 +3,11 @@
 -- 2. HDR1, HDR2; optional HDR3 to HDR9; up to nine UHL; a mark.
 -- 3. Data blocks, none or more; a mark.
 -- 4. EOF1, EOF2 (or EOV1, EOV2); optional same-named 3 to 9; up to nine UTL; a mark.
--- 5. After EOF: back to step 2, or a second mark and the end of the reel, which ends the set. After EOV: a second mark and the end of
+-- 5. After EOF: back to step 2, or a second mark and the end of the reel, which ends the set. After EOV: a second mark and the
+-- end of
 --    the reel; the file goes on at the next reel.
--- House: the limit nine; optional labels, but for UHL and UTL, are numbered upward without a gap; only the last reel ends with EOF.
+-- House: the limit nine; optional labels, but for UHL and UTL, are numbered upward without a gap; only the last reel ends with
+-- EOF.
 --
 -- No byte of a label stands here: another alphabet or label version uses it unchanged.
 use mathlib.Core.Bool.{Bool, true, false}

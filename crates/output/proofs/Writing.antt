@@ -115,7 +115,8 @@ module _ (n v b : ℕ) (d : v ≡ min n 9999) (e : b ≡ v / 100 + v % 100 * 655
         let first : v / 100 / 10 ≡ v / 1000 = omega arith in
         f ∙ ap₂ (λ (x y : ℕ). x + y * 65536) (ap (λ (k : ℕ). k / 10) half-low ∙ first) (ap (λ (k : ℕ). k / 10) half-high ∙ tens v)
 
-    word-by : b * 256 - t * 2559 + 808464432 ≡ 48 + v / 1000 + (48 + v / 100 % 10) * 256 + (48 + v / 10 % 10) * 65536 + (48 + v % 10) * 16777216
+    word-by : b * 256 - t * 2559 + 808464432
+        ≡ 48 + v / 1000 + (48 + v / 100 % 10) * 256 + (48 + v / 10 % 10) * 65536 + (48 + v % 10) * 16777216
     word-by =
         let high : v / 100 ≡ v / 1000 * 10 + v / 100 % 10 = omega arith in
         let low : v % 100 ≡ v / 10 % 10 * 10 + v % 10 = omega arith in
@@ -134,7 +135,8 @@ module _ (n v b : ℕ) (d : v ≡ min n 9999) (e : b ≡ v / 100 + v % 100 * 655
         let w : ℕ = b * 256 - t * 2559 + 808464432 in
         bytes-of (48 + v / 1000) (48 + v / 100 % 10) (48 + v / 10 % 10) (48 + v % 10) w
         (omega (arith, four-at-most)) (omega arith) (omega arith) word-by
-        ∙ ap₂ (λ (x y : ℕ). (48 + x) ∷ (48 + y) ∷ (48 + v / 10 % 10) ∷ (48 + v % 10) ∷ []) (sym (thousands v four-at-most)) (sym (hundreds v))
+        ∙ ap₂ (λ (x y : ℕ). (48 + x) ∷ (48 + y) ∷ (48 + v / 10 % 10) ∷ (48 + v % 10) ∷ []) (sym (thousands v four-at-most))
+        (sym (hundreds v))
         ∙ ap (digits 4) d
 
 -- of any number the last four
@@ -150,18 +152,23 @@ digits-last n =
 pub last-four : (n : ℕ) (d : List ℕ) → d ≡ digits 4 (min (n % 10000) 9999) → d ≡ digits 4 n
 last-four n d e = e ∙ digits-last n
 
-pub ruleset figures = (hundredth, halves-are, halves-fit, tens-are, half-low-small, half-high-small, figures-are, figures-room, last-four, needs)
+pub ruleset figures =
+    (hundredth, halves-are, halves-fit, tens-are, half-low-small, half-high-small, figures-are, figures-room, last-four, needs)
 
 -- ---- a write
 
 -- where it does not end before `most`, where the buffer is too short, and where it has room
-pub put-most : {most : ℕ} (o : List ℕ) (a : ℕ) (bs : List ℕ) (r : ℕ) → r ≡ min (a + length bs) most → most ≤ r → Put most o a bs o r
+pub put-most : {most : ℕ} (o : List ℕ) (a : ℕ) (bs : List ℕ) (r : ℕ) → r ≡ min (a + length bs) most → most ≤ r
+    → Put most o a bs o r
 unfolding putBelow
-put-most {most = most} o a bs r e h = record { place = e; held = sym (if-false _ _ _ (le-ltb (a + length bs) most (omega arith))) }
+put-most {most = most} o a bs r e h =
+    record { place = e; held = sym (if-false _ _ _ (le-ltb (a + length bs) most (omega arith))) }
 
-pub put-below : {most : ℕ} (o : List ℕ) (a : ℕ) (bs p : List ℕ) (r : ℕ) → r ≡ min (a + length bs) most → r < most → p ≡ putIn o a bs → Put most o a bs p r
+pub put-below : {most : ℕ} (o : List ℕ) (a : ℕ) (bs p : List ℕ) (r : ℕ) → r ≡ min (a + length bs) most → r < most
+    → p ≡ putIn o a bs → Put most o a bs p r
 unfolding putBelow
-put-below {most = most} o a bs p r e l q = record { place = e; held = q ∙ sym (if-true _ _ _ (lt-ltb (a + length bs) most (omega arith))) }
+put-below {most = most} o a bs p r e l q =
+    record { place = e; held = q ∙ sym (if-true _ _ _ (lt-ltb (a + length bs) most (omega arith))) }
 
 pub ruleset writing = (put-most, put-below, needs)
 
@@ -186,7 +193,8 @@ put-wrote {most = most} o a bs p r w =
 -- ---- writes one behind the other
 
 -- two writes, the second right behind the first, are one
-pub wrote-wrote : {most : ℕ} (o : List ℕ) (a : ℕ) (xs p : List ℕ) (r : ℕ) (ys q : List ℕ) (s : ℕ) → Wrote most o a xs p r → Wrote most p r ys q s → Wrote most o a (xs ++ ys) q s
+pub wrote-wrote : {most : ℕ} (o : List ℕ) (a : ℕ) (xs p : List ℕ) (r : ℕ) (ys q : List ℕ) (s : ℕ) → Wrote most o a xs p r
+    → Wrote most p r ys q s → Wrote most o a (xs ++ ys) q s
 wrote-wrote {most = most} o a xs p r ys q s w v =
     let long : length (xs ++ ys) ≡ length xs + length ys = length-append xs ys in
     record {
@@ -205,13 +213,16 @@ wrote-wrote {most = most} o a xs p r ys q s w v =
 pub ruleset writes = (wrote-wrote, put-wrote, needs)
 
 -- four of them
-pub wrote-four : {most : ℕ} (o : List ℕ) (a : ℕ) (w p : List ℕ) (r : ℕ) (x q : List ℕ) (s : ℕ) (y t : List ℕ) (u : ℕ) (z v : List ℕ) (b : ℕ)
-    → Wrote most o a w p r → Wrote most p r x q s → Wrote most q s y t u → Wrote most t u z v b → Wrote most o a (w ++ x ++ y ++ z) v b
+pub wrote-four : {most : ℕ} (o : List ℕ) (a : ℕ) (w p : List ℕ) (r : ℕ) (x q : List ℕ) (s : ℕ) (y t : List ℕ) (u : ℕ)
+    (z v : List ℕ) (b : ℕ)
+    → Wrote most o a w p r → Wrote most p r x q s → Wrote most q s y t u → Wrote most t u z v b
+    → Wrote most o a (w ++ x ++ y ++ z) v b
 wrote-four o a w p r x q s y t u z v b i j k l =
     wrote-wrote o a (w ++ x ++ y) t u z v b (wrote-wrote o a (w ++ x) q s y t u (wrote-wrote o a w p r x q s i j) k) l
 
 -- the same bytes
-pub wrote-same : {most : ℕ} (o : List ℕ) (a : ℕ) (bs cs p : List ℕ) (r : ℕ) → bs ≡ cs → Wrote most o a bs p r → Wrote most o a cs p r
+pub wrote-same : {most : ℕ} (o : List ℕ) (a : ℕ) (bs cs p : List ℕ) (r : ℕ) → bs ≡ cs → Wrote most o a bs p r
+    → Wrote most o a cs p r
 wrote-same {most = most} o a bs cs p r e w = subst (λ (s : List ℕ). Wrote most o a s p r) e w
 
 pub ruleset sames = (wrote-same, needs)

@@ -1,6 +1,9 @@
--- What writing into a lent buffer does, and what is answered. One write lays its bytes down where all of them have room, and else leaves the buffer as it was
--- lent (`Put`). Of several writes, each at the place behind the one before, so much is kept: the length of the buffer, the place behind, and all of the
--- bytes where all of them have room (`Wrote`). Document 01, "Numbers given back": 10 where the buffer is too short; bytes behind what is written stay; a
+-- What writing into a lent buffer does, and what is answered. One write lays its bytes down where all of them have room, and else
+-- leaves the buffer as it was
+-- lent (`Put`). Of several writes, each at the place behind the one before, so much is kept: the length of the buffer, the place
+-- behind, and all of the
+-- bytes where all of them have room (`Wrote`). Document 01, "Numbers given back": 10 where the buffer is too short; bytes behind
+-- what is written stay; a
 -- refusal changes no lent byte.
 use mathlib.Core.Path.{_≡_}
 use mathlib.Core.List.{List, _++_}
@@ -39,7 +42,8 @@ refused n out = record { number = n; len = 0; out = out }
 
 -- bytes at the front of a lent buffer: 10 where it is too short
 abbrev pub fitted : List ℕ → List ℕ → Written
-fitted s out = ifB (leb (length s) (length out)) (record { number = 0; len = length s; out = s ++ drop (length s) out }) (refused 10 out)
+fitted s out =
+    ifB (leb (length s) (length out)) (record { number = 0; len = length s; out = s ++ drop (length s) out }) (refused 10 out)
 
 -- ---- where a refusal may have a place: in the image that is rewritten, in the tape that is converted
 

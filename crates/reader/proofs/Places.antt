@@ -31,7 +31,8 @@ pub by-begun : (w : Walk) (f : FileAt) (b : Begun) → b ≡ At f
 unfolding openedBy verdict
 by-begun w f b e = sym (ap (openedBy w) e)
 
-pub by-refused : (w : Walk) (a : Verdict) (b : Begun) → b ≡ NotBegun a → _≡_ {A = Opened} (record { verdict = a; walk = w }) (openedBy w b)
+pub by-refused : (w : Walk) (a : Verdict) (b : Begun) → b ≡ NotBegun a
+    → _≡_ {A = Opened} (record { verdict = a; walk = w }) (openedBy w b)
 unfolding openedBy
 by-refused w a b e = sym (ap (openedBy w) e)
 
@@ -55,11 +56,13 @@ nowhere-none s = records-over s noWalk refl
 
 -- ---- the next record
 
-pub by-there : (w v : Walk) (start n : ℕ) (x : Step) → x ≡ InImage start n v → _≡_ {A = Reading} (record { found = There start n; walk = v }) (readBy w x)
+pub by-there : (w v : Walk) (start n : ℕ) (x : Step) → x ≡ InImage start n v
+    → _≡_ {A = Reading} (record { found = There start n; walk = v }) (readBy w x)
 unfolding readBy foundBy walkBehind
 by-there w v start n x e = sym (ap (readBy w) e)
 
-pub by-joined : (w v : Walk) (n : ℕ) (x : Step) → x ≡ Joined n v → _≡_ {A = Reading} (record { found = Here n; walk = v }) (readBy w x)
+pub by-joined : (w v : Walk) (n : ℕ) (x : Step) → x ≡ Joined n v
+    → _≡_ {A = Reading} (record { found = Here n; walk = v }) (readBy w x)
 unfolding readBy foundBy walkBehind
 by-joined w v n x e = sym (ap (readBy w) e)
 
@@ -68,7 +71,8 @@ pub by-stopped : (w : Walk) (k : ℕ) (x : Step) → x ≡ Refused k
 unfolding readBy foundBy walkBehind verdict
 by-stopped w k x e = sym (ap (readBy w) e)
 
-pub read-at : (s : List ℕ) (room : ℕ) (w : Walk) (x : Step) (y : Reading) → x ≡ stepAt s room w → y ≡ readBy w x → y ≡ readAt s room w
+pub read-at : (s : List ℕ) (room : ℕ) (w : Walk) (x : Step) (y : Reading) → x ≡ stepAt s room w → y ≡ readBy w x
+    → y ≡ readAt s room w
 unfolding readAt
 read-at s room w x y e h = h ∙ ap (readBy w) e
 

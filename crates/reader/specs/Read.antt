@@ -1,4 +1,5 @@
--- A reader's place behind each of its functions. Document 01, "Handing out records": after the core, a reader that keeps the lent image together
+-- A reader's place behind each of its functions. Document 01, "Handing out records": after the core, a reader that keeps the lent
+-- image together
 -- with its place offers the same steps; with 13 or 10 the walk isn't moved.
 use mathlib.Core.List.{List}
 use Prim.Native.Nat.{ℕ}
@@ -28,7 +29,8 @@ openedBy w (NotBegun a) = record { verdict = a; walk = w }
 unfoldable pub openedAt : List ℕ → Walk → ℕ → Opened
 openedAt s w n = openedBy w (begunAt s n)
 
--- file n opened from nowhere, and the facts of the records from there on; with a refusal that is nowhere, and there are none (`nowhere-none`, proofs/Places.antt)
+-- file n opened from nowhere, and the facts of the records from there on; with a refusal that is nowhere, and there are none
+-- (`nowhere-none`, proofs/Places.antt)
 unfoldable pub countAt : List ℕ → ℕ → FileFacts
 countAt s n = record { verdict = openedAt s noWalk n .verdict; facts = factsOf (recordsAt s (openedAt s noWalk n .walk)) }
 

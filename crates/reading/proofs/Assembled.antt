@@ -1,5 +1,6 @@
 -- The records that the segments of accepted blocks make are legal ones. Assumes nothing.
--- A segment is fair where what its format asks of it holds: every unit that a block is cut into is. What is owed behind a segment, with a
+-- A segment is fair where what its format asks of it holds: every unit that a block is cut into is. What is owed behind a
+-- segment, with a
 -- record open or not, is carried backwards over the segments.
 use mathlib.Core.Path.{_≡_, refl, sym, ap, _∙_, subst}
 use mathlib.Core.Bool.{Bool, true, false, not, false≢true}
@@ -42,7 +43,8 @@ legal-F r x h p = if-true _ _ _ refl ∙ (if-true _ _ _ (eq-eqb (length x) r h) 
 
 legal-D : (r : ℕ) (x : List ℕ) → length x + 4 ≤ r → length x + 4 ≤ 9999 → legalRecord 68 r x ≡ true
 unfolding legalRecord
-legal-D r x h p = if-false _ _ _ refl ∙ (if-true _ _ _ refl ∙ (if-true _ _ _ (le-leb (length x + 4) r h) ∙ le-leb (length x + 4) 9999 p))
+legal-D r x h p =
+    if-false _ _ _ refl ∙ (if-true _ _ _ refl ∙ (if-true _ _ _ (le-leb (length x + 4) r h) ∙ le-leb (length x + 4) 9999 p))
 
 legal-S : (r : ℕ) (x : List ℕ) → length x ≤ r → legalRecord 83 r x ≡ true
 unfolding legalRecord
@@ -181,7 +183,8 @@ pub units-fair : (f b r o : ℕ) (s : List ℕ) → Fairs f r (units f b r o s)
 unfolding units cut
 units-fair f b r o s =
     if-case (Fairs f r) (leb (length s) b) _ none
-    (λ _. if-case (Fairs f r) (leb o (length s)) _ none (λ _. some-fair f r _ (cut-fair (suc (length (drop o s))) f r (drop o s))) (λ _. tt))
+    (λ _. if-case (Fairs f r) (leb o (length s)) _ none (λ _. some-fair f r _ (cut-fair (suc (length (drop o s))) f r (drop o s)))
+    (λ _. tt))
     (λ _. tt)
 
 -- ---- what is owed: the records from here on are legal, the first of them with what is open before it
@@ -199,7 +202,8 @@ pub in-turn : (r o : ℕ) (head : Bool) (i n : ℕ) → isTurn r o head i n ≡ 
 unfolding isTurn
 in-turn r o head i n =
     if-case (λ (t : Bool). t ≡ true → InTurn r o i n) (leb i 1) _ _
-    (λ a. if-case (λ (t : Bool). t ≡ true → InTurn r o i n) (eqb o 0) _ false (λ b c. starts (leb-true i 1 a) (eqb-true o 0 b) (leb-true n r c)) (λ _ c. never c))
+    (λ a. if-case (λ (t : Bool). t ≡ true → InTurn r o i n) (eqb o 0) _ false
+    (λ b c. starts (leb-true i 1 a) (eqb-true o 0 b) (leb-true n r c)) (λ _ c. never c))
     (λ a. if-case (λ (t : Bool). t ≡ true → InTurn r o i n) head _ false
     (λ _. if-case (λ (t : Bool). t ≡ true → InTurn r o i n) (eqb o 0) false _ (λ _ c. never c)
     (λ b c. let far : 1 < i = leb-false i 1 a in let some-open : o ≡ 0 → ⊥ = eqb-false o 0 b in follows (omega arith) (omega arith) (leb-true (o - 1 + n) r c)))
@@ -208,7 +212,8 @@ in-turn r o head i n =
     never : false ≡ true → InTurn r o i n
     never c = absurd (false≢true c)
 
-record-more : (f r : ℕ) (x : List ℕ) (rs : List (List ℕ)) → legalRecord f r x ≡ true → legalRecords f r rs ≡ true → legalRecords f r (x ∷ rs) ≡ true
+record-more : (f r : ℕ) (x : List ℕ) (rs : List (List ℕ)) → legalRecord f r x ≡ true → legalRecords f r rs ≡ true
+    → legalRecords f r (x ∷ rs) ≡ true
 unfolding legalRecords
 record-more f r x rs h k = if-true _ _ _ h ∙ k
 
@@ -231,7 +236,8 @@ gone-on f r (suc k) bs rs p h =
     by-rest (y ∷ ys) (q, t) = (simp length-append (omega arith), t)
 
 -- a 3 before what is owed
-ended-by : (f r o : ℕ) (bs : List ℕ) (rs : List (List ℕ)) → 1 ≤ o → o - 1 + length bs ≤ r → legalRecords f r rs ≡ true → Owed f r o (bs ∷ rs)
+ended-by : (f r o : ℕ) (bs : List ℕ) (rs : List (List ℕ)) → 1 ≤ o → o - 1 + length bs ≤ r → legalRecords f r rs ≡ true
+    → Owed f r o (bs ∷ rs)
 ended-by f r zero bs rs p q h = absurd (omega arith)
 ended-by f r (suc k) bs rs p q h = (omega arith, h)
 
@@ -243,8 +249,10 @@ is-S f i whole other = by-format (eqb f 83) refl
     by-format true e = eqb-true f 83 e
     by-format false e = absurd (other (whole (eqb-false f 83 e)))
 
-by-indicator : (f r o : ℕ) (x : Segment) (rs : List (List ℕ)) → Fair f r x → (a b : Bool) → eqb (x .indicator) 1 ≡ a → eqb (x .indicator) 2 ≡ b
-    → InTurn r o (x .indicator) (length (x .bytes)) → Owed f r (ifB a (length (x .bytes) + 1) (ifB b (o + length (x .bytes)) 0)) rs
+by-indicator : (f r o : ℕ) (x : Segment) (rs : List (List ℕ)) → Fair f r x → (a b : Bool) → eqb (x .indicator) 1 ≡ a
+    → eqb (x .indicator) 2 ≡ b
+    → InTurn r o (x .indicator) (length (x .bytes))
+    → Owed f r (ifB a (length (x .bytes) + 1) (ifB b (o + length (x .bytes)) 0)) rs
     → Owed f r o (ifB a (onFirst (x .bytes) rs) (ifB b (onFirst (x .bytes) rs) (x .bytes ∷ rs)))
 unfolding ifB
 by-indicator f r o x rs fair true b c d (starts p q m) h =
@@ -263,7 +271,8 @@ by-indicator f r o x rs fair false false c d (starts p q m) h =
 by-indicator f r o x rs fair false false c d (follows p q m) h = ended-by f r o (x .bytes) rs q m h
 
 -- one segment in turn before what is owed behind it
-turn-owed : (f r o : ℕ) (head : Bool) (x : Segment) (xs : List Segment) → Fair f r x → isTurn r o head (x .indicator) (length (x .bytes)) ≡ true
+turn-owed : (f r o : ℕ) (head : Bool) (x : Segment) (xs : List Segment) → Fair f r x
+    → isTurn r o head (x .indicator) (length (x .bytes)) ≡ true
     → Owed f r (openAfter o (x .indicator) (length (x .bytes))) (joined xs) → Owed f r o (joined (x ∷ xs))
 unfolding openAfter joined
 turn-owed f r o head x xs fair t =
@@ -275,8 +284,10 @@ unfolding turnsFrom outcome
 turns-owed f r o head [] ys fair = λ e h. h
 turns-owed f r o head (x ∷ xs) ys (fair, fairs) =
     if-case (λ (c : Outcome). c .number ≡ 0 → Owed f r (c .pending) (joined ys) → Owed f r o (joined (x ∷ (xs ++ ys))))
-    (isTurn r o head (x .indicator) (length (x .bytes))) (turnsFrom r (openAfter o (x .indicator) (length (x .bytes))) false xs) (outcome 8 0)
-    (λ t e h. turn-owed f r o head x (xs ++ ys) fair t (turns-owed f r (openAfter o (x .indicator) (length (x .bytes))) false xs ys fairs e h))
+    (isTurn r o head (x .indicator) (length (x .bytes))) (turnsFrom r (openAfter o (x .indicator) (length (x .bytes))) false xs)
+    (outcome 8 0)
+    (λ t e h. turn-owed f r o head x (xs ++ ys) fair t
+    (turns-owed f r (openAfter o (x .indicator) (length (x .bytes))) false xs ys fairs e h))
     (λ _ e _. absurd (eqb-false 8 0 refl e))
 
 -- what is owed before a block, from what is owed behind it

@@ -1,4 +1,5 @@
--- Dates are compared between a trailer and its header alone, and those of later sections are no part of the meaning: two accepted sets which are the same
+-- Dates are compared between a trailer and its header alone, and those of later sections are no part of the meaning: two accepted
+-- sets which are the same
 -- without them have one meaning. Assumes nothing.
 use mathlib.Core.Path.{_≡_, refl, sym, ap, ap₂, _∙_, subst}
 use mathlib.Core.Bool.{Bool, true, false, false≢true, _&&_}
@@ -117,7 +118,8 @@ module _ (l m : List ℕ) (long-l : length l ≡ 80) (long-m : length m ≡ 80) 
       if-case (λ (t : Bool). t ≡ true → part a w l ≡ part a w m) (leb (a + w) 41) true (leb 53 a)
       (λ h _. before-dates a w (leb-true (a + w) 41 h)) (λ _ h. behind-dates a w (leb-true 53 a h))
 
-  unequal-same : (f : List ℕ) (at : ℕ) (rows : List ℕ) → undatedRows at rows ≡ true → firstBad (agreeAt perFile f l) at rows ≡ firstBad (agreeAt perFile f m) at rows
+  unequal-same : (f : List ℕ) (at : ℕ) (rows : List ℕ) → undatedRows at rows ≡ true
+      → firstBad (agreeAt perFile f l) at rows ≡ firstBad (agreeAt perFile f m) at rows
   unfolding undatedRows firstBad agreeAt
   unequal-same f at [] h = refl
   unequal-same f at (w ∷ []) h = refl
@@ -126,7 +128,8 @@ module _ (l m : List ℕ) (long-l : length l ≡ 80) (long-m : length m ≡ 80) 
       let row : Bool = ifB (leb perFile s) (beside at w) true in
       let rest : Bool = undatedRows (at + w) rows in
       ap₂ (λ (t : Bool) (n : ℕ). ifB t n (at + 1))
-      (row-same (leb perFile s) (beside at w) _ _ (λ o. ap (same (part at w f)) (beside-dates at w o)) (and-first row rest h)) (unequal-same f (at + w) rows (and-second row rest h))
+      (row-same (leb perFile s) (beside at w) _ _ (λ o. ap (same (part at w f)) (beside-dates at w o)) (and-first row rest h))
+      (unequal-same f (at + w) rows (and-second row rest h))
 
   set-same : setOf l ≡ setOf m
   unfolding setOf
@@ -156,7 +159,8 @@ module _ (l m : List ℕ) (long-l : length l ≡ 80) (long-m : length m ≡ 80) 
       cc
 
   -- against what was read before it, HDR1 is the same with other dates
-  pub header-same : (goesOn : Bool) (files : ℕ) (first : List ℕ) → firstHeaderFault goesOn files first l ≡ firstHeaderFault goesOn files first m
+  pub header-same : (goesOn : Bool) (files : ℕ) (first : List ℕ)
+      → firstHeaderFault goesOn files first l ≡ firstHeaderFault goesOn files first m
   unfolding firstHeaderFault
   header-same goesOn files first =
       ap₂ (λ (a b : ℕ). ifB goesOn (crossed a) (orElse (crossed b) (fileFault files))) (later-same first) (new-same files first)
@@ -177,7 +181,8 @@ trailer-dates first l count h =
 dated-in : (p : Phase) (l : List ℕ) → isDated (kindIn p (block l)) ≡ true → kindIn p (block (undated l)) ≡ kindIn p (block l)
 unfolding kindIn
 dated-in p l =
-    if-case (λ (k : Kind). isDated k ≡ true → kindIn p (block (undated l)) ≡ k) (isDue (dueAfter p dataBlock)) dataBlock (kindOf l)
+    if-case (λ (k : Kind). isDated k ≡ true → kindIn p (block (undated l)) ≡ k) (isDue (dueAfter p dataBlock)) dataBlock
+    (kindOf l)
     (λ e _. if-true _ _ _ e) (λ e d. if-false _ _ _ e ∙ kind-undated l d)
 
 kind-in : (g : Bool) (p : Phase) (x : Item) → kindIn p (undatedIn g p x) ≡ kindIn p x
@@ -256,7 +261,8 @@ same-state s f p k l m e = ap (λ (x : List ℕ). withFirst (stateAfter s p k x)
 -- nothing is handed out by either
 none-behind : (gs hs : List Event) → gs ≡ [] → hs ≡ [] → OneBehind gs hs
 none-behind gs hs p q es fs h =
-    subst (λ (xs : List Event). OneMeaning (xs ++ es) (hs ++ fs)) (sym p) (subst (λ (xs : List Event). OneMeaning es (xs ++ fs)) (sym q) h)
+    subst (λ (xs : List Event). OneMeaning (xs ++ es) (hs ++ fs)) (sym p)
+    (subst (λ (xs : List Event). OneMeaning es (xs ++ fs)) (sym q) h)
 
 -- one event is handed out by both
 one-behind : (x y : Event) → x ≡ y → OneBehind (x ∷ []) (y ∷ [])
@@ -269,14 +275,17 @@ unfolding ifB
 section-behind true f h l m e q = meaning-continued f l h m
 section-behind false f h l m e q = one-behind _ _ (ap₂ begins (e refl) q)
 
-alike : (s : State) (f : List ℕ) (p : Phase) (l m : List ℕ) {k : Kind} {a b : Stage} → Move k a b → Begun a (s .goesOn) (s .first) f
+alike : (s : State) (f : List ℕ) (p : Phase) (l m : List ℕ) {k : Kind} {a b : Stage} → Move k a b
+    → Begun a (s .goesOn) (s .first) f
     → (s .goesOn ≡ false → l ≡ m) → (isDated k ≡ false → l ≡ m) → Alike s f p k b l m
 unfolding stateAfter namesAfter filesAfter goesOnAfter firstAfter secondAfter countAfter pendingAfter segmentsIn eventsOf isDated isKind ifB
 alike s f p l m {k} (stays {a = a} c) h new e =
     record {
       events = none-behind _ _ (events-quiet s k l c) (events-quiet (withFirst s f) k m c);
       state = same-state s f p k l m (e (quiet-undated k c));
-      begun = λ n g. if-false _ _ _ (c .first) ∙ h n (sym (if-false _ _ _ (c .reelEnd) ∙ if-false _ _ _ (c .fileEnd)) ∙ g) ∙ sym (if-false _ _ _ (c .first));
+      begun =
+          λ n g. if-false _ _ _ (c .first) ∙ h n (sym (if-false _ _ _ (c .reelEnd) ∙ if-false _ _ _ (c .fileEnd)) ∙ g)
+          ∙ sym (if-false _ _ _ (c .first));
     }
 alike s f p l m {k} (nextReel c) h new e =
     record {
@@ -359,7 +368,8 @@ same-runs (x ∷ xs) (y ∷ ys) s f n b e (p, u, us) (q, v, vs) =
 -- ---- the meaning
 
 -- two accepted sets that are the same without the dates of their later sections have one meaning
-pub later-dates : (a b : List ℕ) → imageVerdict a .number ≡ 0 → imageVerdict b .number ≡ 0 → undatedFrom start (items a) ≡ undatedFrom start (items b)
+pub later-dates : (a b : List ℕ) → imageVerdict a .number ≡ 0 → imageVerdict b .number ≡ 0
+    → undatedFrom start (items a) ≡ undatedFrom start (items b)
     → content a ≡ content b
 unfolding content meaningOf start
 later-dates a b h k e =

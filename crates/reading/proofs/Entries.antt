@@ -1,4 +1,5 @@
--- The entry of a file whose header labels were read without fault is a legal one: the header labels that the writer makes of it have no fault.
+-- The entry of a file whose header labels were read without fault is a legal one: the header labels that the writer makes of it
+-- have no fault.
 -- Their fields are those that were read; the others are SPACEs, ZEROs and numbers that suit their rules. Assumes nothing.
 use mathlib.Core.Path.{_≡_, refl, sym, ap, _∙_, subst}
 use mathlib.Core.Bool.{Bool, true, false, false≢true}
@@ -90,7 +91,9 @@ module _ (f s : List ℕ) (lf : length f ≡ 80) (ls : length s ≡ 80) where
 
 -- the fields of HDR1 made of a label read: those of that label, but for what the writer gives itself
 abbrev firstRead : List ℕ → List (List ℕ)
-firstRead f = fielded 0 HDR1 (fielded 3 (digits 4 1) (fielded 4 (digits 4 1) (fielded 9 [] (fielded 10 (digits 6 0) (fielded 11 [] (fielded 12 [] (fieldsIn hdr1 0 f)))))))
+firstRead f =
+    fielded 0 HDR1 (fielded 3 (digits 4 1)
+    (fielded 4 (digits 4 1) (fielded 9 [] (fielded 10 (digits 6 0) (fielded 11 [] (fielded 12 [] (fieldsIn hdr1 0 f)))))))
 
 first-suit : (f : List ℕ) → length f ≡ 80 → wrongIn f hdr1 ≡ 0 → Suit hdr1 f (firstRead f)
 unfolding good ifB digits fitted allDigits isDigit allA isA allAre
@@ -102,15 +105,22 @@ first-suit f lf h =
     let own9 = suit-with hdr1 f (fielded 10 (digits 6 0) (fielded 11 [] (fielded 12 [] (fieldsIn hdr1 0 f)))) 9 characters [] own10 refl in
     let own4 = suit-with hdr1 f (fielded 9 [] (fielded 10 (digits 6 0) (fielded 11 [] (fielded 12 [] (fieldsIn hdr1 0 f))))) 4 digitsRule (digits 4 1) own9 refl in
     let own3 = suit-with hdr1 f (fielded 4 (digits 4 1) (fielded 9 [] (fielded 10 (digits 6 0) (fielded 11 [] (fielded 12 [] (fieldsIn hdr1 0 f)))))) 3 digitsRule (digits 4 1) own4 refl in
-    suit-with hdr1 f (fielded 3 (digits 4 1) (fielded 4 (digits 4 1) (fielded 9 [] (fielded 10 (digits 6 0) (fielded 11 [] (fielded 12 [] (fieldsIn hdr1 0 f))))))) 0 free HDR1 own3 refl
+    suit-with hdr1 f (fielded 3 (digits 4 1)
+    (fielded 4 (digits 4 1)
+    (fielded 9 [] (fielded 10 (digits 6 0) (fielded 11 [] (fielded 12 [] (fieldsIn hdr1 0 f))))))) 0 free HDR1 own3 refl
 
-first-made : (f s : List ℕ) → length f ≡ 80 → length s ≡ 80 → laid hdr1 (firstRead f) ≡ madeFirst HDR1 (setOf f) (fieldsFrom f s) 1 1 0
+first-made : (f s : List ℕ) → length f ≡ 80 → length s ≡ 80
+    → laid hdr1 (firstRead f) ≡ madeFirst HDR1 (setOf f) (fieldsFrom f s) 1 1 0
 unfolding madeFirst laid setOf
 first-made f s lf ls =
-    ap (λ (x : List ℕ). shape x (part 35 4 f) (part 39 2 f) (part 41 6 f) (part 47 6 f)) (sym (entry-name f s lf ls 0 17 (omega arith)))
-    ∙ ap (λ (x : List ℕ). shape (identifierIn e) x (part 39 2 f) (part 41 6 f) (part 47 6 f)) (sym (entry-dates f s lf ls 0 4 (omega arith)))
-    ∙ ap (λ (x : List ℕ). shape (identifierIn e) (generationIn e) x (part 41 6 f) (part 47 6 f)) (sym (entry-dates f s lf ls 4 2 (omega arith)))
-    ∙ ap (λ (x : List ℕ). shape (identifierIn e) (generationIn e) (versionIn e) x (part 47 6 f)) (sym (entry-dates f s lf ls 6 6 (omega arith)))
+    ap (λ (x : List ℕ). shape x (part 35 4 f) (part 39 2 f) (part 41 6 f) (part 47 6 f))
+    (sym (entry-name f s lf ls 0 17 (omega arith)))
+    ∙ ap (λ (x : List ℕ). shape (identifierIn e) x (part 39 2 f) (part 41 6 f) (part 47 6 f))
+    (sym (entry-dates f s lf ls 0 4 (omega arith)))
+    ∙ ap (λ (x : List ℕ). shape (identifierIn e) (generationIn e) x (part 41 6 f) (part 47 6 f))
+    (sym (entry-dates f s lf ls 4 2 (omega arith)))
+    ∙ ap (λ (x : List ℕ). shape (identifierIn e) (generationIn e) (versionIn e) x (part 47 6 f))
+    (sym (entry-dates f s lf ls 6 6 (omega arith)))
     ∙ ap (shape (identifierIn e) (generationIn e) (versionIn e) (createdIn e)) (sym (entry-dates f s lf ls 12 6 (omega arith)))
   where
     e : List ℕ
@@ -127,7 +137,8 @@ first-sound f s lf ls h =
     = filled-fine hdr1 (firstRead f)
     (suit-other hdr1 f (laid hdr1 (firstRead f)) (firstRead f) (λ p. absurd (false≢true (sym p))) (first-suit f lf (sound-fields (hdr 1) f h))) in
     ap (λ (x : Fault). x .number)
-    (sound (hdr 1) (madeFirst HDR1 (setOf f) (fieldsFrom f s) 1 1 0) (ap (λ (l : List ℕ). wrongIn l hdr1) (sym (first-made f s lf ls)) ∙ fine)
+    (sound (hdr 1) (madeFirst HDR1 (setOf f) (fieldsFrom f s) 1 1 0)
+    (ap (λ (l : List ℕ). wrongIn l hdr1) (sym (first-made f s lf ls)) ∙ fine)
     (access-first HDR1 (setOf f) (fieldsFrom f s) 1 1 0))
 
 -- ---- the second header label
@@ -153,7 +164,8 @@ unfolding isRecordLength isLength suitsBoth
 length-none f b Wrong o h = h
 length-none f Wrong (Value r) o h = h
 length-none f (Value b) (Value r) o h =
-    if-case (λ (t : Bool). t ≡ true → ifB (leb (leastRecord f) r) (suits f b r 0) false ≡ true) (leb (leastRecord f) r) (suits f b r o) false
+    if-case (λ (t : Bool). t ≡ true → ifB (leb (leastRecord f) r) (suits f b r 0) false ≡ true) (leb (leastRecord f) r)
+    (suits f b r o) false
     (λ e q. if-true _ _ _ e ∙ suits-none f b r o q) (λ _ q. absurd (false≢true q)) h
 
 abbrev made2 : List ℕ → List ℕ
@@ -174,13 +186,19 @@ second-suit s ls h =
 
 module _ (f s : List ℕ) (lf : length f ≡ 80) (ls : length s ≡ 80) where
   made-format : part 4 1 (made2 (fieldsFrom f s)) ≡ part 4 1 s
-  made-format = second-field HDR2 (fieldsFrom f s) formatRow (length-part 35 1 _ (omega (arith, length-entry f s lf ls))) ∙ entry-second f s lf ls 0 1 (omega arith)
+  made-format =
+      second-field HDR2 (fieldsFrom f s) formatRow (length-part 35 1 _ (omega (arith, length-entry f s lf ls)))
+      ∙ entry-second f s lf ls 0 1 (omega arith)
 
   made-block : part 5 5 (made2 (fieldsFrom f s)) ≡ part 5 5 s
-  made-block = second-field HDR2 (fieldsFrom f s) blockLengthRow (length-part 36 5 _ (omega (arith, length-entry f s lf ls))) ∙ entry-second f s lf ls 1 5 (omega arith)
+  made-block =
+      second-field HDR2 (fieldsFrom f s) blockLengthRow (length-part 36 5 _ (omega (arith, length-entry f s lf ls)))
+      ∙ entry-second f s lf ls 1 5 (omega arith)
 
   made-record : part 10 5 (made2 (fieldsFrom f s)) ≡ part 10 5 s
-  made-record = second-field HDR2 (fieldsFrom f s) recordLengthRow (length-part 41 5 _ (omega (arith, length-entry f s lf ls))) ∙ entry-second f s lf ls 6 5 (omega arith)
+  made-record =
+      second-field HDR2 (fieldsFrom f s) recordLengthRow (length-part 41 5 _ (omega (arith, length-entry f s lf ls)))
+      ∙ entry-second f s lf ls 6 5 (omega arith)
 
   made-offset : numberIn (part 50 2 (made2 (fieldsFrom f s))) ≡ Value 0
   unfolding digits numberIn allDigits isDigit value ifB
@@ -224,21 +242,25 @@ module _ (f s : List ℕ) (lf : length f ≡ 80) (ls : length s ≡ 80) where
       let suits : hasRecordLength (laid hdr2 (secondRead s)) ≡ true = ap hasRecordLength second-made ∙ made-suits (rows offsetRow refl) (rows recordLengthRow refl) in
       let fine : wrongIn (laid hdr2 (secondRead s)) hdr2 ≡ 0
       = filled-fine hdr2 (secondRead s) (suit-other hdr2 s (laid hdr2 (secondRead s)) (secondRead s) (λ _. suits) (second-suit s ls none)) in
-      ap (λ (x : Fault). x .number) (sound (hdr 2) (made2 (fieldsFrom f s)) (ap (λ (l : List ℕ). wrongIn l hdr2) (sym second-made) ∙ fine) refl)
+      ap (λ (x : Fault). x .number)
+      (sound (hdr 2) (made2 (fieldsFrom f s)) (ap (λ (l : List ℕ). wrongIn l hdr2) (sym second-made) ∙ fine) refl)
 
   -- the entry is legal, and its format and record length are those of HDR2
-  pub entry-legal : labelFault (hdr 1) f .number ≡ 0 → labelFault (hdr 2) s .number ≡ 0 → legalEntry (setOf f) (fieldsFrom f s) ≡ true
+  pub entry-legal : labelFault (hdr 1) f .number ≡ 0 → labelFault (hdr 2) s .number ≡ 0
+      → legalEntry (setOf f) (fieldsFrom f s) ≡ true
   unfolding legalEntry isSound setOf
   entry-legal h k =
       if-true _ _ _ (eq-eqb (length (part 21 6 f)) 6 (length-part 21 6 f (omega arith)))
       ∙ (if-true _ _ _ (eq-eqb (length (fieldsFrom f s)) 46 (length-entry f s lf ls))
-      ∙ (if-true _ _ _ (eq-eqb (labelFault (hdr 1) (madeFirst HDR1 (part 21 6 f) (fieldsFrom f s) 1 1 0) .number) 0 (first-sound f s lf ls h))
+      ∙ (if-true _ _ _ (eq-eqb (labelFault (hdr 1) (madeFirst HDR1 (part 21 6 f) (fieldsFrom f s) 1 1 0) .number) 0
+      (first-sound f s lf ls h))
       ∙ eq-eqb (labelFault (hdr 2) (made2 (fieldsFrom f s)) .number) 0 (second-sound k)))
 
   pub entry-format : formatFrom (fieldsFrom f s) ≡ formatOf s
   unfolding formatFrom formatOf
   entry-format =
-      byte-part 35 (fieldsFrom f s) ∙ ap (λ (x : List ℕ). getD x 0 0) (entry-second f s lf ls 0 1 (omega arith)) ∙ sym (byte-part 4 s)
+      byte-part 35 (fieldsFrom f s) ∙ ap (λ (x : List ℕ). getD x 0 0) (entry-second f s lf ls 0 1 (omega arith))
+      ∙ sym (byte-part 4 s)
 
   pub entry-record : recordLengthFrom (fieldsFrom f s) ≡ valueOf (recordLengthOf s)
   unfolding recordLengthFrom recordLengthOf

@@ -35,7 +35,8 @@ use Rattle.reading.proofs.Steps.{step-holds, step-promise}
 pub header-long : (p : Phase) (x : Item) → kindIn p x .family ≡ 3 → length (bytesIn x) ≡ 80
 unfolding kindIn bytesIn kindOf
 header-long p (block l) =
-    if-case (λ (k : Kind). k .family ≡ 3 → length l ≡ 80) (isDue (dueAfter p dataBlock)) dataBlock (ifB (eqb (length l) 80) (namedKind l) other)
+    if-case (λ (k : Kind). k .family ≡ 3 → length l ≡ 80) (isDue (dueAfter p dataBlock)) dataBlock
+    (ifB (eqb (length l) 80) (namedKind l) other)
     (λ _ h. absurd (eqb-false 8 3 refl h))
     (λ _. if-case (λ (k : Kind). k .family ≡ 3 → length l ≡ 80) (eqb (length l) 80) (namedKind l) other
     (λ e _. eqb-true (length l) 80 e) (λ _ h. absurd (eqb-false 0 3 refl h)))
@@ -86,13 +87,16 @@ kept-step s x p h f =
     record {
       numbered = due-goes (s .phase) (kindIn (s .phase) x) p (h .numbered) (f .due) .numbered;
       holds =
-          step-holds s p (bytesIn x) (due-goes (s .phase) (kindIn (s .phase) x) p (h .numbered) (f .due) .move) (header-long (s .phase) x) (h .holds) (f .sound);
+          step-holds s p (bytesIn x) (due-goes (s .phase) (kindIn (s .phase) x) p (h .numbered) (f .due) .move)
+          (header-long (s .phase) x) (h .holds) (f .sound);
     }
 
 promise-step : (s : State) (x : Item) (p : Phase) → Kept s → Faultless s x p → (es : List Event)
-    → Promised (stage p) (view (stateBehind s x p)) es → Promised (stage (s .phase)) (view s) (eventsOf s (kindIn (s .phase) x) (bytesIn x) ++ es)
+    → Promised (stage p) (view (stateBehind s x p)) es
+    → Promised (stage (s .phase)) (view s) (eventsOf s (kindIn (s .phase) x) (bytesIn x) ++ es)
 promise-step s x p h f =
-    step-promise s p (bytesIn x) (due-goes (s .phase) (kindIn (s .phase) x) p (h .numbered) (f .due) .move) (header-long (s .phase) x) (h .holds) (f .sound)
+    step-promise s p (bytesIn x) (due-goes (s .phase) (kindIn (s .phase) x) p (h .numbered) (f .due) .move)
+    (header-long (s .phase) x) (h .holds) (f .sound)
 
 -- what is promised of a reading that ends
 abbrev Told : State → Run → Type 0
@@ -100,7 +104,8 @@ Told s (ended es) = Promised (stage (s .phase)) (view s) es
 Told s (stopped k i b) = Unit {0}
 
 told-further : (s t : State) (fs : List Event) (r : Run)
-    → ((es : List Event) → Promised (stage (t .phase)) (view t) es → Promised (stage (s .phase)) (view s) (fs ++ es)) → Told t r → Told s (further fs r)
+    → ((es : List Event) → Promised (stage (t .phase)) (view t) es → Promised (stage (s .phase)) (view s) (fs ++ es)) → Told t r
+    → Told s (further fs r)
 unfolding further
 told-further s t fs (ended es) g h = g es h
 told-further s t fs (stopped k i b) g h = tt
@@ -108,14 +113,16 @@ told-further s t fs (stopped k i b) g h = tt
 told-end : (s : State) → Kept s → isDue (dueAfter (s .phase) endOfImage) ≡ true → Promised (stage (s .phase)) (view s) []
 told-end s h e =
     let over : stage (s .phase) ≡ fileOver = image-end (s .phase) (h .numbered) e in
-    subst (λ (a : Stage). Promised a (view s) []) (sym over) (none-promise (view s) (subst (λ (a : Stage). Holds a (view s)) over (h .holds)))
+    subst (λ (a : Stage). Promised a (view s) []) (sym over)
+    (none-promise (view s) (subst (λ (a : Stage). Holds a (view s)) over (h .holds)))
 
 told : (xs : List Item) (s : State) → Kept s → Told s (runs s xs)
 unfolding runs next stateAfter
 told [] s h = if-case (Told s) (isDue (dueAfter (s .phase) endOfImage)) (ended []) (stopped 3 0 0) (λ e. told-end s h e) (λ _. tt)
 told (x ∷ xs) s h =
     by-step (λ (r : Next). Told s (next r (λ t. runs t xs))) s x
-    (λ p f. told-further s (stateBehind s x p) (eventsOf s (kindIn (s .phase) x) (bytesIn x)) (runs (stateBehind s x p) xs) (promise-step s x p h f) (told xs (stateBehind s x p) (kept-step s x p h f)))
+    (λ p f. told-further s (stateBehind s x p) (eventsOf s (kindIn (s .phase) x) (bytesIn x)) (runs (stateBehind s x p) xs)
+    (promise-step s x p h f) (told xs (stateBehind s x p) (kept-step s x p h f)))
     (λ k b _ _. tt)
 
 -- ---- the meaning
@@ -138,10 +145,12 @@ ended-legal (stopped k i b) e h = absurd e
 pub accepted-legal : (s : List ℕ) → imageVerdict s .number ≡ 0 → legalMeaning (content s) ≡ true
 unfolding content
 accepted-legal s h =
-    ended-legal (runs start (items s)) (all-ends start (items s) (accepted-iff s .0 h .followed)) (told (items s) start kept-start)
+    ended-legal (runs start (items s)) (all-ends start (items s) (accepted-iff s .0 h .followed))
+    (told (items s) start kept-start)
 
 -- so is the sheet with its meaning, a legal quota and legal names
-pub accepted-sheet : (s : List ℕ) (quota : ℕ) (names : List (List ℕ)) → imageVerdict s .number ≡ 0 → legalQuota quota ≡ true → legalNames names ≡ true
+pub accepted-sheet : (s : List ℕ) (quota : ℕ) (names : List (List ℕ)) → imageVerdict s .number ≡ 0 → legalQuota quota ≡ true
+    → legalNames names ≡ true
     → legalSheet (record { meaning = content s; quota = quota; names = names }) ≡ true
 unfolding legalSheet
 accepted-sheet s quota names h q n = if-true _ _ _ q ∙ (if-true _ _ _ n ∙ accepted-legal s h)

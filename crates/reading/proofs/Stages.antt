@@ -1,4 +1,5 @@
--- What holds at each stage of the reading of an accepted set, and what is promised there of all that is still handed out: one item at a time.
+-- What holds at each stage of the reading of an accepted set, and what is promised there of all that is still handed out: one
+-- item at a time.
 -- An invariant goes forwards over the items, a promise backwards over the events. Assumes nothing.
 use mathlib.Core.Path.{_≡_, refl, sym, ap, ap₂, _∙_, subst}
 use mathlib.Core.Bool.{Bool, true, false, false≢true}
@@ -110,12 +111,14 @@ isOpen reelOver g = g
 abbrev pub setAt : View → List Event → List ℕ
 setAt v es = ifB (eqb (v .files) 0) (setFrom es) (setOf (v .first))
 
--- of all that is handed out from here on: how many files there are in all, each legal; what the open file is owed, and nothing where none is open
+-- of all that is handed out from here on: how many files there are in all, each legal; what the open file is owed, and nothing
+-- where none is open
 pub record Promise (ongoing : Bool) (v : View) (es : List Event) : Type 0 where
   pub some : 1 ≤ v .files + length (collect es .files)
   pub few : v .files + length (collect es .files) ≤ 64
   pub legal : legalFiles (setAt v es) (collect es .files) ≡ true
-  pub owed : ongoing ≡ true → Owed (formatOf (v .second)) (valueOf (recordLengthOf (v .second))) (v .pending) (joined (collect es .segments))
+  pub owed : ongoing ≡ true
+      → Owed (formatOf (v .second)) (valueOf (recordLengthOf (v .second))) (v .pending) (joined (collect es .segments))
   pub none : ongoing ≡ false → collect es .segments ≡ []
 
 abbrev pub Promised : Stage → View → List Event → Type 0
@@ -124,7 +127,8 @@ Promised a v es = Promise (isOpen a (v .goesOn)) v es
 pub crossed-none : (bp : ℕ) → crossed bp .number ≡ 0 → bp ≡ 0
 unfolding crossed fault
 crossed-none bp =
-    if-case (λ (f : Fault). f .number ≡ 0 → bp ≡ 0) (eqb bp 0) (fault 0 0) (fault 6 bp) (λ e _. eqb-true bp 0 e) (λ _ q. absurd (eqb-false 6 0 refl q))
+    if-case (λ (f : Fault). f .number ≡ 0 → bp ≡ 0) (eqb bp 0) (fault 0 0) (fault 6 bp) (λ e _. eqb-true bp 0 e)
+    (λ _ q. absurd (eqb-false 6 0 refl q))
 
 pub lower-first : (a b : ℕ) → lower a b ≡ 0 → a ≡ 0
 unfolding lower
@@ -138,26 +142,31 @@ unfolding laterPlace setOf agreeAt ifB
 later-set f l h =
     same-true (part 21 6 f) (part 21 6 l)
     (all-hold (agreeAt perFile f l) hdr1
-    (lower-first (firstBad (agreeAt perFile f l) 0 hdr1) (ifB (says (valueOf (sectionOf f) + 1) (sectionOf l)) 0 (bpOf hdr1 sectionRow)) h) setRow refl)
+    (lower-first (firstBad (agreeAt perFile f l) 0 hdr1)
+    (ifB (says (valueOf (sectionOf f) + 1) (sectionOf l)) 0 (bpOf hdr1 sectionRow)) h) setRow refl)
 
 new-set : (n : ℕ) (f l : List ℕ) → newFilePlace n f l ≡ 0 → (n ≡ 0 → ⊥) → setOf f ≡ setOf l
 unfolding newFilePlace
 new-set n f l h other =
     if-case (λ (k : ℕ). k ≡ 0 → setOf f ≡ setOf l) (ifB (eqb n 0) true (same (setOf l) (setOf f))) _ 22
-    (λ e _. sym (same-true (setOf l) (setOf f) (sym (if-false (eqb n 0) true _ (ne-eqb n 0 other)) ∙ e))) (λ _ q. absurd (eqb-false 22 0 refl q)) h
+    (λ e _. sym (same-true (setOf l) (setOf f) (sym (if-false (eqb n 0) true _ (ne-eqb n 0 other)) ∙ e)))
+    (λ _ q. absurd (eqb-false 22 0 refl q)) h
 
 -- HDR1: the set identifier is that of the files before it
 first-set : (g : Bool) (n : ℕ) (f l : List ℕ) → firstHeaderFault g n f l .number ≡ 0 → (n ≡ 0 → ⊥) → setOf f ≡ setOf l
 unfolding firstHeaderFault
 first-set g n f l h other =
-    if-case (λ (x : Fault). x .number ≡ 0 → setOf f ≡ setOf l) g (crossed (laterPlace f l)) (orElse (crossed (newFilePlace n f l)) (fileFault n))
-    (λ _ q. later-set f l (crossed-none (laterPlace f l) q)) (λ _ q. new-set n f l (crossed-none (newFilePlace n f l) (or-first _ _ q)) other) h
+    if-case (λ (x : Fault). x .number ≡ 0 → setOf f ≡ setOf l) g (crossed (laterPlace f l))
+    (orElse (crossed (newFilePlace n f l)) (fileFault n))
+    (λ _ q. later-set f l (crossed-none (laterPlace f l) q))
+    (λ _ q. new-set n f l (crossed-none (newFilePlace n f l) (or-first _ _ q)) other) h
 
 -- and a new file is at most the 64th
 first-room : (n : ℕ) (f l : List ℕ) → firstHeaderFault false n f l .number ≡ 0 → n < 64
 unfolding firstHeaderFault fileFault fault
 first-room n f l h =
-    if-case (λ (x : Fault). x .number ≡ 0 → n < 64) (leb 64 n) (fault 9 0) (fault 0 0) (λ _ q. absurd (eqb-false 9 0 refl q)) (λ e _. leb-false 64 n e)
+    if-case (λ (x : Fault). x .number ≡ 0 → n < 64) (leb 64 n) (fault 9 0) (fault 0 0) (λ _ q. absurd (eqb-false 9 0 refl q))
+    (λ e _. leb-false 64 n e)
     (or-second (crossed (newFilePlace n f l)) (fileFault n) (ap (λ (x : Fault). x .number) (sym (if-false _ _ _ refl)) ∙ h))
 
 -- HDR2 of a later section: format, record length and offset length are those of the section before
@@ -165,7 +174,8 @@ pub second-same : (f l : List ℕ) → secondHeaderFault true f l .number ≡ 0
     → (formatOf f ≡ formatOf l) × (recordLengthOf f ≡ recordLengthOf l) × (offsetOf f ≡ offsetOf l)
 unfolding secondHeaderFault formatOf recordLengthOf offsetOf agreeAt ifB
 second-same f l h = (
-  byte-part 4 f ∙ ap (λ (x : List ℕ). getD x 0 0) (same-true (part 4 1 f) (part 4 1 l) (rows formatRow refl)) ∙ sym (byte-part 4 l),
+  byte-part 4 f ∙ ap (λ (x : List ℕ). getD x 0 0) (same-true (part 4 1 f) (part 4 1 l) (rows formatRow refl))
+      ∙ sym (byte-part 4 l),
   ap numberIn (same-true (part 10 5 f) (part 10 5 l) (rows recordLengthRow refl)),
   ap numberIn (same-true (part 50 2 f) (part 50 2 l) (rows offsetRow refl)),
 )
@@ -177,13 +187,15 @@ second-same f l h = (
 pub end-idle : (f : List ℕ) (c q : ℕ) (l : List ℕ) → fileEndFault f c q l .number ≡ 0 → q ≡ 0
 unfolding fileEndFault openFault fault
 end-idle f c q l h =
-    if-case (λ (x : Fault). x .number ≡ 0 → q ≡ 0) (eqb q 0) (fault 0 0) (fault 8 0) (λ e _. eqb-true q 0 e) (λ _ k. absurd (eqb-false 8 0 refl k))
+    if-case (λ (x : Fault). x .number ≡ 0 → q ≡ 0) (eqb q 0) (fault 0 0) (fault 8 0) (λ e _. eqb-true q 0 e)
+    (λ _ k. absurd (eqb-false 8 0 refl k))
     (or-second (firstTrailerFault f c l) (openFault q) h)
 
 -- ---- one item: the invariant behind it, and the promise before it
 
 -- HDR1
-pub first-holds : (n : ℕ) (g : Bool) (f s : List ℕ) (q : ℕ) (l : List ℕ) → Outside (viewOf n g f s q) → length l ≡ 80 → labelFault (hdr 1) l .number ≡ 0
+pub first-holds : (n : ℕ) (g : Bool) (f s : List ℕ) (q : ℕ) (l : List ℕ) → Outside (viewOf n g f s q) → length l ≡ 80
+    → labelFault (hdr 1) l .number ≡ 0
     → firstHeaderFault g n f l .number ≡ 0 → Named (viewOf n g l s q)
 first-holds n g f s q l h long sound e =
     record {
@@ -193,7 +205,8 @@ first-holds n g f s q l h long sound e =
       sound = sound;
     }
 
-pub first-promise : (n : ℕ) (g : Bool) (f s : List ℕ) (q : ℕ) (l : List ℕ) (es : List Event) → firstHeaderFault g n f l .number ≡ 0
+pub first-promise : (n : ℕ) (g : Bool) (f s : List ℕ) (q : ℕ) (l : List ℕ) (es : List Event)
+    → firstHeaderFault g n f l .number ≡ 0
     → Promise g (viewOf n g l s q) es → Promise g (viewOf n g f s q) es
 unfolding ifB
 first-promise n g f s q l es e h =
@@ -210,7 +223,8 @@ first-promise n g f s q l es e h =
     one-set false z = ap (ifB false (setFrom es)) (sym (first-set g n f l e (eqb-false n 0 z)))
 
 -- HDR2
-pub second-holds : (n : ℕ) (g : Bool) (f s : List ℕ) (q : ℕ) (l : List ℕ) → Named (viewOf n g f s q) → Within (viewOf (ifB g n (n + 1)) g f l q)
+pub second-holds : (n : ℕ) (g : Bool) (f s : List ℕ) (q : ℕ) (l : List ℕ) → Named (viewOf n g f s q)
+    → Within (viewOf (ifB g n (n + 1)) g f l q)
 second-holds n g f s q l h =
     record {
       some = if-case (λ (m : ℕ). 1 ≤ m) g n (n + 1) (λ on. h .outside .some on) (λ _. omega arith);
@@ -227,27 +241,33 @@ again-promise n f s q l es e h =
       legal = h .legal;
       owed = λ on.
           subst (λ (x : ℕ). Owed x (valueOf (recordLengthOf s)) q (joined (collect es .segments))) (sym (second-same s l e .0))
-          (subst (λ (x : Number). Owed (formatOf l) (valueOf x) q (joined (collect es .segments))) (sym (second-same s l e .1)) (h .owed on));
+          (subst (λ (x : Number). Owed (formatOf l) (valueOf x) q (joined (collect es .segments))) (sym (second-same s l e .1))
+          (h .owed on));
       none = h .none;
     }
 
-file-more : (set : List ℕ) (d : File) (ds : List File) → legalFile set d ≡ true → legalFiles set ds ≡ true → legalFiles set (d ∷ ds) ≡ true
+file-more : (set : List ℕ) (d : File) (ds : List File) → legalFile set d ≡ true → legalFiles set ds ≡ true
+    → legalFiles set (d ∷ ds) ≡ true
 unfolding legalFiles
 file-more set d ds h k = if-true _ _ _ h ∙ k
 
-file-legal : (set e : List ℕ) (rs : List (List ℕ)) → legalEntry set e ≡ true → legalRecords (formatFrom e) (recordLengthFrom e) rs ≡ true
+file-legal : (set e : List ℕ) (rs : List (List ℕ)) → legalEntry set e ≡ true
+    → legalRecords (formatFrom e) (recordLengthFrom e) rs ≡ true
     → legalFile set (record { fields = e; records = rs }) ≡ true
 unfolding legalFile
 file-legal set e rs h k = if-true _ _ _ h ∙ k
 
 -- a file that begins with labels without fault, and is owed nothing at its end, is legal
-begun-legal : (f l : List ℕ) (rs : List (List ℕ)) → length f ≡ 80 → length l ≡ 80 → labelFault (hdr 1) f .number ≡ 0 → labelFault (hdr 2) l .number ≡ 0
-    → legalRecords (formatOf l) (valueOf (recordLengthOf l)) rs ≡ true → legalFile (setOf f) (record { fields = fieldsFrom f l; records = rs }) ≡ true
+begun-legal : (f l : List ℕ) (rs : List (List ℕ)) → length f ≡ 80 → length l ≡ 80 → labelFault (hdr 1) f .number ≡ 0
+    → labelFault (hdr 2) l .number ≡ 0
+    → legalRecords (formatOf l) (valueOf (recordLengthOf l)) rs ≡ true
+    → legalFile (setOf f) (record { fields = fieldsFrom f l; records = rs }) ≡ true
 begun-legal f l rs lf ll hf hl h =
     file-legal (setOf f) (fieldsFrom f l) rs (entry-legal f l lf ll hf hl)
     (ap₂ (λ (a b : ℕ). legalRecords a b rs) (entry-format f l lf ll) (entry-record f l lf ll) ∙ h)
 
-begun-promise : (n : ℕ) (f s : List ℕ) (q : ℕ) (l : List ℕ) (es : List Event) → Named (viewOf n false f s q) → length l ≡ 80 → labelFault (hdr 2) l .number ≡ 0
+begun-promise : (n : ℕ) (f s : List ℕ) (q : ℕ) (l : List ℕ) (es : List Event) → Named (viewOf n false f s q) → length l ≡ 80
+    → labelFault (hdr 2) l .number ≡ 0
     → Promise true (viewOf (n + 1) false f l q) es → Promise false (viewOf n false f s q) (begins f l ∷ es)
 unfolding collect setFrom
 begun-promise n f s q l es start long sound h =
@@ -258,7 +278,8 @@ begun-promise n f s q l es start long sound h =
           subst (λ (x : List ℕ). legalFiles x (d ∷ collect es .files) ≡ true) (sym (if-same (eqb n 0) (setOf f)))
           (file-more (setOf f) d (collect es .files)
           (begun-legal f l (joined (collect es .segments)) (start .long) long (start .sound) sound owed)
-          (subst (λ (x : List ℕ). legalFiles x (collect es .files) ≡ true) (if-false (eqb (n + 1) 0) (setFrom es) (setOf f) (ne-eqb (n + 1) 0 (λ z. omega arith))) (h .legal)));
+          (subst (λ (x : List ℕ). legalFiles x (collect es .files) ≡ true)
+          (if-false (eqb (n + 1) 0) (setFrom es) (setOf f) (ne-eqb (n + 1) 0 (λ z. omega arith))) (h .legal)));
       owed = λ on. absurd (false≢true on);
       none = λ _. refl;
     }
@@ -267,9 +288,12 @@ begun-promise n f s q l es start long sound h =
     d = record { fields = fieldsFrom f l; records = joined (collect es .segments) }
 
     owed : legalRecords (formatOf l) (valueOf (recordLengthOf l)) (joined (collect es .segments)) ≡ true
-    owed = subst (λ (k : ℕ). Owed (formatOf l) (valueOf (recordLengthOf l)) k (joined (collect es .segments))) (start .outside .idle refl) (h .owed refl)
+    owed =
+        subst (λ (k : ℕ). Owed (formatOf l) (valueOf (recordLengthOf l)) k (joined (collect es .segments)))
+        (start .outside .idle refl) (h .owed refl)
 
-pub second-promise : (g : Bool) (n : ℕ) (f s : List ℕ) (q : ℕ) (l : List ℕ) (es : List Event) → Named (viewOf n g f s q) → length l ≡ 80
+pub second-promise : (g : Bool) (n : ℕ) (f s : List ℕ) (q : ℕ) (l : List ℕ) (es : List Event) → Named (viewOf n g f s q)
+    → length l ≡ 80
     → labelFault (hdr 2) l .number ≡ 0 → secondHeaderFault g s l .number ≡ 0
     → Promise true (viewOf (ifB g n (n + 1)) g f l q) es → Promise g (viewOf n g f s q) (ifB g (continues f l) (begins f l) ∷ es)
 unfolding ifB
@@ -279,19 +303,25 @@ second-promise false n f s q l es start long sound e h = begun-promise n f s q l
 -- a data block
 pub block-promise : (n : ℕ) (g : Bool) (f s : List ℕ) (q : ℕ) (l : List ℕ) (es : List Event) → outcomeIn s q l .number ≡ 0
     → Promise true (viewOf n g f s (outcomeIn s q l .pending)) es
-    → Promise true (viewOf n g f s q) (holds l (segmentsOf (units (formatOf s) (valueOf (blockLengthOf s)) (valueOf (recordLengthOf s)) (valueOf (offsetOf s)) l)) ∷ es)
+    → Promise true (viewOf n g f s q)
+    (holds l (segmentsOf (units (formatOf s) (valueOf (blockLengthOf s)) (valueOf (recordLengthOf s)) (valueOf (offsetOf s)) l)) ∷
+    es)
 unfolding collect setFrom outcomeIn blockOutcome
 block-promise n g f s q l es e h =
     record {
       some = h .some;
       few = h .few;
       legal = h .legal;
-      owed = λ on. block-owed (formatOf s) (valueOf (recordLengthOf s)) q _ (collect es .segments) (units-fair (formatOf s) (valueOf (blockLengthOf s)) (valueOf (recordLengthOf s)) (valueOf (offsetOf s)) l) e (h .owed on);
+      owed =
+          λ on. block-owed (formatOf s) (valueOf (recordLengthOf s)) q _ (collect es .segments)
+          (units-fair (formatOf s) (valueOf (blockLengthOf s)) (valueOf (recordLengthOf s)) (valueOf (offsetOf s)) l) e
+          (h .owed on);
       none = λ off. absurd (false≢true (sym off));
     }
 
 -- EOF1
-pub end-promise : (n : ℕ) (g : Bool) (f s : List ℕ) (q : ℕ) (es : List Event) → q ≡ 0 → Promise false (viewOf n false f s q) es → Promise true (viewOf n g f s q) es
+pub end-promise : (n : ℕ) (g : Bool) (f s : List ℕ) (q : ℕ) (es : List Event) → q ≡ 0 → Promise false (viewOf n false f s q) es
+    → Promise true (viewOf n g f s q) es
 unfolding joined legalRecords
 end-promise n g f s q es e h =
     record {
@@ -305,7 +335,8 @@ end-promise n g f s q es e h =
     }
 
 -- EOV1
-pub reel-promise : (n : ℕ) (g : Bool) (f s : List ℕ) (q : ℕ) (es : List Event) → Promise true (viewOf n true f s q) es → Promise true (viewOf n g f s q) es
+pub reel-promise : (n : ℕ) (g : Bool) (f s : List ℕ) (q : ℕ) (es : List Event) → Promise true (viewOf n true f s q) es
+    → Promise true (viewOf n g f s q) es
 reel-promise n g f s q es h = record { some = h .some; few = h .few; legal = h .legal; owed = h .owed; none = h .none }
 
 -- the end of the image

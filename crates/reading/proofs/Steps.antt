@@ -1,4 +1,5 @@
--- One item without fault: the invariant goes from the stage before it to the stage behind it, the promise the other way. Assumes nothing.
+-- One item without fault: the invariant goes from the stage before it to the stage behind it, the promise the other way. Assumes
+-- nothing.
 use mathlib.Core.Path.{_≡_, refl, sym, _∙_, subst}
 use mathlib.Core.List.{List, [], _++_}
 use Prim.Native.Nat.{ℕ}
@@ -45,37 +46,54 @@ context-none s k l h = or-second (labelFault k l) (contextFault s k l) h
 
 -- ---- the invariant
 
-pub step-holds : (s : State) (q : Phase) (l : List ℕ) {k : Kind} {a b : Stage} → Move k a b → (k .family ≡ 3 → length l ≡ 80) → Holds a (view s)
+pub step-holds : (s : State) (q : Phase) (l : List ℕ) {k : Kind} {a b : Stage} → Move k a b → (k .family ≡ 3 → length l ≡ 80)
+    → Holds a (view s)
     → itemFault s k l .number ≡ 0 → Holds b (view (stateAfter s q k l))
 unfolding stateAfter filesAfter goesOnAfter firstAfter secondAfter pendingAfter contextFault isKind ifB
 step-holds s q l {k} (stays {a = a} c) long h e = subst (Holds a) (sym (view-quiet s q k l c)) h
 step-holds s q l {k} (nextReel c) long h e = subst Outside (sym (view-quiet s q k l c)) (reel-outside (view s) h)
 step-holds s q l header1 long h e =
-    first-holds (s .files) (s .goesOn) (s .first) (s .second) (s .pending) l h (long refl) (label-none s (hdr 1) l e) (context-none s (hdr 1) l e)
+    first-holds (s .files) (s .goesOn) (s .first) (s .second) (s .pending) l h (long refl) (label-none s (hdr 1) l e)
+    (context-none s (hdr 1) l e)
 step-holds s q l nextFile long h e =
-    first-holds (s .files) (s .goesOn) (s .first) (s .second) (s .pending) l (file-outside (view s) h) (long refl) (label-none s (hdr 1) l e) (context-none s (hdr 1) l e)
+    first-holds (s .files) (s .goesOn) (s .first) (s .second) (s .pending) l (file-outside (view s) h) (long refl)
+    (label-none s (hdr 1) l e) (context-none s (hdr 1) l e)
 step-holds s q l header2 long h e = second-holds (s .files) (s .goesOn) (s .first) (s .second) (s .pending) l h
 step-holds s q l datum long h e = record { some = h .some; few = h .few }
 step-holds s q l eof1 long h e =
-    record { within = record { some = h .some; few = h .few }; off = refl; idle = end-idle (s .first) (s .count) (s .pending) l (context-none s (eof 1) l e) }
+    record {
+      within = record { some = h .some; few = h .few };
+      off = refl;
+      idle = end-idle (s .first) (s .count) (s .pending) l
+          (context-none s (eof 1) l e);
+    }
 step-holds s q l eov1 long h e = record { within = record { some = h .some; few = h .few }; on = refl }
 step-holds s q l finish long h e = h
 
 -- ---- the promise
 
-pub step-promise : (s : State) (q : Phase) (l : List ℕ) {k : Kind} {a b : Stage} → Move k a b → (k .family ≡ 3 → length l ≡ 80) → Holds a (view s)
-    → itemFault s k l .number ≡ 0 → (es : List Event) → Promised b (view (stateAfter s q k l)) es → Promised a (view s) (eventsOf s k l ++ es)
+pub step-promise : (s : State) (q : Phase) (l : List ℕ) {k : Kind} {a b : Stage} → Move k a b → (k .family ≡ 3 → length l ≡ 80)
+    → Holds a (view s)
+    → itemFault s k l .number ≡ 0 → (es : List Event) → Promised b (view (stateAfter s q k l)) es
+    → Promised a (view s) (eventsOf s k l ++ es)
 unfolding stateAfter filesAfter goesOnAfter firstAfter secondAfter pendingAfter eventsOf segmentsIn contextFault blockFault fault isKind ifB
 step-promise s q l {k} (stays {a = a} c) long h e es p =
-    subst (λ (xs : List Event). Promised a (view s) (xs ++ es)) (sym (events-quiet s k l c)) (subst (λ (v : View). Promised a v es) (view-quiet s q k l c) p)
+    subst (λ (xs : List Event). Promised a (view s) (xs ++ es)) (sym (events-quiet s k l c))
+    (subst (λ (v : View). Promised a v es) (view-quiet s q k l c) p)
 step-promise s q l {k} (nextReel c) long h e es p =
-    subst (λ (xs : List Event). Promised reelOver (view s) (xs ++ es)) (sym (events-quiet s k l c)) (subst (λ (v : View). Promised reelOver v es) (view-quiet s q k l c) p)
-step-promise s q l header1 long h e es p = first-promise (s .files) (s .goesOn) (s .first) (s .second) (s .pending) l es (context-none s (hdr 1) l e) p
-step-promise s q l nextFile long h e es p = first-promise (s .files) (s .goesOn) (s .first) (s .second) (s .pending) l es (context-none s (hdr 1) l e) p
+    subst (λ (xs : List Event). Promised reelOver (view s) (xs ++ es)) (sym (events-quiet s k l c))
+    (subst (λ (v : View). Promised reelOver v es) (view-quiet s q k l c) p)
+step-promise s q l header1 long h e es p =
+    first-promise (s .files) (s .goesOn) (s .first) (s .second) (s .pending) l es (context-none s (hdr 1) l e) p
+step-promise s q l nextFile long h e es p =
+    first-promise (s .files) (s .goesOn) (s .first) (s .second) (s .pending) l es (context-none s (hdr 1) l e) p
 step-promise s q l header2 long h e es p =
-    second-promise (s .goesOn) (s .files) (s .first) (s .second) (s .pending) l es h (long refl) (label-none s (hdr 2) l e) (context-none s (hdr 2) l e) p
-step-promise s q l datum long h e es p = block-promise (s .files) (s .goesOn) (s .first) (s .second) (s .pending) l es (context-none s dataBlock l e) p
+    second-promise (s .goesOn) (s .files) (s .first) (s .second) (s .pending) l es h (long refl) (label-none s (hdr 2) l e)
+    (context-none s (hdr 2) l e) p
+step-promise s q l datum long h e es p =
+    block-promise (s .files) (s .goesOn) (s .first) (s .second) (s .pending) l es (context-none s dataBlock l e) p
 step-promise s q l eof1 long h e es p =
-    end-promise (s .files) (s .goesOn) (s .first) (s .second) (s .pending) es (end-idle (s .first) (s .count) (s .pending) l (context-none s (eof 1) l e)) p
+    end-promise (s .files) (s .goesOn) (s .first) (s .second) (s .pending) es
+    (end-idle (s .first) (s .count) (s .pending) l (context-none s (eof 1) l e)) p
 step-promise s q l eov1 long h e es p = reel-promise (s .files) (s .goesOn) (s .first) (s .second) (s .pending) es p
 step-promise s q l finish long h e es p = p

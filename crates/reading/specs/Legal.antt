@@ -1,5 +1,7 @@
--- The order sheet (a term of document 01): a meaning, a quota of data blocks a reel and 1 to 16 reel names; and which sheets are legal (number
--- 11 else). A field, a name or a record is legal exactly where an accepted set written this way could hold it: a field where the label that the
+-- The order sheet (a term of document 01): a meaning, a quota of data blocks a reel and 1 to 16 reel names; and which sheets are
+-- legal (number
+-- 11 else). A field, a name or a record is legal exactly where an accepted set written this way could hold it: a field where the
+-- label that the
 -- writer makes of it has no fault, by the same judgement as on reading.
 use mathlib.Core.Bool.{Bool, true, false, not}
 use mathlib.Core.List.{List, [], _∷_, _++_}
@@ -52,7 +54,8 @@ legalEntry set e =
     false)
     false
 
--- a record in a file of format f and record length r. F: R bytes, not all of them 5E. D: with its control word at most R, and at most the 9,999
+-- a record in a file of format f and record length r. F: R bytes, not all of them 5E. D: with its control word at most R, and at
+-- most the 9,999
 -- that four digits can say. S: at most R.
 unfoldable pub legalRecord : ℕ → ℕ → List ℕ → Bool
 legalRecord f r x =
@@ -65,7 +68,8 @@ legalRecords f r [] = true
 legalRecords f r (x ∷ xs) = ifB (legalRecord f r x) (legalRecords f r xs) false
 
 unfoldable pub legalFile : List ℕ → File → Bool
-legalFile set d = ifB (legalEntry set (d .fields)) (legalRecords (formatFrom (d .fields)) (recordLengthFrom (d .fields)) (d .records)) false
+legalFile set d =
+    ifB (legalEntry set (d .fields)) (legalRecords (formatFrom (d .fields)) (recordLengthFrom (d .fields)) (d .records)) false
 
 unfoldable pub legalFiles : List ℕ → List File → Bool
 legalFiles set [] = true
@@ -73,7 +77,8 @@ legalFiles set (d ∷ ds) = ifB (legalFile set d) (legalFiles set ds) false
 
 -- one file or more, at most 64 (more are 9), each legal
 unfoldable pub legalMeaning : Meaning → Bool
-legalMeaning m = ifB (leb 1 (length (m .files))) (ifB (leb (length (m .files)) mostFiles) (legalFiles (m .set) (m .files)) false) false
+legalMeaning m =
+    ifB (leb 1 (length (m .files))) (ifB (leb (length (m .files)) mostFiles) (legalFiles (m .set) (m .files)) false) false
 
 -- a reel name: six bytes, of which the volume label made has no fault
 unfoldable pub legalName : List ℕ → Bool

@@ -1,4 +1,5 @@
--- A call's answer at what its arguments are equal to: one law for each function that is called on the answers of calls. Assumes nothing.
+-- A call's answer at what its arguments are equal to: one law for each function that is called on the answers of calls. Assumes
+-- nothing.
 use mathlib.Core.Path.{_≡_}
 use mathlib.Core.List.{List}
 use Prim.Native.Nat.{ℕ}

@@ -54,7 +54,8 @@ unfolding inParts inPartsF
 parts-some w [] z h = absurd (omega arith)
 parts-some w (x ∷ s) z h =
     let e = length-drop w (x ∷ s) in
-    ap (λ (r : List (List ℕ)). take w (x ∷ s) ∷ r) (parts-enough (length s) (length (drop w (x ∷ s))) w (drop w (x ∷ s)) z (omega arith) (omega arith))
+    ap (λ (r : List (List ℕ)). take w (x ∷ s) ∷ r)
+    (parts-enough (length s) (length (drop w (x ∷ s))) w (drop w (x ∷ s)) z (omega arith) (omega arith))
 
 -- a part of full length before others
 pub parts-cons : (w : ℕ) (s t : List ℕ) → 0 < w → length s ≡ w → inParts w (s ++ t) ≡ s ∷ inParts w t

@@ -50,7 +50,8 @@ pub ruleset bytes = (format-there, format-none, length-said, length-unsaid, need
 abbrev pub file : List ℕ → List (List ℕ) → File
 file e rs = record { fields = e; records = rs }
 
-pub entry-right : (set e ls s : List ℕ) (from f r : ℕ) (p : Bool) (x : Passed) → p ≡ legalEntry set e → p ≡ true → f ≡ formatFrom e
+pub entry-right : (set e ls s : List ℕ) (from f r : ℕ) (p : Bool) (x : Passed) → p ≡ legalEntry set e → p ≡ true
+    → f ≡ formatFrom e
     → r ≡ recordLengthFrom e → RecordsPassed (legalRecords f r (cutBy ls (drop from s))) ls from x
     → RecordsPassed (legalFile set (file e (cutBy ls (drop from s)))) ls from x
 unfolding legalFile
@@ -85,7 +86,8 @@ files-at : (set files counts ls s : List ℕ) (entry i : ℕ) → entry < length
     → legalFiles set (filesFrom (inParts 46 (drop entry files)) (drop i counts) ls s)
     ≡ ifB (legalFile set (file (part entry 46 files) (cutBy (take (getD counts i 0) ls) s)))
     (legalFiles set
-    (filesFrom (inParts 46 (drop 46 (drop entry files))) (drop (i + 1) counts) (drop (getD counts i 0) ls) (drop (sum (take (getD counts i 0) ls)) s)))
+    (filesFrom (inParts 46 (drop 46 (drop entry files))) (drop (i + 1) counts) (drop (getD counts i 0) ls)
+    (drop (sum (take (getD counts i 0) ls)) s)))
     false
 unfolding legalFiles filesFrom part
 files-at set files counts ls s entry i h k =
@@ -99,15 +101,18 @@ left-none set files counts lengths s h = record { within = omega arith; fits = o
 sum-parts : (n : ℕ) (ls : List ℕ) → sum ls ≡ sum (take n ls) + sum (drop n ls)
 sum-parts n ls = ap sum (sym (take-append-drop n ls)) ∙ sum-append (take n ls) (drop n ls)
 
-pub left-room : (set files counts lengths s : List ℕ) (entry first at i end : ℕ) → FilesLeft set files counts lengths s entry first at i
+pub left-room : (set files counts lengths s : List ℕ) (entry first at i end : ℕ)
+    → FilesLeft set files counts lengths s entry first at i
     → at + sum (take (end - first) (drop first lengths)) ≤ length s
 left-room set files counts lengths s entry first at i end c = omega (arith, c .fits, sum-parts (end - first) (drop first lengths))
 
 pub left-more : (set files counts lengths s : List ℕ) (entry first at i : ℕ) (e : List ℕ) (end next : ℕ) (x : Passed)
     → FilesLeft set files counts lengths s entry first at i → i < length counts → entry < length files → e ≡ part entry 46 files
     → end ≡ min (first + getD counts i 0) (length lengths)
-    → RecordsPassed (legalFile set (file e (cutBy (take (end - first) (drop first lengths)) (drop at s)))) (take (end - first) (drop first lengths)) at x
-    → not (x .legal) ≡ false → next ≡ min (entry + 46) (length files) → FilesLeft set files counts lengths s next end (x .at) (i + 1)
+    → RecordsPassed (legalFile set (file e (cutBy (take (end - first) (drop first lengths)) (drop at s))))
+    (take (end - first) (drop first lengths)) at x
+    → not (x .legal) ≡ false → next ≡ min (entry + 46) (length files)
+    → FilesLeft set files counts lengths s next end (x .at) (i + 1)
 left-more set files counts lengths s entry first at i e end next x c h k ee el b n en =
     let ls : take (end - first) (drop first lengths) ≡ take (getD counts i 0) (drop first lengths) = take-past first (getD counts i 0) end lengths el in
     let yes : legalFile set (file (part entry 46 files) (cutBy (take (getD counts i 0) (drop first lengths)) (drop at s))) ≡ true
@@ -123,10 +128,14 @@ left-more set files counts lengths s entry first at i e end next x c h k ee el b
       within = omega arith;
       fits = omega (arith, c .fits, spot, sum-parts (getD counts i 0) (drop first lengths), ap sum behind);
       left =
-          ap (λ (l : List ℕ). legalFiles set (filesFrom (inParts 46 l) (drop (i + 1) counts) (drop end lengths) (drop (x .at) s))) (drop-past entry 46 next files en)
-          ∙ ap (λ (l : List ℕ). legalFiles set (filesFrom (inParts 46 (drop 46 (drop entry files))) (drop (i + 1) counts) l (drop (x .at) s)))
+          ap (λ (l : List ℕ). legalFiles set (filesFrom (inParts 46 l) (drop (i + 1) counts) (drop end lengths) (drop (x .at) s)))
+          (drop-past entry 46 next files en)
+          ∙ ap (λ (l : List ℕ). legalFiles set
+          (filesFrom (inParts 46 (drop 46 (drop entry files))) (drop (i + 1) counts) l (drop (x .at) s)))
           (drop-past first (getD counts i 0) end lengths el)
-          ∙ ap (λ (l : List ℕ). legalFiles set (filesFrom (inParts 46 (drop 46 (drop entry files))) (drop (i + 1) counts) (drop (getD counts i 0) (drop first lengths)) l)) place
+          ∙ ap (λ (l : List ℕ). legalFiles set
+          (filesFrom (inParts 46 (drop 46 (drop entry files))) (drop (i + 1) counts)
+          (drop (getD counts i 0) (drop first lengths)) l)) place
           ∙ sym (files-at set files counts (drop first lengths) (drop at s) entry i k h ∙ if-true _ _ _ yes)
           ∙ c .left;
     }
@@ -134,7 +143,8 @@ left-more set files counts lengths s entry first at i e end next x c h k ee el b
 pub left-wrong : (set files counts lengths s : List ℕ) (entry first at i : ℕ) (e : List ℕ) (end : ℕ) (x : Passed)
     → FilesLeft set files counts lengths s entry first at i → i < length counts → entry < length files → e ≡ part entry 46 files
     → end ≡ min (first + getD counts i 0) (length lengths)
-    → RecordsPassed (legalFile set (file e (cutBy (take (end - first) (drop first lengths)) (drop at s)))) (take (end - first) (drop first lengths)) at x
+    → RecordsPassed (legalFile set (file e (cutBy (take (end - first) (drop first lengths)) (drop at s))))
+    (take (end - first) (drop first lengths)) at x
     → not (x .legal) ≡ true → false ≡ legalFiles set (filesFrom (inParts 46 files) counts lengths s)
 left-wrong set files counts lengths s entry first at i e end x c h k ee el b n =
     let ls : take (end - first) (drop first lengths) ≡ take (getD counts i 0) (drop first lengths) = take-past first (getD counts i 0) end lengths el in
@@ -153,18 +163,22 @@ unfolding legalFiles filesFrom
 no-count set [] ls s = refl
 no-count set (e ∷ es) ls s = refl
 
-pub left-entries : (set files counts lengths s : List ℕ) (entry first at i : ℕ) → FilesLeft set files counts lengths s entry first at i → length files ≤ entry
+pub left-entries : (set files counts lengths s : List ℕ) (entry first at i : ℕ)
+    → FilesLeft set files counts lengths s entry first at i → length files ≤ entry
     → true ≡ legalFiles set (filesFrom (inParts 46 files) counts lengths s)
 left-entries set files counts lengths s entry first at i c h =
-    sym (ap (λ (l : List ℕ). legalFiles set (filesFrom (inParts 46 l) (drop i counts) (drop first lengths) (drop at s))) (drop-of-length-le files h)
+    sym (ap (λ (l : List ℕ). legalFiles set (filesFrom (inParts 46 l) (drop i counts) (drop first lengths) (drop at s)))
+    (drop-of-length-le files h)
     ∙ ap (λ (es : List (List ℕ)). legalFiles set (filesFrom es (drop i counts) (drop first lengths) (drop at s))) (parts-none 46)
     ∙ no-entry set (drop i counts) (drop first lengths) (drop at s))
     ∙ c .left
 
-pub left-counts : (set files counts lengths s : List ℕ) (entry first at i : ℕ) → FilesLeft set files counts lengths s entry first at i → length counts ≤ i
+pub left-counts : (set files counts lengths s : List ℕ) (entry first at i : ℕ)
+    → FilesLeft set files counts lengths s entry first at i → length counts ≤ i
     → true ≡ legalFiles set (filesFrom (inParts 46 files) counts lengths s)
 left-counts set files counts lengths s entry first at i c h =
-    sym (ap (λ (l : List ℕ). legalFiles set (filesFrom (inParts 46 (drop entry files)) l (drop first lengths) (drop at s))) (drop-of-length-le counts h)
+    sym (ap (λ (l : List ℕ). legalFiles set (filesFrom (inParts 46 (drop entry files)) l (drop first lengths) (drop at s)))
+    (drop-of-length-le counts h)
     ∙ no-count set (inParts 46 (drop entry files)) (drop first lengths) (drop at s))
     ∙ c .left
 

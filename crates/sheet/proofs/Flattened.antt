@@ -74,7 +74,8 @@ files-back (d ∷ ds) =
     ap (λ (k : List ℕ). record { fields = d .fields; records = cutBy k (bs ++ bytesOf ds) }
     ∷ filesFrom (entriesOf ds) (countsOf ds) (drop n (ls ++ lengthsOf ds)) (drop (sum k) (bs ++ bytesOf ds))) first
     ∙ ap (λ (r : List (List ℕ)). record { fields = d .fields; records = r }
-    ∷ filesFrom (entriesOf ds) (countsOf ds) (drop n (ls ++ lengthsOf ds)) (drop (sum ls) (bs ++ bytesOf ds))) (cut-back (d .records) (bytesOf ds))
+    ∷ filesFrom (entriesOf ds) (countsOf ds) (drop n (ls ++ lengthsOf ds)) (drop (sum ls) (bs ++ bytesOf ds)))
+    (cut-back (d .records) (bytesOf ds))
     ∙ ap (λ (k : List ℕ). d ∷ filesFrom (entriesOf ds) (countsOf ds) k (drop (sum ls) (bs ++ bytesOf ds))) rest
     ∙ ap (λ (k : List ℕ). d ∷ filesFrom (entriesOf ds) (countsOf ds) (lengthsOf ds) k) behind
     ∙ ap (λ (r : List File). d ∷ r) (files-back ds)
@@ -127,7 +128,8 @@ meaning-long m h =
 
 module _ (m : Meaning) (q : ℕ) (names : List (List ℕ)) where
   -- the slices say just this meaning, quota and names
-  pub flat-of : legalMeaning m ≡ true → allLong 6 names ≡ true → sheetOf (flatten m q names) ≡ record { meaning = m; quota = q; names = names }
+  pub flat-of : legalMeaning m ≡ true → allLong 6 names ≡ true
+      → sheetOf (flatten m q names) ≡ record { meaning = m; quota = q; names = names }
   unfolding sheetOf flatten
   flat-of h k =
       ap (λ (es : List (List ℕ)). record {
@@ -135,7 +137,12 @@ module _ (m : Meaning) (q : ℕ) (names : List (List ℕ)) where
         quota = q;
         names = inParts 6 (endToEnd names);
       }) (parts-back 46 (entriesOf (m .files)) (omega arith) (meaning-long m h))
-      ∙ ap (λ (ds : List File). record { meaning = record { set = m .set; files = ds }; quota = q; names = inParts 6 (endToEnd names) }) (files-back (m .files))
+      ∙ ap (λ (ds : List File). record {
+        meaning = record { set = m .set; files = ds };
+        quota = q;
+        names = inParts 6
+            (endToEnd names);
+      }) (files-back (m .files))
       ∙ ap (λ (ns : List (List ℕ)). record { meaning = m; quota = q; names = ns }) (parts-back 6 names (omega arith) k)
 
   -- and they add up

@@ -28,7 +28,8 @@ pub name-short : (n : List ℕ) → (length n ≡ 6 → ⊥) → false ≡ legal
 unfolding legalName
 name-short n h = sym (if-false _ _ _ (ne-eqb (length n) 6 h))
 
-pub name-judged : (n l : List ℕ) (f : Fault) → length n ≡ 6 → l ≡ madeVolume n → f ≡ labelFault (vol 1) l → eqb (f .number) 0 ≡ legalName n
+pub name-judged : (n l : List ℕ) (f : Fault) → length n ≡ 6 → l ≡ madeVolume n → f ≡ labelFault (vol 1) l
+    → eqb (f .number) 0 ≡ legalName n
 unfolding legalName isSound
 name-judged n l f h e q =
     ap (λ (g : Fault). eqb (g .number) 0) (q ∙ ap (labelFault (vol 1)) e) ∙ sym (if-true _ _ _ (eq-eqb (length n) 6 h))
@@ -57,7 +58,9 @@ pub sought-more : (v s : List ℕ) (at b : ℕ) (p : Bool) → Sought v s at →
     → b ≡ min (at + 6) (length s) → Sought v s b
 sought-more v s at b p c h e n q =
     record {
-      left = ap (λ (l : List ℕ). isAmong v (inParts 6 l)) (drop-past at 6 b s q) ∙ sym (among-at v s at h ∙ if-false _ _ _ (sym e ∙ n)) ∙ c .left;
+      left =
+          ap (λ (l : List ℕ). isAmong v (inParts 6 l)) (drop-past at 6 b s q)
+          ∙ sym (among-at v s at h ∙ if-false _ _ _ (sym e ∙ n)) ∙ c .left;
     }
 
 pub sought-found : (v s : List ℕ) (at : ℕ) (p : Bool) → Sought v s at → at < length s → p ≡ same v (part at 6 s) → p ≡ true
@@ -89,7 +92,8 @@ fresh-at used s at h = rw (names-at s at h)
 pub legal-long : (n : List ℕ) → legalName n ≡ true → length n ≡ 6
 unfolding legalName
 legal-long n h =
-    if-case (λ (b : Bool). b ≡ true → length n ≡ 6) (eqb (length n) 6) _ false (λ e q. eqb-true (length n) 6 e) (λ e q. absurd (false≢true q)) h
+    if-case (λ (b : Bool). b ≡ true → length n ≡ 6) (eqb (length n) 6) _ false (λ e q. eqb-true (length n) 6 e)
+    (λ e q. absurd (false≢true q)) h
 
 -- a legal name is whole: six bytes stand there
 fresh-room : (s : List ℕ) (at : ℕ) → legalName (part at 6 s) ≡ true → at + 6 ≤ length s
@@ -101,7 +105,8 @@ fresh-room s at h =
     omega arith
 
 -- one name more behind whole ones
-parts-more : (s : List ℕ) (at : ℕ) → at % 6 ≡ 0 → at + 6 ≤ length s → inParts 6 (take (at + 6) s) ≡ inParts 6 (take at s) ++ (part at 6 s ∷ [])
+parts-more : (s : List ℕ) (at : ℕ) → at % 6 ≡ 0 → at + 6 ≤ length s
+    → inParts 6 (take (at + 6) s) ≡ inParts 6 (take at s) ++ (part at 6 s ∷ [])
 unfolding part
 parts-more s at e h =
     let front : length (take at s) ≡ at / 6 * 6 = length-take-le at s (omega arith) ∙ omega arith in
@@ -116,12 +121,20 @@ parts-more s at e h =
     ∙ ap (λ (r : List (List ℕ)). take 6 (drop at s) ∷ r) (parts-none 6))
 
 pub fresh-none : (s : List ℕ) → Fresh s 0
-fresh-none s = record { within = omega arith; whole = omega arith; left = ap (λ (r : List (List ℕ)). freshNames r (inParts 6 s)) (parts-none 6) }
+fresh-none s =
+    record {
+      within = omega arith;
+      whole = omega arith;
+      left = ap (λ (r : List (List ℕ)). freshNames r (inParts 6 s))
+          (parts-none 6);
+    }
 
-pub fresh-fits : (s : List ℕ) (at : ℕ) (name : List ℕ) (p : Bool) → name ≡ part at 6 s → p ≡ legalName name → not p ≡ false → at + 6 ≤ length s
+pub fresh-fits : (s : List ℕ) (at : ℕ) (name : List ℕ) (p : Bool) → name ≡ part at 6 s → p ≡ legalName name → not p ≡ false
+    → at + 6 ≤ length s
 fresh-fits s at name p n e t = fresh-room s at (ap legalName (sym n) ∙ sym e ∙ not-false p t)
 
-pub fresh-more : (s : List ℕ) (at : ℕ) (name : List ℕ) (p q : Bool) → Fresh s at → at < length s → name ≡ part at 6 s → p ≡ legalName name → not p ≡ false
+pub fresh-more : (s : List ℕ) (at : ℕ) (name : List ℕ) (p q : Bool) → Fresh s at → at < length s → name ≡ part at 6 s
+    → p ≡ legalName name → not p ≡ false
     → q ≡ isAmong name (inParts 6 (take at s)) → q ≡ false → Fresh s (at + 6)
 fresh-more s at name p q c h n e t f u =
     let yes : legalName (part at 6 s) ≡ true = ap legalName (sym n) ∙ sym e ∙ not-false p t in
@@ -138,12 +151,14 @@ fresh-more s at name p q c h n e t f u =
           ∙ c .left;
     }
 
-pub fresh-wrong : (s : List ℕ) (at : ℕ) (name : List ℕ) (p : Bool) → Fresh s at → at < length s → name ≡ part at 6 s → p ≡ legalName name → not p ≡ true
+pub fresh-wrong : (s : List ℕ) (at : ℕ) (name : List ℕ) (p : Bool) → Fresh s at → at < length s → name ≡ part at 6 s
+    → p ≡ legalName name → not p ≡ true
     → false ≡ freshNames [] (inParts 6 s)
 fresh-wrong s at name p c h n e t =
     sym (fresh-at (inParts 6 (take at s)) s at h ∙ if-false _ _ _ (ap legalName (sym n) ∙ sym e ∙ not-true p t)) ∙ c .left
 
-pub fresh-again : (s : List ℕ) (at : ℕ) (name : List ℕ) (p q : Bool) → Fresh s at → at < length s → name ≡ part at 6 s → p ≡ legalName name → not p ≡ false
+pub fresh-again : (s : List ℕ) (at : ℕ) (name : List ℕ) (p q : Bool) → Fresh s at → at < length s → name ≡ part at 6 s
+    → p ≡ legalName name → not p ≡ false
     → q ≡ isAmong name (inParts 6 (take at s)) → q ≡ true → false ≡ freshNames [] (inParts 6 s)
 fresh-again s at name p q c h n e t f u =
     sym (fresh-at (inParts 6 (take at s)) s at h ∙ if-true _ _ _ (ap legalName (sym n) ∙ sym e ∙ not-false p t)

@@ -1,4 +1,5 @@
--- Laws of the numbers given back for a sheet: the tests of the code, in their order, decide as the definitions do. Assumes nothing.
+-- Laws of the numbers given back for a sheet: the tests of the code, in their order, decide as the definitions do. Assumes
+-- nothing.
 use mathlib.Core.Path.{_≡_, refl, sym, ap, _∙_}
 use mathlib.Core.Bool.{Bool, true, false, not}
 use mathlib.Core.List.{List, [], _∷_}
@@ -42,7 +43,8 @@ module _ (q : ℕ) (names : List ℕ) where
   reels-odd h k = sym (if-false _ _ _ (le-ltb 16 (length names / 6) h) ∙ if-false _ _ _ (ne-eqb (length names % 6) 0 k))
 
   -- whole names, and not too many
-  reels-whole : length names / 6 ≤ 16 → length names % 6 ≡ 0 → reelsNumber q names ≡ ifB (legalQuota q) (ifB (legalNames (inParts 6 names)) 0 11) 11
+  reels-whole : length names / 6 ≤ 16 → length names % 6 ≡ 0
+      → reelsNumber q names ≡ ifB (legalQuota q) (ifB (legalNames (inParts 6 names)) 0 11) 11
   unfolding reelsNumber
   reels-whole h k = if-false _ _ _ (le-ltb 16 (length names / 6) h) ∙ if-true _ _ _ (eq-eqb (length names % 6) 0 k)
 
@@ -54,7 +56,8 @@ module _ (q : ℕ) (names : List ℕ) where
       ∙ ap (λ (n : ℕ). ifB (legalQuota q) n 11) (if-false _ _ _ refl)
       ∙ if-same (legalQuota q) 11)
 
-  pub reels-quota : (p : Bool) → length names / 6 ≤ 16 → length names % 6 ≡ 0 → p ≡ legalQuota q → not p ≡ true → 11 ≡ reelsNumber q names
+  pub reels-quota : (p : Bool) → length names / 6 ≤ 16 → length names % 6 ≡ 0 → p ≡ legalQuota q → not p ≡ true
+      → 11 ≡ reelsNumber q names
   reels-quota p h k e t = sym (reels-whole h k ∙ if-false _ _ _ (sym e ∙ not-true p t))
 
   -- a legal quota and one name or more
@@ -65,11 +68,13 @@ module _ (q : ℕ) (names : List ℕ) where
       let some : 1 ≤ length names / 6 = omega arith in
       reels-whole h k ∙ if-true _ _ _ e ∙ ap (λ (b : Bool). ifB b 0 11) (some-names (inParts 6 names) (omega arith) (omega arith))
 
-  pub reels-wrong : (p t : Bool) → length names / 6 ≤ 16 → length names % 6 ≡ 0 → (length names ≡ 0 → ⊥) → p ≡ legalQuota q → not p ≡ false
+  pub reels-wrong : (p t : Bool) → length names / 6 ≤ 16 → length names % 6 ≡ 0 → (length names ≡ 0 → ⊥) → p ≡ legalQuota q
+      → not p ≡ false
       → t ≡ freshNames [] (inParts 6 names) → not t ≡ true → 11 ≡ reelsNumber q names
   reels-wrong p t h k z e u f v = sym (reels-some h k z (sym e ∙ not-false p u) ∙ if-false _ _ _ (sym f ∙ not-true t v))
 
-  pub reels-right : (p t : Bool) → length names / 6 ≤ 16 → length names % 6 ≡ 0 → (length names ≡ 0 → ⊥) → p ≡ legalQuota q → not p ≡ false
+  pub reels-right : (p t : Bool) → length names / 6 ≤ 16 → length names % 6 ≡ 0 → (length names ≡ 0 → ⊥) → p ≡ legalQuota q
+      → not p ≡ false
       → t ≡ freshNames [] (inParts 6 names) → not t ≡ false → 0 ≡ reelsNumber q names
   reels-right p t h k z e u f v = sym (reels-some h k z (sym e ∙ not-false p u) ∙ if-true _ _ _ (sym f ∙ not-false t v))
 
@@ -82,18 +87,22 @@ module _ (set files counts lengths bytes : List ℕ) where
   unfolding saysFiles
   says-uneven h = sym (if-false _ _ _ (ne-eqb (length files % 46) 0 h))
 
-  pub says-other : length files % 46 ≡ 0 → (length files / 46 ≡ length counts → ⊥) → false ≡ saysFiles set files counts lengths bytes
+  pub says-other : length files % 46 ≡ 0 → (length files / 46 ≡ length counts → ⊥)
+      → false ≡ saysFiles set files counts lengths bytes
   unfolding saysFiles
-  says-other h k = sym (if-true _ _ _ (eq-eqb (length files % 46) 0 h) ∙ if-false _ _ _ (ne-eqb (length files / 46) (length counts) k))
+  says-other h k =
+      sym (if-true _ _ _ (eq-eqb (length files % 46) 0 h) ∙ if-false _ _ _ (ne-eqb (length files / 46) (length counts) k))
 
   -- whole entries, as many as there are counts
   says-whole : length files % 46 ≡ 0 → length files / 46 ≡ length counts
       → saysFiles set files counts lengths bytes
-      ≡ ifB (eqb (length counts) 0) false (ifB (eqb (sum counts) (length lengths)) (fillBytes set files counts lengths bytes) false)
+      ≡ ifB (eqb (length counts) 0) false
+      (ifB (eqb (sum counts) (length lengths)) (fillBytes set files counts lengths bytes) false)
   unfolding saysFiles
   says-whole h k = if-true _ _ _ (eq-eqb (length files % 46) 0 h) ∙ if-true _ _ _ (eq-eqb (length files / 46) (length counts) k)
 
-  pub says-none : length files % 46 ≡ 0 → length files / 46 ≡ length counts → length counts ≡ 0 → false ≡ saysFiles set files counts lengths bytes
+  pub says-none : length files % 46 ≡ 0 → length files / 46 ≡ length counts → length counts ≡ 0
+      → false ≡ saysFiles set files counts lengths bytes
   says-none h k z = sym (says-whole h k ∙ if-true _ _ _ (eq-eqb (length counts) 0 z))
 
   pub says-counts : (p : Bool) → length files % 46 ≡ 0 → length files / 46 ≡ length counts → (length counts ≡ 0 → ⊥)
@@ -101,7 +110,8 @@ module _ (set files counts lengths bytes : List ℕ) where
   says-counts p h k z e t = sym (says-whole h k ∙ if-false _ _ _ (ne-eqb (length counts) 0 z) ∙ if-false _ _ _ (sym e ∙ t))
 
   pub says-filled : (p a : Bool) → length files % 46 ≡ 0 → length files / 46 ≡ length counts → (length counts ≡ 0 → ⊥)
-      → p ≡ eqb (sum counts) (length lengths) → p ≡ true → a ≡ fillBytes set files counts lengths bytes → a ≡ saysFiles set files counts lengths bytes
+      → p ≡ eqb (sum counts) (length lengths) → p ≡ true → a ≡ fillBytes set files counts lengths bytes
+      → a ≡ saysFiles set files counts lengths bytes
   says-filled p a h k z e t l = l ∙ sym (says-whole h k ∙ if-false _ _ _ (ne-eqb (length counts) 0 z) ∙ if-true _ _ _ (sym e ∙ t))
 
   -- the lengths and the bytes
@@ -168,15 +178,19 @@ module _ (set files counts lengths bytes : List ℕ) (few : length files / 46 �
       (λ t. let w = eqb-true (length files % 46) 0 t in if-false _ _ _ (ne-eqb (length files / 46) (length counts) (λ e. h (omega arith))))
       (λ t. refl)
 
-  says-meant : saysFiles set files counts lengths bytes ≡ ifB (eqb (length files) (46 * length counts)) (sums (legalMeaning meant)) false
+  says-meant : saysFiles set files counts lengths bytes
+      ≡ ifB (eqb (length files) (46 * length counts)) (sums (legalMeaning meant)) false
   says-meant =
-      if-case (λ (b : Bool). saysFiles set files counts lengths bytes ≡ b) (eqb (length files) (46 * length counts)) (sums (legalMeaning meant)) false
-      (λ t. says-even (eqb-true (length files) (46 * length counts) t)) (λ t. says-odd (eqb-false (length files) (46 * length counts) t))
+      if-case (λ (b : Bool). saysFiles set files counts lengths bytes ≡ b) (eqb (length files) (46 * length counts))
+      (sums (legalMeaning meant)) false
+      (λ t. says-even (eqb-true (length files) (46 * length counts) t))
+      (λ t. says-odd (eqb-false (length files) (46 * length counts) t))
 
 -- ---- the whole sheet
 
 -- a test before others, and behind them
-together : (a b c m : Bool) (x y : ℕ) → ifB (ifB a (ifB b (ifB c true false) false) false) (ifB m x y) y ≡ ifB (ifB a (ifB b (ifB c m false) false) false) x y
+together : (a b c m : Bool) (x y : ℕ)
+    → ifB (ifB a (ifB b (ifB c true false) false) false) (ifB m x y) y ≡ ifB (ifB a (ifB b (ifB c m false) false) false) x y
 unfolding ifB
 together true true true m x y = refl
 together true true false m x y = refl
@@ -193,7 +207,8 @@ module _ (x : Flat) (few : length (x .files) / 46 ≤ 64) where
   unfolding addsUp
   sheet-odd h =
       if-case (λ (b : Bool). b ≡ false) _ _ false
-      (λ t. if-case (λ (b : Bool). b ≡ false) _ _ false (λ u. if-case (λ (b : Bool). b ≡ false) _ _ false (λ v. ne-eqb (length (x .names) % 6) 0 h) (λ v. refl)) (λ u. refl))
+      (λ t. if-case (λ (b : Bool). b ≡ false) _ _ false
+      (λ u. if-case (λ (b : Bool). b ≡ false) _ _ false (λ v. ne-eqb (length (x .names) % 6) 0 h) (λ v. refl)) (λ u. refl))
       (λ t. refl)
 
   sheet-illegal : legalSheet (sheetOf x) ≡ false → _≡_ {A = ℕ} (ifB (addsUp x) (ifB (legalSheet (sheetOf x)) 0 11) 11) 11
@@ -245,23 +260,29 @@ reels-zero q names =
 
 module _ (x : Flat) (few : length (x .files) / 46 ≤ 64) where
   adds-whole : length (x .names) % 6 ≡ 0
-      → addsUp x ≡ ifB (eqb (length (x .files)) (46 * length (x .counts))) (sums (x .set) (x .files) (x .counts) (x .lengths) (x .bytes) few true) false
+      → addsUp x ≡ ifB (eqb (length (x .files)) (46 * length (x .counts)))
+      (sums (x .set) (x .files) (x .counts) (x .lengths) (x .bytes) few true) false
   unfolding addsUp
   adds-whole h = rw (eq-eqb (length (x .names) % 6) 0 h)
 
-  legal-meant : Legal (x .quota) (x .names) → legalSheet (sheetOf x) ≡ legalMeaning (meant (x .set) (x .files) (x .counts) (x .lengths) (x .bytes) few)
+  legal-meant : Legal (x .quota) (x .names)
+      → legalSheet (sheetOf x) ≡ legalMeaning (meant (x .set) (x .files) (x .counts) (x .lengths) (x .bytes) few)
   unfolding legalSheet sheetOf
   legal-meant r = if-true _ _ _ (r .quota) ∙ if-true _ _ _ (r .named)
 
   -- where the quota and the names are legal, the files decide
-  sheet-files : Legal (x .quota) (x .names) → sheetNumber x ≡ ifB (saysFiles (x .set) (x .files) (x .counts) (x .lengths) (x .bytes)) 0 11
+  sheet-files : Legal (x .quota) (x .names)
+      → sheetNumber x ≡ ifB (saysFiles (x .set) (x .files) (x .counts) (x .lengths) (x .bytes)) 0 11
   sheet-files r =
       let m = legalMeaning (meant (x .set) (x .files) (x .counts) (x .lengths) (x .bytes) few) in
       sheet-few x few (r .few)
       ∙ ap (λ (b : Bool). ifB b (ifB (legalSheet (sheetOf x)) 0 11) 11) (adds-whole (r .whole))
-      ∙ ap (λ (b : Bool). ifB (ifB (eqb (length (x .files)) (46 * length (x .counts))) (sums (x .set) (x .files) (x .counts) (x .lengths) (x .bytes) few true) false) (ifB b 0 11) 11)
+      ∙ ap (λ (b : Bool). ifB
+      (ifB (eqb (length (x .files)) (46 * length (x .counts)))
+      (sums (x .set) (x .files) (x .counts) (x .lengths) (x .bytes) few true) false) (ifB b 0 11) 11)
       (legal-meant r)
-      ∙ together (eqb (length (x .files)) (46 * length (x .counts))) (eqb (sum (x .counts)) (length (x .lengths))) (eqb (sum (x .lengths)) (length (x .bytes))) m 0 11
+      ∙ together (eqb (length (x .files)) (46 * length (x .counts))) (eqb (sum (x .counts)) (length (x .lengths)))
+      (eqb (sum (x .lengths)) (length (x .bytes))) m 0 11
       ∙ ap (λ (b : Bool). ifB b 0 11) (sym (says-meant (x .set) (x .files) (x .counts) (x .lengths) (x .bytes) few))
 
 -- ---- the returns of `sheet_number`
@@ -275,15 +296,22 @@ module _ (set files counts lengths bytes : List ℕ) (q : ℕ) (names : List ℕ
   unfolding sheetNumber
   sheet-many h = sym (if-true _ _ _ (lt-ltb 64 (length files / 46) h))
 
-  pub sheet-reels : (n : ℕ) → length files / 46 ≤ 64 → n ≡ reelsNumber q names → (n ≡ 0 → ⊥) → n ≡ sheetNumber (flat set files counts lengths bytes q names)
+  pub sheet-reels : (n : ℕ) → length files / 46 ≤ 64 → n ≡ reelsNumber q names → (n ≡ 0 → ⊥)
+      → n ≡ sheetNumber (flat set files counts lengths bytes q names)
   sheet-reels n h e z = e ∙ sheet-refused (flat set files counts lengths bytes q names) h (λ k. z (e ∙ k))
 
-  pub sheet-right : (n : ℕ) (p : Bool) → length files / 46 ≤ 64 → n ≡ reelsNumber q names → n ≡ 0 → p ≡ saysFiles set files counts lengths bytes → p ≡ true
+  pub sheet-right : (n : ℕ) (p : Bool) → length files / 46 ≤ 64 → n ≡ reelsNumber q names → n ≡ 0
+      → p ≡ saysFiles set files counts lengths bytes → p ≡ true
       → 0 ≡ sheetNumber (flat set files counts lengths bytes q names)
-  sheet-right n p h e z f t = sym (sheet-files (flat set files counts lengths bytes q names) h (reels-zero q names (sym e ∙ z)) ∙ if-true _ _ _ (sym f ∙ t))
+  sheet-right n p h e z f t =
+      sym (sheet-files (flat set files counts lengths bytes q names) h (reels-zero q names (sym e ∙ z))
+      ∙ if-true _ _ _ (sym f ∙ t))
 
-  pub sheet-wrong : (n : ℕ) (p : Bool) → length files / 46 ≤ 64 → n ≡ reelsNumber q names → n ≡ 0 → p ≡ saysFiles set files counts lengths bytes → p ≡ false
+  pub sheet-wrong : (n : ℕ) (p : Bool) → length files / 46 ≤ 64 → n ≡ reelsNumber q names → n ≡ 0
+      → p ≡ saysFiles set files counts lengths bytes → p ≡ false
       → 11 ≡ sheetNumber (flat set files counts lengths bytes q names)
-  sheet-wrong n p h e z f t = sym (sheet-files (flat set files counts lengths bytes q names) h (reels-zero q names (sym e ∙ z)) ∙ if-false _ _ _ (sym f ∙ t))
+  sheet-wrong n p h e z f t =
+      sym (sheet-files (flat set files counts lengths bytes q names) h (reels-zero q names (sym e ∙ z))
+      ∙ if-false _ _ _ (sym f ∙ t))
 
 pub ruleset sheets = (sheet-many, sheet-reels, sheet-right, sheet-wrong, needs)

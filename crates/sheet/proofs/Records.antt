@@ -60,7 +60,8 @@ module _ (f r : ℕ) (x : List ℕ) (h : f ≡ 70 → ⊥) where
   unfolding legalRecord tooLong
   length-legal =
       if-case (λ (t : ℕ). length x < t → legalRecord f r x ≡ true) (eqb f 68) (min (r - 3) 9996) (r + 1)
-      (λ e l. if-false _ _ _ (ne-eqb f 70 h) ∙ if-true _ _ _ e ∙ if-true _ _ _ (le-leb (length x + 4) r (omega arith)) ∙ le-leb (length x + 4) 9999 (omega arith))
+      (λ e l. if-false _ _ _ (ne-eqb f 70 h) ∙ if-true _ _ _ e ∙ if-true _ _ _ (le-leb (length x + 4) r (omega arith))
+      ∙ le-leb (length x + 4) 9999 (omega arith))
       (λ e l. if-false _ _ _ (ne-eqb f 70 h) ∙ if-false _ _ _ e ∙ le-leb (length x) r (omega arith))
 
   length-illegal : tooLong f r ≤ length x → legalRecord f r x ≡ false
@@ -83,7 +84,8 @@ pub record Cut (f r : ℕ) (ls s : List ℕ) (from at i : ℕ) : Type 0 where
 -- the record at a place, and those behind it
 records-at : (f r : ℕ) (ls s : List ℕ) (at i : ℕ) → i < length ls
     → legalRecords f r (cutBy (drop i ls) (drop at s))
-    ≡ ifB (legalRecord f r (part at (getD ls i 0) s)) (legalRecords f r (cutBy (drop (i + 1) ls) (drop (at + getD ls i 0) s))) false
+    ≡ ifB (legalRecord f r (part at (getD ls i 0) s))
+    (legalRecords f r (cutBy (drop (i + 1) ls) (drop (at + getD ls i 0) s))) false
 unfolding legalRecords cutBy part
 records-at f r ls s at i h = rw (add-one, drop-cons ls i 0 h, sym (drop-drop (getD ls i 0) at s))
 
@@ -106,7 +108,8 @@ module _ (f r : ℕ) (ls s : List ℕ) (from at i : ℕ) (c : Cut f r ls s from 
         left = sym (records-at f r ls s at i h ∙ if-true _ _ _ e) ∙ c .left;
       }
 
-  cut-no : legalRecord f r (part at (getD ls i 0) s) ≡ false → RecordsPassed (legalRecords f r (cutBy ls (drop from s))) ls from (record { legal = false; at = at })
+  cut-no : legalRecord f r (part at (getD ls i 0) s) ≡ false
+      → RecordsPassed (legalRecords f r (cutBy ls (drop from s))) ls from (record { legal = false; at = at })
   cut-no e = record { answer = sym (records-at f r ls s at i h ∙ if-false _ _ _ e) ∙ c .left; place = λ q. absurd (false≢true q) }
 
 pub cut-all : (f r : ℕ) (ls s : List ℕ) (from at i : ℕ) → Cut f r ls s from at i → length ls ≤ i
@@ -124,25 +127,33 @@ cut-all f r ls s from at i c h =
 module _ (r : ℕ) (ls s : List ℕ) (from at i : ℕ) (p : Bool) (c : Cut 70 r ls s from at i) (h : i < length ls)
     (e : p ≡ legalRecord 70 r (take (at + getD ls i 0 - at) (drop at s))) where
   pub fixed-more : not p ≡ false → Cut 70 r ls s from (at + getD ls i 0) (i + 1)
-  fixed-more n = cut-yes 70 r ls s from at i c h (ap (legalRecord 70 r) (sym (part-within at (getD ls i 0) s)) ∙ sym e ∙ not-false p n)
+  fixed-more n =
+      cut-yes 70 r ls s from at i c h (ap (legalRecord 70 r) (sym (part-within at (getD ls i 0) s)) ∙ sym e ∙ not-false p n)
 
-  pub fixed-wrong : not p ≡ true → RecordsPassed (legalRecords 70 r (cutBy ls (drop from s))) ls from (record { legal = false; at = at })
-  fixed-wrong n = cut-no 70 r ls s from at i c h (ap (legalRecord 70 r) (sym (part-within at (getD ls i 0) s)) ∙ sym e ∙ not-true p n)
+  pub fixed-wrong : not p ≡ true
+      → RecordsPassed (legalRecords 70 r (cutBy ls (drop from s))) ls from (record { legal = false; at = at })
+  fixed-wrong n =
+      cut-no 70 r ls s from at i c h (ap (legalRecord 70 r) (sym (part-within at (getD ls i 0) s)) ∙ sym e ∙ not-true p n)
 
 -- by the length of any other
-module _ (f r : ℕ) (ls s : List ℕ) (from at i over : ℕ) (k : f ≡ 70 → ⊥) (e : over ≡ tooLong f r) (c : Cut f r ls s from at i) (h : i < length ls) where
+module _ (f r : ℕ) (ls s : List ℕ) (from at i over : ℕ) (k : f ≡ 70 → ⊥) (e : over ≡ tooLong f r) (c : Cut f r ls s from at i)
+    (h : i < length ls) where
   long : length (part at (getD ls i 0) s) ≡ getD ls i 0
   long = length-part at (getD ls i 0) s (cut-room f r ls s from at i c h)
 
   pub length-more : getD ls i 0 < over → Cut f r ls s from (at + getD ls i 0) (i + 1)
   length-more l = cut-yes f r ls s from at i c h (length-legal f r (part at (getD ls i 0) s) k (omega (arith, long, e)))
 
-  pub length-wrong : over ≤ getD ls i 0 → RecordsPassed (legalRecords f r (cutBy ls (drop from s))) ls from (record { legal = false; at = at })
+  pub length-wrong : over ≤ getD ls i 0
+      → RecordsPassed (legalRecords f r (cutBy ls (drop from s))) ls from (record { legal = false; at = at })
   length-wrong l = cut-no f r ls s from at i c h (length-illegal f r (part at (getD ls i 0) s) k (omega (arith, long, e)))
 
 -- either way
-pub passed-fixed : (f r : ℕ) (ls s : List ℕ) (from : ℕ) (x : Passed) → f ≡ 70 → RecordsPassed (legalRecords 70 r (cutBy ls (drop from s))) ls from x
+pub passed-fixed : (f r : ℕ) (ls s : List ℕ) (from : ℕ) (x : Passed) → f ≡ 70
+    → RecordsPassed (legalRecords 70 r (cutBy ls (drop from s))) ls from x
     → RecordsPassed (legalRecords f r (cutBy ls (drop from s))) ls from x
-passed-fixed f r ls s from x e b = record { answer = b .answer ∙ ap (λ (k : ℕ). legalRecords k r (cutBy ls (drop from s))) (sym e); place = b .place }
+passed-fixed f r ls s from x e b =
+    record { answer = b .answer ∙ ap (λ (k : ℕ). legalRecords k r (cutBy ls (drop from s))) (sym e); place = b .place }
 
-pub ruleset cuts = (cut-none, cut-room, cut-fits, cut-all, fixed-more, fixed-wrong, length-more, length-wrong, passed-fixed, needs)
+pub ruleset cuts =
+    (cut-none, cut-room, cut-fits, cut-all, fixed-more, fixed-wrong, length-more, length-wrong, passed-fixed, needs)

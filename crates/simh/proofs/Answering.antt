@@ -45,7 +45,12 @@ tape-zero tape lengths =
     if-case P (eqb (sum lengths) (length tape)) _ _
     (λ s. if-case P (eqb (reelsVerdict 0 (reelsIn tape lengths) .number) 0) _ _
     (λ r. if-case P (isFew (length lengths)) _ _
-    (λ f _. record { whole = eqb-true (sum lengths) (length tape) s; right = eqb-true (reelsVerdict 0 (reelsIn tape lengths) .number) 0 r; few = f })
+    (λ f _. record {
+      whole = eqb-true (sum lengths) (length tape) s;
+      right = eqb-true
+          (reelsVerdict 0 (reelsIn tape lengths) .number) 0 r;
+      few = f;
+    })
     (λ _ q. absurd (omega arith)))
     (λ r q. absurd (eqb-false (reelsVerdict 0 (reelsIn tape lengths) .number) 0 r q)))
     (λ _ q. absurd (omega arith))
@@ -57,10 +62,12 @@ module _ (tape lengths out : List ℕ) (m : Measure) (x : TapeMeasured (tapeVerd
   number : m .verdict .number ≡ tapeVerdict tape lengths .number
   number = ap (λ (v : Verdict). v .number) (x .said)
 
-  pub from-refused : (m .verdict .number ≡ 0 → ⊥) → AnswersAt (fromSimh tape lengths out) (record { verdict = m .verdict; len = 0 }) out
+  pub from-refused : (m .verdict .number ≡ 0 → ⊥)
+      → AnswersAt (fromSimh tape lengths out) (record { verdict = m .verdict; len = 0 }) out
   unfolding fromSimh refusedWith
   from-refused z =
-      subst (λ (w : Result). AnswersAt w (record { verdict = m .verdict; len = 0 }) out) (sym (if-false _ _ _ (ne-eqb _ 0 (λ q. z (number ∙ q)))))
+      subst (λ (w : Result). AnswersAt w (record { verdict = m .verdict; len = 0 }) out)
+      (sym (if-false _ _ _ (ne-eqb _ 0 (λ q. z (number ∙ q)))))
       (record { said = x .said; len = refl; out = refl })
 
   module _ (z : m .verdict .number ≡ 0) where
@@ -71,8 +78,14 @@ module _ (tape lengths out : List ℕ) (m : Measure) (x : TapeMeasured (tapeVerd
     unfolding imageOf
     size = omega (arith, x .bytes z)
 
-    passed : (w : Result) → ifB (leb (length (imageOf tape lengths)) mostImage) (placed (ifB (leb (length (imageOf tape lengths)) (length out))
-        (record { number = 0; len = length (imageOf tape lengths); out = imageOf tape lengths ++ drop (length (imageOf tape lengths)) out })
+    passed : (w : Result)
+        → ifB (leb (length (imageOf tape lengths)) mostImage) (placed (ifB (leb (length (imageOf tape lengths)) (length out))
+        (record {
+          number = 0;
+          len = length (imageOf tape lengths);
+          out = imageOf tape lengths ++
+              drop (length (imageOf tape lengths)) out;
+        })
         (refused 10 out))) (refusedWith (verdict 14 0 0) out) ≡ w → fromSimh tape lengths out ≡ w
     unfolding fromSimh
     passed w e = if-true _ _ _ (eq-eqb _ 0 (sym number ∙ z)) ∙ e
@@ -82,7 +95,8 @@ module _ (tape lengths out : List ℕ) (m : Measure) (x : TapeMeasured (tapeVerd
     from-long a h e =
         subst (λ (b : Answer). AnswersAt (fromSimh tape lengths out) b out) (sym e)
         (subst (λ (w : Result). AnswersAt w (refusalOf 14) out)
-        (sym (passed (refusedWith (verdict 14 0 0) out) (if-false _ _ _ (lt-leb (length (imageOf tape lengths)) mostImage (omega (arith, size))))))
+        (sym (passed (refusedWith (verdict 14 0 0) out)
+        (if-false _ _ _ (lt-leb (length (imageOf tape lengths)) mostImage (omega (arith, size))))))
         (record { said = refl; len = refl; out = refl }))
 
     module _ (l : m .len ≤ 16777210) where
@@ -105,7 +119,8 @@ module _ (tape lengths out : List ℕ) (m : Measure) (x : TapeMeasured (tapeVerd
             let long : length p ≡ length out = ap length put ∙ length-put out 0 head (omega arith) in
             record { whole = sound .whole; right = sound .right; room = omega (arith, x .bytes z) }
 
-        pub from-done : (a : Answer) (p q : List ℕ) → p ≡ putIn out 0 head → q ≡ putAt p 5 (imageBytes (itemsIn tape lengths)) → a ≡ writtenOf (m .len + 5)
+        pub from-done : (a : Answer) (p q : List ℕ) → p ≡ putIn out 0 head → q ≡ putAt p 5 (imageBytes (itemsIn tape lengths))
+            → a ≡ writtenOf (m .len + 5)
             → AnswersAt (fromSimh tape lengths out) a q
         unfolding placed writtenOf imageOf
         from-done a p q e f g =
@@ -116,7 +131,8 @@ module _ (tape lengths out : List ℕ) (m : Measure) (x : TapeMeasured (tapeVerd
             ∙ put-first-of-all out (head ++ imageBytes (itemsIn tape lengths)) in
             subst (λ (b : Answer). AnswersAt (fromSimh tape lengths out) b q) (sym g)
             (subst (λ (w : Result). AnswersAt w (writtenOf (m .len + 5)) q)
-            (sym (passed _ (if-true _ _ _ fits ∙ ap placed (if-true _ _ _ (le-leb (length (imageOf tape lengths)) (length out) (omega (arith, size)))))))
+            (sym (passed _ (if-true _ _ _ fits
+            ∙ ap placed (if-true _ _ _ (le-leb (length (imageOf tape lengths)) (length out) (omega (arith, size)))))))
             (record { said = refl; len = sym size; out = whole }))
 
 pub ruleset froms = (from-refused, from-long, from-short, from-storable, from-done, needs)
@@ -143,7 +159,8 @@ module _ (s out lens : List ℕ) (z : Size) (x : ImageSized (framing s) s z) whe
   framed-number : z .verdict .number ≡ framing s .number
   framed-number = ap (λ (v : Verdict). v .number) (x .said)
 
-  pub to-refused : (z .verdict .number ≡ 0 → ⊥) → Converts (toSimh s out lens) (record { verdict = z .verdict; len = 0; files = 0 }) out lens
+  pub to-refused : (z .verdict .number ≡ 0 → ⊥)
+      → Converts (toSimh s out lens) (record { verdict = z .verdict; len = 0; files = 0 }) out lens
   unfolding toSimh kept
   to-refused n =
       subst (λ (c : Converted). Converts c (record { verdict = z .verdict; len = 0; files = 0 }) out lens)
@@ -166,7 +183,8 @@ module _ (s out lens : List ℕ) (z : Size) (x : ImageSized (framing s) s z) whe
     unfolding toSimh
     opened = if-true _ _ _ (eq-eqb _ 0 (sym framed-number ∙ n))
 
-    short : (a : Tapes) → leb (length (endToEnd (filesOf s))) (length out) && leb (length (filesOf s)) (length lens) ≡ false → a ≡ shortOf
+    short : (a : Tapes) → leb (length (endToEnd (filesOf s))) (length out) && leb (length (filesOf s)) (length lens) ≡ false
+        → a ≡ shortOf
         → Converts (toSimh s out lens) a out lens
     unfolding stored kept shortOf
     short a f e =
@@ -179,7 +197,8 @@ module _ (s out lens : List ℕ) (z : Size) (x : ImageSized (framing s) s z) whe
 
     pub to-few : (a : Tapes) → length lens < z .files → a ≡ shortOf → Converts (toSimh s out lens) a out lens
     to-few a h =
-        short a (and-right (leb (length (endToEnd (filesOf s))) (length out)) _ (lt-leb (length (filesOf s)) (length lens) (omega (arith, count))))
+        short a (and-right (leb (length (endToEnd (filesOf s))) (length out)) _
+        (lt-leb (length (filesOf s)) (length lens) (omega (arith, count))))
 
     module _ (h : z .len ≤ length out) (k : z .files ≤ length lens) where
       pub to-filed : FilesFit (items s) (length out) (length lens)
@@ -198,12 +217,15 @@ module _ (s out lens : List ℕ) (z : Size) (x : ImageSized (framing s) s z) whe
           = and-true _ _ (le-leb (length (endToEnd (filesOf s))) (length out) (omega (arith, bytes))) (le-leb (length (filesOf s)) (length lens) (omega (arith, count))) in
           let list : lengthsFrom 0 (items s) ≡ map length (filesOf s) = file-lengths (items s) (framed .close) in
           let long : length (map length (filesOf s)) ≡ length (filesOf s) = length-map length (filesOf s) in
-          subst (λ (c : Converted). Converts c (record { verdict = z .verdict; len = z .len; files = z .files }) q r) (sym (opened ∙ if-true _ _ _ room))
+          subst (λ (c : Converted). Converts c (record { verdict = z .verdict; len = z .len; files = z .files }) q r)
+          (sym (opened ∙ if-true _ _ _ room))
           (record {
             said = zero;
             len = sym bytes;
             files = sym count;
-            out = e ∙ put-first-of-all out (encode (items s)) ∙ ap (λ (l : List ℕ). l ++ drop (length l) out) (sym (file-bytes (items s)));
+            out =
+                e ∙ put-first-of-all out (encode (items s))
+                ∙ ap (λ (l : List ℕ). l ++ drop (length l) out) (sym (file-bytes (items s)));
             lengths =
                 f ∙ put-first-of-all lens (lengthsFrom 0 (items s)) ∙ ap (λ (l : List ℕ). l ++ drop (length l) lens) list
                 ∙ ap (λ (i : ℕ). map length (filesOf s) ++ drop i lens) long;

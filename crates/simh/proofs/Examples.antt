@@ -60,7 +60,8 @@ pub wrong-lengths :
     (tapeVerdict reel (19 ∷ []) ≡ verdict 15 0 0)
     × (tapeVerdict reel (20 ∷ 18446744073709551615 ∷ 1 ∷ []) ≡ verdict 15 0 0)
     × (tapeVerdict reel [] ≡ verdict 15 0 0)
-    -- the first file ends within the word of its end, or within the second file, whose bytes are behind its end; the second one is empty
+    -- the first file ends within the word of its end, or within the second file, whose bytes are behind its end; the second one
+    -- is empty
     × (tapeVerdict (reel ++ reel) (18 ∷ 22 ∷ []) ≡ verdict 15 2 0)
     × (tapeVerdict (reel ++ reel) (22 ∷ 18 ∷ []) ≡ verdict 15 3 0)
     × (tapeVerdict reel (20 ∷ 0 ∷ []) ≡ verdict 15 3 0)
@@ -91,12 +92,17 @@ wrong-items = (refl, refl, refl, refl, refl, refl, refl, refl, refl)
 
 pub lent :
     -- a byte behind the image stays, as do all where one lacks
-    (fromSimh reel (20 ∷ []) (1 ∷ 1 ∷ 1 ∷ 1 ∷ 1 ∷ 1 ∷ 1 ∷ 1 ∷ 1 ∷ 1 ∷ 1 ∷ 1 ∷ 1 ∷ 1 ∷ 1 ∷ 1 ∷ 1 ∷ 9 ∷ []) ≡ record { verdict = verdict 0 0 0; len = 17; out = image ++ (9 ∷ []) })
+    (fromSimh reel (20 ∷ []) (1 ∷ 1 ∷ 1 ∷ 1 ∷ 1 ∷ 1 ∷ 1 ∷ 1 ∷ 1 ∷ 1 ∷ 1 ∷ 1 ∷ 1 ∷ 1 ∷ 1 ∷ 1 ∷ 1 ∷ 9 ∷ [])
+    ≡ record { verdict = verdict 0 0 0; len = 17; out = image ++ (9 ∷ []) })
     × (fromSimh reel (20 ∷ []) (1 ∷ 1 ∷ 1 ∷ 1 ∷ []) ≡ record { verdict = verdict 10 0 0; len = 0; out = 1 ∷ 1 ∷ 1 ∷ 1 ∷ [] })
     -- one file, and the list's second number stays; a list without room, a buffer without, and an image cut short
-    × (toSimh image (reel ++ (9 ∷ [])) (7 ∷ 7 ∷ []) ≡ record { verdict = verdict 0 0 0; len = 20; files = 1; out = reel ++ (9 ∷ []); lengths = 20 ∷ 7 ∷ [] })
-    × (toSimh image (reel ++ (9 ∷ [])) [] ≡ record { verdict = verdict 10 0 0; len = 0; files = 0; out = reel ++ (9 ∷ []); lengths = [] })
-    × (toSimh image (8 ∷ 8 ∷ []) (7 ∷ []) ≡ record { verdict = verdict 10 0 0; len = 0; files = 0; out = 8 ∷ 8 ∷ []; lengths = 7 ∷ [] })
-    × (toSimh (head ++ (0 ∷ 0 ∷ [])) (8 ∷ 8 ∷ []) (7 ∷ []) ≡ record { verdict = verdict 2 0 0; len = 0; files = 0; out = 8 ∷ 8 ∷ []; lengths = 7 ∷ [] })
+    × (toSimh image (reel ++ (9 ∷ [])) (7 ∷ 7 ∷ [])
+    ≡ record { verdict = verdict 0 0 0; len = 20; files = 1; out = reel ++ (9 ∷ []); lengths = 20 ∷ 7 ∷ [] })
+    × (toSimh image (reel ++ (9 ∷ [])) []
+    ≡ record { verdict = verdict 10 0 0; len = 0; files = 0; out = reel ++ (9 ∷ []); lengths = [] })
+    × (toSimh image (8 ∷ 8 ∷ []) (7 ∷ [])
+    ≡ record { verdict = verdict 10 0 0; len = 0; files = 0; out = 8 ∷ 8 ∷ []; lengths = 7 ∷ [] })
+    × (toSimh (head ++ (0 ∷ 0 ∷ [])) (8 ∷ 8 ∷ []) (7 ∷ [])
+    ≡ record { verdict = verdict 2 0 0; len = 0; files = 0; out = 8 ∷ 8 ∷ []; lengths = 7 ∷ [] })
 unfolding abc threeBytes tapeMark mediumEnd reel image verdict ifB part same allAre sum cutBy framedFrom items framing imageWord imageLed imageShape imageItemOf imageBehind decodeF imageItems three imageItem encodeBy imageBytes refused refusedWith placed word isWhole ledBy shape itemOf behind decode four pad bytesOf encode torn reelVerdict reelsVerdict reelsIn isFew tapeVerdict imageOf fromSimh onFirst reelsOf filesOf kept stored toSimh endToEnd
 lent = (refl, refl, refl, refl, refl, refl)

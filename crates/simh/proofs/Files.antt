@@ -60,7 +60,8 @@ Shaped s Mark = WordAt s 0
 Shaped s ReelEnd = WordAt s endWord
 Shaped s Broken = Unit {0}
 
-whole-block : (s : List ℕ) → eqb (word s) 0 ≡ false → leb (word s) mostBytes ≡ true → isWhole (word s) s ≡ true → BlockAt s (word s)
+whole-block : (s : List ℕ) → eqb (word s) 0 ≡ false → leb (word s) mostBytes ≡ true → isWhole (word s) s ≡ true
+    → BlockAt s (word s)
 unfolding isWhole
 whole-block s z m w =
     let rest = and-second (leb (spanOf (word s)) (length s)) _ w in
@@ -99,7 +100,10 @@ end-at s e = subst (Shaped s) e (shaped s)
 
 -- where no item is broken, the length word alone tells the shape
 abbrev pub ShapeTold : List ℕ → Shape → Type 0
-ShapeTold s p = isItem (itemOf p s) ≡ true → (word s ≡ 0 → p ≡ Mark) × (word s ≡ endWord → p ≡ ReelEnd) × ((word s ≡ 0 → ⊥) → (word s ≡ endWord → ⊥) → p ≡ Block (word s))
+ShapeTold s p =
+    isItem (itemOf p s) ≡ true
+    → (word s ≡ 0 → p ≡ Mark) × (word s ≡ endWord → p ≡ ReelEnd)
+    × ((word s ≡ 0 → ⊥) → (word s ≡ endWord → ⊥) → p ≡ Block (word s))
 
 pub told : (s : List ℕ) (p : Shape) → shape s ≡ p → ShapeTold s p
 unfolding itemOf isItem
@@ -143,7 +147,8 @@ decode-past s at h = ap decode (drop-of-length-le s h) ∙ decode-none
 pub decode-at : (s : List ℕ) (at : ℕ) (p : Shape) → at < length s → shape (drop at s) ≡ p
     → decode (drop at s) ≡ itemOf p (drop at s) ∷ decode (behind p (drop at s))
 decode-at s at p h e =
-    decode-more (drop at s) (simp length-drop (omega arith)) ∙ ap (λ (q : Shape). itemOf q (drop at s) ∷ decode (behind q (drop at s))) e
+    decode-more (drop at s) (simp length-drop (omega arith))
+    ∙ ap (λ (q : Shape). itemOf q (drop at s) ∷ decode (behind q (drop at s))) e
 
 pub decode-block : (s : List ℕ) (at n : ℕ) → at < length s → shape (drop at s) ≡ Block n
     → decode (drop at s) ≡ block (part (at + 4) n s) ∷ decode (drop (at + spanOf n) s)
@@ -151,11 +156,13 @@ unfolding itemOf behind
 decode-block s at n h e =
     decode-at s at (Block n) h e ∙ ap₂ (λ (bs l : List ℕ). block bs ∷ decode l) (part-drop at 4 n s) (drop-drop (spanOf n) at s)
 
-pub decode-mark : (s : List ℕ) (at : ℕ) → at < length s → shape (drop at s) ≡ Mark → decode (drop at s) ≡ mark ∷ decode (drop (at + 4) s)
+pub decode-mark : (s : List ℕ) (at : ℕ) → at < length s → shape (drop at s) ≡ Mark
+    → decode (drop at s) ≡ mark ∷ decode (drop (at + 4) s)
 unfolding itemOf behind
 decode-mark s at h e = decode-at s at Mark h e ∙ ap (λ (l : List ℕ). mark ∷ decode l) (drop-drop 4 at s)
 
-pub decode-end : (s : List ℕ) (at : ℕ) → at < length s → shape (drop at s) ≡ ReelEnd → decode (drop at s) ≡ reelEnd ∷ decode (drop (at + 4) s)
+pub decode-end : (s : List ℕ) (at : ℕ) → at < length s → shape (drop at s) ≡ ReelEnd
+    → decode (drop at s) ≡ reelEnd ∷ decode (drop (at + 4) s)
 unfolding itemOf behind
 decode-end s at h e = decode-at s at ReelEnd h e ∙ ap (λ (l : List ℕ). reelEnd ∷ decode l) (drop-drop 4 at s)
 

@@ -1,4 +1,5 @@
--- The two conversions are inverse to each other: our image into files and back gives our bytes, files into our image and back give their bytes and their
+-- The two conversions are inverse to each other: our image into files and back gives our bytes, files into our image and back
+-- give their bytes and their
 -- lengths. Assumes nothing.
 use mathlib.Core.Path.{_≡_, refl, sym, ap, ap₂, _∙_, subst}
 use mathlib.Core.Bool.{Bool, true, false, _&&_}
@@ -41,7 +42,8 @@ pub record In (tape lengths out : List ℕ) (r : Result) : Type 0 where
 front : (xs o : List ℕ) → take (length xs) (xs ++ drop (length xs) o) ≡ xs
 front xs o = take-append-seam xs (drop (length xs) o)
 
-pub from-zero : (tape lengths out : List ℕ) → fromSimh tape lengths out .verdict .number ≡ 0 → In tape lengths out (fromSimh tape lengths out)
+pub from-zero : (tape lengths out : List ℕ) → fromSimh tape lengths out .verdict .number ≡ 0
+    → In tape lengths out (fromSimh tape lengths out)
 unfolding fromSimh refusedWith placed refused verdict imageIn
 from-zero tape lengths out =
     if-case P (eqb (tapeVerdict tape lengths .number) 0) _ _
@@ -63,14 +65,17 @@ sound-zero : (tape lengths : List ℕ) → Convertible tape lengths → tapeVerd
 unfolding tapeVerdict verdict
 sound-zero tape lengths s =
     ap (λ (v : Verdict). v .number)
-    (if-true _ _ _ (eq-eqb (sum lengths) (length tape) (s .whole)) ∙ if-true _ _ _ (eq-eqb _ 0 (s .right)) ∙ if-true _ _ _ (s .few))
+    (if-true _ _ _ (eq-eqb (sum lengths) (length tape) (s .whole)) ∙ if-true _ _ _ (eq-eqb _ 0 (s .right))
+    ∙ if-true _ _ _ (s .few))
 
-from-done : (tape lengths out : List ℕ) → Convertible tape lengths → length (imageOf tape lengths) ≤ mostImage → length (imageOf tape lengths) ≤ length out
+from-done : (tape lengths out : List ℕ) → Convertible tape lengths → length (imageOf tape lengths) ≤ mostImage
+    → length (imageOf tape lengths) ≤ length out
     → In tape lengths out (fromSimh tape lengths out)
 unfolding fromSimh placed verdict imageIn
 from-done tape lengths out s m r =
     subst (In tape lengths out)
-    (sym (if-true _ _ _ (eq-eqb _ 0 (sound-zero tape lengths s)) ∙ if-true _ _ _ (le-leb (length (imageOf tape lengths)) mostImage m)
+    (sym (if-true _ _ _ (eq-eqb _ 0 (sound-zero tape lengths s))
+    ∙ if-true _ _ _ (le-leb (length (imageOf tape lengths)) mostImage m)
     ∙ ap placed (if-true _ _ _ (le-leb (length (imageOf tape lengths)) (length out) r))))
     (record { sound = s; small = m; done = refl; image = front (imageOf tape lengths) out })
 
@@ -82,7 +87,8 @@ pub record Out (s : List ℕ) (c : Converted) : Type 0 where
   pub tape : tapeIn c ≡ endToEnd (filesOf s)
   pub lengths : lengthsIn c ≡ map length (filesOf s)
 
-stored-out : (s out lens : List ℕ) → framing s .number ≡ 0 → leb (length (endToEnd (filesOf s))) (length out) && leb (length (filesOf s)) (length lens) ≡ true
+stored-out : (s out lens : List ℕ) → framing s .number ≡ 0
+    → leb (length (endToEnd (filesOf s))) (length out) && leb (length (filesOf s)) (length lens) ≡ true
     → Out s (stored (filesOf s) out lens)
 unfolding stored tapeIn lengthsIn
 stored-out s out lens f h =
@@ -96,7 +102,8 @@ stored-out s out lens f h =
       lengths = ap (λ (n : ℕ). take n (map length fs ++ drop n lens)) count ∙ front (map length fs) lens;
     })
 
-short-number : (fs : List (List ℕ)) (out lens : List ℕ) → leb (length (endToEnd fs)) (length out) && leb (length fs) (length lens) ≡ false
+short-number : (fs : List (List ℕ)) (out lens : List ℕ)
+    → leb (length (endToEnd fs)) (length out) && leb (length fs) (length lens) ≡ false
     → stored fs out lens .verdict .number ≡ 0 → ⊥
 unfolding stored kept verdict
 short-number fs out lens e q =
@@ -107,23 +114,27 @@ pub to-zero : (s out lens : List ℕ) → toSimh s out lens .verdict .number ≡
 unfolding toSimh kept verdict
 to-zero s out lens =
     if-case P (eqb (framing s .number) 0) _ _
-    (λ z. by (leb (length (endToEnd (filesOf s))) (length out) && leb (length (filesOf s)) (length lens)) refl (eqb-true (framing s .number) 0 z))
+    (λ z. by (leb (length (endToEnd (filesOf s))) (length out) && leb (length (filesOf s)) (length lens)) refl
+    (eqb-true (framing s .number) 0 z))
     (λ z q. absurd (eqb-false (framing s .number) 0 z q))
   where
     P : Converted → Type 0
     P c = c .verdict .number ≡ 0 → Out s c
 
-    by : (t : Bool) → leb (length (endToEnd (filesOf s))) (length out) && leb (length (filesOf s)) (length lens) ≡ t → framing s .number ≡ 0
+    by : (t : Bool) → leb (length (endToEnd (filesOf s))) (length out) && leb (length (filesOf s)) (length lens) ≡ t
+        → framing s .number ≡ 0
         → stored (filesOf s) out lens .verdict .number ≡ 0 → Out s (stored (filesOf s) out lens)
     by true e f q = stored-out s out lens f e
     by false e f q = absurd (short-number (filesOf s) out lens e q)
 
-to-done : (s out lens : List ℕ) → framing s .number ≡ 0 → length (endToEnd (filesOf s)) ≤ length out → length (filesOf s) ≤ length lens
+to-done : (s out lens : List ℕ) → framing s .number ≡ 0 → length (endToEnd (filesOf s)) ≤ length out
+    → length (filesOf s) ≤ length lens
     → Out s (toSimh s out lens)
 unfolding toSimh
 to-done s out lens f h k =
     subst (Out s) (sym (if-true _ _ _ (eq-eqb _ 0 f)))
-    (stored-out s out lens f (and-true _ _ (le-leb (length (endToEnd (filesOf s))) (length out) h) (le-leb (length (filesOf s)) (length lens) k)))
+    (stored-out s out lens f
+    (and-true _ _ (le-leb (length (endToEnd (filesOf s))) (length out) h) (le-leb (length (filesOf s)) (length lens) k)))
 
 -- ---- our image, its files, our image again
 
@@ -154,7 +165,9 @@ module _ (s : List ℕ) (f : framing s .number ≡ 0) where
         right =
             ap (λ (rs : List (List Item)). reelsVerdict 0 rs .number) files-read
             ∙ ap (λ (v : Verdict). v .number) (close-reels 0 (reelsOf (items s)) (reeled .close));
-        few = and-true _ _ (le-leb 1 (length (map length (filesOf s))) (omega arith)) (le-leb (length (map length (filesOf s))) mostReels (omega arith));
+        few =
+            and-true _ _ (le-leb 1 (length (map length (filesOf s))) (omega arith))
+            (le-leb (length (map length (filesOf s))) mostReels (omega arith));
       }
 
   image-back : Bytes s → imageOf (endToEnd (filesOf s)) (map length (filesOf s)) ≡ s
@@ -215,7 +228,8 @@ module _ (tape lengths : List ℕ) (x : Convertible tape lengths) where
       = length-map decode (cutBy lengths tape) ∙ sym (length-map length (cutBy lengths tape)) ∙ ap length (cut-lengths lengths tape (omega (arith, x .whole))) in
       let some : 1 ≤ length lengths = leb-true 1 (length lengths) (and-first (leb 1 (length lengths)) _ (x .few)) in
       let few : length lengths ≤ mostReels = leb-true (length lengths) mostReels (and-second (leb 1 (length lengths)) (leb (length lengths) mostReels) (x .few)) in
-      framing-image (endToEnd (reelsIn tape lengths)) right m ∙ reels-framed (reelsIn tape lengths) close (omega arith) (omega arith)
+      framing-image (endToEnd (reelsIn tape lengths)) right m
+      ∙ reels-framed (reelsIn tape lengths) close (omega arith) (omega arith)
 
   files-again : Bytes tape → filesOf (imageOf tape lengths) ≡ cutBy lengths tape
   unfolding filesOf reelsIn
@@ -232,7 +246,8 @@ module _ (tape lengths : List ℕ) (x : Convertible tape lengths) where
       ∙ cut-whole lengths tape (x .whole)
 
 -- into our image and back gives their bytes and their lengths
-pub theirs-again : (tape lengths out other list : List ℕ) → Bytes tape → fromSimh tape lengths out .verdict .number ≡ 0 → length tape ≤ length other
+pub theirs-again : (tape lengths out other list : List ℕ) → Bytes tape → fromSimh tape lengths out .verdict .number ≡ 0
+    → length tape ≤ length other
     → length lengths ≤ length list
     → (toSimh (imageIn (fromSimh tape lengths out)) other list .verdict ≡ verdict 0 0 0)
     × (tapeIn (toSimh (imageIn (fromSimh tape lengths out)) other list) ≡ tape)

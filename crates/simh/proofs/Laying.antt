@@ -1,4 +1,5 @@
--- The items of an image written as files, and the lengths of these into a list, as the loop over the items does it. Assumes nothing.
+-- The items of an image written as files, and the lengths of these into a list, as the loop over the items does it. Assumes
+-- nothing.
 use mathlib.Core.Path.{_≡_, refl, sym, ap, _∙_, subst}
 use mathlib.Core.Bool.{true, false≢true}
 use mathlib.Core.List.{List, [], _∷_}
@@ -32,7 +33,8 @@ pub record FilesLaid (xs ys : List Item) (ls lens : List ℕ) (n file : ℕ) : T
   pub left : putAt lens file (lengthsFrom n ys) ≡ putAt ls 0 (lengthsFrom 0 xs)
 
 -- an item that ends no file, and one that does
-listing-more : (xs : List Item) (x : Item) (ys : List Item) (ls lens : List ℕ) (n k file : ℕ) → lengthsFrom n (x ∷ ys) ≡ lengthsFrom k ys
+listing-more : (xs : List Item) (x : Item) (ys : List Item) (ls lens : List ℕ) (n k file : ℕ)
+    → lengthsFrom n (x ∷ ys) ≡ lengthsFrom k ys
     → FilesLaid xs (x ∷ ys) ls lens n file → FilesLaid xs ys ls lens k file
 listing-more xs x ys ls lens n k file e w =
     record {
@@ -42,7 +44,8 @@ listing-more xs x ys ls lens n k file e w =
       left = ap (putAt lens file) (sym e) ∙ w .left;
     }
 
-listing-room : (xs ys : List Item) (ls lens : List ℕ) (n file : ℕ) → FilesLaid xs (reelEnd ∷ ys) ls lens n file → file < length lens
+listing-room : (xs ys : List Item) (ls lens : List ℕ) (n file : ℕ) → FilesLaid xs (reelEnd ∷ ys) ls lens n file
+    → file < length lens
 unfolding lengthsFrom
 listing-room xs ys ls lens n file w = omega (arith, w .size, w .fits, w .ends)
 
@@ -126,7 +129,9 @@ module _ (s o ls out lens : List ℕ) (at to from file : ℕ) (w : Laying s o ls
             right = all-rest mark xs (there-right mark xs d);
             ahead = omega (arith, w .ahead);
             put = putting-item bytesOf (items s) o 0 out to mark xs 4 r (there-put mark xs d) refl f;
-            list = listing-more (items s) mark xs ls lens (to - from) (to + 4 - from) file (ap (λ (k : ℕ). lengthsFrom k xs) n) (there-list mark xs d);
+            list =
+                listing-more (items s) mark xs ls lens (to - from) (to + 4 - from) file (ap (λ (k : ℕ). lengthsFrom k xs) n)
+                (there-list mark xs d);
           }
 
     module _ (q : p ≡ ReelEnd) where
@@ -151,7 +156,8 @@ module _ (s o ls out lens : List ℕ) (at to from file : ℕ) (w : Laying s o ls
             put = putting-item bytesOf (items s) o 0 out to reelEnd xs 4 r (there-put reelEnd xs d) refl f;
             list =
                 subst (λ (k : ℕ). FilesLaid (items s) xs ls (set lens file (to + 4 - from)) k (file + 1)) none
-                (subst (λ (k : ℕ). FilesLaid (items s) xs ls (set lens file k) 0 (file + 1)) n (listing-end (items s) xs ls lens (to - from) file (there-list reelEnd xs d)));
+                (subst (λ (k : ℕ). FilesLaid (items s) xs ls (set lens file k) 0 (file + 1)) n
+                (listing-end (items s) xs ls lens (to - from) file (there-list reelEnd xs d)));
           }
 
     module _ (n : ℕ) (q : p ≡ Block n) where
@@ -172,7 +178,13 @@ module _ (s o ls out lens : List ℕ) (at to from file : ℕ) (w : Laying s o ls
       block-inside = inside
 
       pub record-room : to + spanOf (length (take (at + 3 + n - (at + 3)) (drop (at + 3) s))) ≤ length out
-      record-room = omega (arith, putting-room bytesOf (items s) o 0 out to _ _ (there-put _ _ there), item-span (take (at + 3 + n - (at + 3)) (drop (at + 3) s)))
+      record-room =
+          omega (
+            arith,
+            putting-room bytesOf (items s) o 0 out to _ _ (there-put _ _ there),
+            item-span
+                (take (at + 3 + n - (at + 3)) (drop (at + 3) s)),
+          )
 
       pub record-small : length (take (at + 3 + n - (at + 3)) (drop (at + 3) s)) < 4294967296
       record-small = omega (arith, long, block-most s at n p e q)
@@ -183,7 +195,8 @@ module _ (s o ls out lens : List ℕ) (at to from file : ℕ) (w : Laying s o ls
       pub to-fits : (k : ℕ) → k ≡ spanOf n → length o < 2 ^ 64 → Fits w64 (to + k)
       to-fits k i f = record { fits = omega (arith, record-room, span-there, w .put .size) }
 
-      pub laying-block : (k : ℕ) (r : List ℕ) → k ≡ spanOf n → r ≡ putAt out to (bytesOf (block (take (at + 3 + n - (at + 3)) (drop (at + 3) s))))
+      pub laying-block : (k : ℕ) (r : List ℕ) → k ≡ spanOf n
+          → r ≡ putAt out to (bytesOf (block (take (at + 3 + n - (at + 3)) (drop (at + 3) s))))
           → Laying s o ls r lens (at + 3 + n) (to + k) from file
       unfolding lengthsFrom
       laying-block k r i f =
@@ -196,7 +209,8 @@ module _ (s o ls out lens : List ℕ) (at to from file : ℕ) (w : Laying s o ls
             ahead = omega (arith, w .ahead);
             put = putting-item bytesOf (items s) o 0 out to (block bs) xs k r (there-put (block bs) xs there) size f;
             list =
-                listing-more (items s) (block bs) xs ls lens (to - from) (to + k - from) file (ap (λ (m : ℕ). lengthsFrom m xs) more)
+                listing-more (items s) (block bs) xs ls lens (to - from) (to + k - from) file
+                (ap (λ (m : ℕ). lengthsFrom m xs) more)
                 (there-list (block bs) xs there);
           }
 

@@ -1,4 +1,5 @@
--- The files of an image's reels: end to end they are the file of all items, and their lengths are found item by item. Assumes nothing.
+-- The files of an image's reels: end to end they are the file of all items, and their lengths are found item by item. Assumes
+-- nothing.
 use mathlib.Core.Path.{_≡_, refl, sym, ap, ap₂, _∙_}
 use mathlib.Core.List.{List, [], _∷_, _++_, map, flatten as endToEnd}
 use Prim.Native.Nat.{ℕ, _+_}

@@ -40,7 +40,8 @@ unfolding cutBy
 reels-at tape lengths from i h =
     let n : ℕ = getD lengths i 0 in
     let e : n ≡ from + n - from = omega arith in
-    ap (λ (l : List ℕ). map decode (cutBy l (drop from tape))) (drop-cons lengths i 0 h ∙ ap (λ (k : ℕ). n ∷ drop k lengths) (sym (add-one i)))
+    ap (λ (l : List ℕ). map decode (cutBy l (drop from tape)))
+    (drop-cons lengths i 0 h ∙ ap (λ (k : ℕ). n ∷ drop k lengths) (sym (add-one i)))
     ∙ ap (λ (l : List ℕ). decode (take n (drop from tape)) ∷ map decode (cutBy (drop (i + 1) lengths) l)) (drop-drop n from tape)
     ∙ ap (λ (k : ℕ). decode (take k (drop from tape)) ∷ reelsFrom tape lengths (from + n) (i + 1)) e
 
@@ -74,7 +75,8 @@ between-more tape lengths from i b h =
     let e = sum-at lengths i h in
     record { within = omega arith; place = omega (arith, b .place) }
 
-pub file-within : (tape lengths : List ℕ) (from i : ℕ) → FileStart tape lengths from i → i < length lengths → from + getD lengths i 0 ≤ length tape
+pub file-within : (tape lengths : List ℕ) (from i : ℕ) → FileStart tape lengths from i → i < length lengths
+    → from + getD lengths i 0 ≤ length tape
 file-within tape lengths from i b h = let e = sum-at lengths i h in omega (arith, b .place)
 
 pub file-fits : (tape lengths : List ℕ) (from i : ℕ) → FileStart tape lengths from i → i < length lengths → length tape < 2 ^ 64
@@ -130,7 +132,8 @@ module _ (tape lengths : List ℕ) (from item len i : ℕ) (m : Measuring tape l
           bytes = omega (arith, m .bytes, size, x .bytes f);
         }
 
-    pub measured-torn : (v : Verdict) → r .torn ≡ true → v ≡ torn (r .item) → TapeMeasured (reelsVerdict 0 (reelsIn tape lengths)) tape lengths (record { verdict = v; len = 0 })
+    pub measured-torn : (v : Verdict) → r .torn ≡ true → v ≡ torn (r .item)
+        → TapeMeasured (reelsVerdict 0 (reelsIn tape lengths)) tape lengths (record { verdict = v; len = 0 })
     unfolding reelsVerdict torn verdict
     measured-torn v t e =
         let here : List ℕ = take (from + getD lengths i 0 - from) (drop from tape) in
@@ -145,7 +148,8 @@ module _ (tape lengths : List ℕ) (from item len i : ℕ) (m : Measuring tape l
           bytes = λ z. absurd (omega arith);
         }
 
-pub measured-all : (tape lengths : List ℕ) (from item len i : ℕ) (v : Verdict) → Measuring tape lengths from item len i → length lengths ≤ i
+pub measured-all : (tape lengths : List ℕ) (from item len i : ℕ) (v : Verdict) → Measuring tape lengths from item len i
+    → length lengths ≤ i
     → v ≡ verdict 0 0 0 → TapeMeasured (reelsVerdict 0 (reelsIn tape lengths)) tape lengths (record { verdict = v; len = len })
 unfolding reelsVerdict
 measured-all tape lengths from item len i v m h e =
@@ -164,19 +168,23 @@ pub ruleset measures =
 pub sums-right : (b : Bool) (tape lengths : List ℕ) → b ≡ eqb (sum lengths) (length tape) → b ≡ true → sum lengths ≡ length tape
 sums-right b tape lengths e h = eqb-true (sum lengths) (length tape) (sym e ∙ h)
 
-pub checked-sum : (b : Bool) (tape lengths : List ℕ) (v : Verdict) → b ≡ eqb (sum lengths) (length tape) → b ≡ false → v ≡ verdict 15 0 0
+pub checked-sum : (b : Bool) (tape lengths : List ℕ) (v : Verdict) → b ≡ eqb (sum lengths) (length tape) → b ≡ false
+    → v ≡ verdict 15 0 0
     → TapeMeasured (tapeVerdict tape lengths) tape lengths (record { verdict = v; len = 0 })
 unfolding tapeVerdict verdict
 checked-sum b tape lengths v e h q =
     let said : v .number ≡ 15 = ap (λ (u : Verdict). u .number) q in
     record { said = q ∙ sym (if-false _ _ _ (sym e ∙ h)); bytes = λ z. absurd (omega arith) }
 
-module _ (b : Bool) (tape lengths : List ℕ) (m : Measure) (e : b ≡ eqb (sum lengths) (length tape)) (h : b ≡ true) (x : TapeMeasured (reelsVerdict 0 (reelsIn tape lengths)) tape lengths m) where
+module _ (b : Bool) (tape lengths : List ℕ) (m : Measure) (e : b ≡ eqb (sum lengths) (length tape)) (h : b ≡ true)
+    (x : TapeMeasured (reelsVerdict 0 (reelsIn tape lengths)) tape lengths m) where
   pub checked-torn : (m .verdict .number ≡ 0 → ⊥) → TapeMeasured (tapeVerdict tape lengths) tape lengths m
   unfolding tapeVerdict
   checked-torn z =
       record {
-        said = x .said ∙ sym (if-true _ _ _ (sym e ∙ h) ∙ if-false _ _ _ (ne-eqb _ 0 (λ q. z (ap (λ (v : Verdict). v .number) (x .said) ∙ q))));
+        said =
+            x .said ∙ sym (if-true _ _ _ (sym e ∙ h)
+            ∙ if-false _ _ _ (ne-eqb _ 0 (λ q. z (ap (λ (v : Verdict). v .number) (x .said) ∙ q))));
         bytes = x .bytes;
       }
 
@@ -186,9 +194,12 @@ module _ (b : Bool) (tape lengths : List ℕ) (m : Measure) (e : b ≡ eqb (sum 
     found = if-true _ _ _ (sym e ∙ h) ∙ if-true _ _ _ (eq-eqb _ 0 (sym (ap (λ (v : Verdict). v .number) (x .said)) ∙ z))
 
     zero : m .verdict ≡ verdict 0 0 0
-    zero = x .said ∙ close-reels 0 (reelsIn tape lengths) (reels-close 0 (reelsIn tape lengths) (sym (ap (λ (v : Verdict). v .number) (x .said)) ∙ z))
+    zero =
+        x .said ∙ close-reels 0 (reelsIn tape lengths)
+        (reels-close 0 (reelsIn tape lengths) (sym (ap (λ (v : Verdict). v .number) (x .said)) ∙ z))
 
-    pub checked-few : (few : Bool) → few ≡ isFew (length lengths) → few ≡ true → TapeMeasured (tapeVerdict tape lengths) tape lengths m
+    pub checked-few : (few : Bool) → few ≡ isFew (length lengths) → few ≡ true
+        → TapeMeasured (tapeVerdict tape lengths) tape lengths m
     checked-few few k l = record { said = zero ∙ sym (found ∙ if-true _ _ _ (sym k ∙ l)); bytes = x .bytes }
 
     pub checked-many : (few : Bool) (v : Verdict) → few ≡ isFew (length lengths) → few ≡ false → v ≡ verdict 2 0 0

@@ -1,4 +1,5 @@
--- Reels as lists of items: one that closes has no wrong item, its end is its last, and reels that close are told apart in the items of a whole set.
+-- Reels as lists of items: one that closes has no wrong item, its end is its last, and reels that close are told apart in the
+-- items of a whole set.
 -- Assumes nothing.
 use mathlib.Core.Path.{_≡_, refl, sym, ap, _∙_, subst}
 use mathlib.Core.Bool.{Bool, true, false, false≢true}
@@ -64,7 +65,8 @@ pub reels-close : (n : ℕ) (rs : List (List Item)) → reelsVerdict n rs .numbe
 unfolding AllClose reelsVerdict
 reels-close n [] h = tt
 reels-close n (r ∷ rs) h =
-    if-case (λ (v : Verdict). v .number ≡ 0 → AllClose (r ∷ rs)) (eqb (reelVerdict n r .number) 0) (reelsVerdict (n + length r) rs) (reelVerdict n r)
+    if-case (λ (v : Verdict). v .number ≡ 0 → AllClose (r ∷ rs)) (eqb (reelVerdict n r .number) 0)
+    (reelsVerdict (n + length r) rs) (reelVerdict n r)
     (λ e q. (reel-closes n r (eqb-true (reelVerdict n r .number) 0 e), reels-close (n + length r) rs q))
     (λ e q. absurd (eqb-false (reelVerdict n r .number) 0 e q)) h
 
@@ -72,7 +74,8 @@ pub close-reels : (n : ℕ) (rs : List (List Item)) → AllClose rs → reelsVer
 unfolding AllClose reelsVerdict verdict
 close-reels n [] h = refl
 close-reels n (r ∷ rs) h =
-    if-true _ _ _ (eq-eqb (reelVerdict n r .number) 0 (ap (λ (v : Verdict). v .number) (closes-reel n r (h .0)))) ∙ close-reels (n + length r) rs (h .1)
+    if-true _ _ _ (eq-eqb (reelVerdict n r .number) 0 (ap (λ (v : Verdict). v .number) (closes-reel n r (h .0))))
+    ∙ close-reels (n + length r) rs (h .1)
 
 -- ---- the reels of items
 
@@ -111,7 +114,8 @@ pub record Reeled (r : ℕ) (closed : Bool) (xs : List Item) : Type 0 where
   pub some : closed ≡ false → 1 ≤ length (reelsOf xs)
   pub few : r + length (reelsOf xs) ≤ mostReels
 
-reeled-first : (x : Item) (r : ℕ) (closed : Bool) (xs : List Item) → ((s : List Item) → ReelCloses s → ReelCloses (x ∷ s)) → Reeled r false xs
+reeled-first : (x : Item) (r : ℕ) (closed : Bool) (xs : List Item) → ((s : List Item) → ReelCloses s → ReelCloses (x ∷ s))
+    → Reeled r false xs
     → reelsOf (x ∷ xs) ≡ onFirst x (reelsOf xs) → Reeled r closed (x ∷ xs)
 unfolding AllClose onFirst
 reeled-first x r closed xs more w e = by (reelsOf xs) refl
@@ -130,24 +134,29 @@ reeled-first x r closed xs more w e = by (reelsOf xs) refl
         }
 
 -- one item further, while reels are left
-module _ (xs : List Item) (again : (n r : ℕ) (closed : Bool) → r ≤ mostReels → framedFrom n r closed xs .number ≡ 0 → Reeled r closed xs) where
-  next-reel : (n r : ℕ) (closed : Bool) → r ≤ mostReels → framedFrom n r closed (reelEnd ∷ xs) .number ≡ 0 → Reeled r closed (reelEnd ∷ xs)
+module _ (xs : List Item)
+    (again : (n r : ℕ) (closed : Bool) → r ≤ mostReels → framedFrom n r closed xs .number ≡ 0 → Reeled r closed xs) where
+  next-reel : (n r : ℕ) (closed : Bool) → r ≤ mostReels → framedFrom n r closed (reelEnd ∷ xs) .number ≡ 0
+      → Reeled r closed (reelEnd ∷ xs)
   unfolding framedFrom verdict AllClose ReelCloses reelsOf
   next-reel n r closed m =
-      if-case (λ (v : Verdict). v .number ≡ 0 → Reeled r closed (reelEnd ∷ xs)) (eqb r mostReels) _ _ (λ _ q. absurd (omega arith))
+      if-case (λ (v : Verdict). v .number ≡ 0 → Reeled r closed (reelEnd ∷ xs)) (eqb r mostReels) _ _
+      (λ _ q. absurd (omega arith))
       (λ f q.
       let less : r < mostReels = omega (arith, eqb-false r mostReels f) in
       let w : Reeled (r + 1) true xs = again (n + 1) (r + 1) true (omega arith) q in
       record { close = (tt, w .close); some = λ _. omega arith; few = omega (arith, w .few) })
 
-  next-item : (x : Item) (n r : ℕ) (closed : Bool) → ((s : List Item) → ReelCloses s → ReelCloses (x ∷ s)) → reelsOf (x ∷ xs) ≡ onFirst x (reelsOf xs) → r ≤ mostReels
+  next-item : (x : Item) (n r : ℕ) (closed : Bool) → ((s : List Item) → ReelCloses s → ReelCloses (x ∷ s))
+      → reelsOf (x ∷ xs) ≡ onFirst x (reelsOf xs) → r ≤ mostReels
       → ifB (eqb r mostReels) (verdict 2 n 0) (framedFrom (n + 1) r false xs) .number ≡ 0 → Reeled r closed (x ∷ xs)
   unfolding verdict
   next-item x n r closed more e m =
       if-case (λ (v : Verdict). v .number ≡ 0 → Reeled r closed (x ∷ xs)) (eqb r mostReels) _ _ (λ _ q. absurd (omega arith))
       (λ _ q. reeled-first x r closed xs more (again (n + 1) r false m q) e)
 
-pub framed-reels : (xs : List Item) (n r : ℕ) (closed : Bool) → r ≤ mostReels → framedFrom n r closed xs .number ≡ 0 → Reeled r closed xs
+pub framed-reels : (xs : List Item) (n r : ℕ) (closed : Bool) → r ≤ mostReels → framedFrom n r closed xs .number ≡ 0
+    → Reeled r closed xs
 unfolding framedFrom verdict AllClose ReelCloses reelsOf
 framed-reels [] n r closed m h =
     if-case (λ (v : Verdict). v .number ≡ 0 → Reeled r closed []) closed (verdict 0 0 0) (verdict 2 n 0)
@@ -174,16 +183,19 @@ reel-framed (reelEnd ∷ []) xs n r closed h m = if-false _ _ _ (ne-eqb r mostRe
 reel-framed (reelEnd ∷ y ∷ x) xs n r closed h m = absurd h
 reel-framed (broken ∷ x) xs n r closed h m = absurd h
 
-later-framed : (rs : List (List Item)) (n r : ℕ) → AllClose rs → r + length rs ≤ mostReels → framedFrom n r true (endToEnd rs) ≡ verdict 0 0 0
+later-framed : (rs : List (List Item)) (n r : ℕ) → AllClose rs → r + length rs ≤ mostReels
+    → framedFrom n r true (endToEnd rs) ≡ verdict 0 0 0
 unfolding AllClose endToEnd framedFrom
 later-framed [] n r h m = if-true _ _ _ refl
 later-framed (x ∷ rs) n r h m =
     reel-framed x (endToEnd rs) n r true (h .0) (omega arith) ∙ later-framed rs (n + length x) (r + 1) (h .1) (omega arith)
 
-pub reels-framed : (rs : List (List Item)) → AllClose rs → 1 ≤ length rs → length rs ≤ mostReels → framedFrom 0 0 false (endToEnd rs) ≡ verdict 0 0 0
+pub reels-framed : (rs : List (List Item)) → AllClose rs → 1 ≤ length rs → length rs ≤ mostReels
+    → framedFrom 0 0 false (endToEnd rs) ≡ verdict 0 0 0
 unfolding AllClose endToEnd
 reels-framed [] h s m = absurd (omega arith)
-reels-framed (x ∷ rs) h s m = reel-framed x (endToEnd rs) 0 0 false (h .0) (omega arith) ∙ later-framed rs (0 + length x) (0 + 1) (h .1) (omega arith)
+reels-framed (x ∷ rs) h s m =
+    reel-framed x (endToEnd rs) 0 0 false (h .0) (omega arith) ∙ later-framed rs (0 + length x) (0 + 1) (h .1) (omega arith)
 
 -- ---- a file whose items close holds only items that can stand in an image
 
@@ -194,12 +206,14 @@ sound-item (Block n) s e =
     let a : BlockAt s n = block-at s n e in
     let whole : 4 + n ≤ length s = omega (arith, a .whole) in
     let long : length (part 4 n s) ≡ n = length-part 4 n s whole in
-    and-true _ _ (le-leb 1 (length (part 4 n s)) (omega (arith, a .some))) (le-leb (length (part 4 n s)) mostBytes (omega (arith, a .most)))
+    and-true _ _ (le-leb 1 (length (part 4 n s)) (omega (arith, a .some)))
+    (le-leb (length (part 4 n s)) mostBytes (omega (arith, a .most)))
 sound-item Mark s e = tt
 sound-item ReelEnd s e = tt
 sound-item Broken s e = tt
 
-right-more : (x : Item) (xs : List Item) → SoundItem x → (ReelCloses xs → allItems xs ≡ true) → ReelCloses (x ∷ xs) → allItems (x ∷ xs) ≡ true
+right-more : (x : Item) (xs : List Item) → SoundItem x → (ReelCloses xs → allItems xs ≡ true) → ReelCloses (x ∷ xs)
+    → allItems (x ∷ xs) ≡ true
 unfolding SoundItem ReelCloses allItems isItem
 right-more (block bs) xs good again h = if-true _ _ _ good ∙ again h
 right-more mark xs good again h = if-true _ _ _ refl ∙ again h
@@ -210,7 +224,8 @@ right-more broken xs good again h = absurd h
 pub closes-right : (s : List ℕ) → ReelCloses (decode s) → allItems (decode s) ≡ true
 unfolding ReelCloses
 closes-right =
-    by-read itemIn leftOf left-less (λ (s : List ℕ). ReelCloses (decode s) → allItems (decode s) ≡ true) (λ h. absurd (subst ReelCloses decode-none h))
+    by-read itemIn leftOf left-less (λ (s : List ℕ). ReelCloses (decode s) → allItems (decode s) ≡ true)
+    (λ h. absurd (subst ReelCloses decode-none h))
     (λ s h again c.
     ap allItems (decode-more s h) ∙ right-more _ _ (sound-item (shape s) s refl) again (subst ReelCloses (decode-more s h) c))
 

@@ -1,4 +1,5 @@
--- The two round trips of one file: items that can stand on a reel are read again from their bytes, and a file in which no item is broken is written again
+-- The two round trips of one file: items that can stand on a reel are read again from their bytes, and a file in which no item is
+-- broken is written again
 -- from its items. Assumes nothing.
 use mathlib.Core.Path.{_≡_, refl, sym, ap, ap₂, _∙_}
 use mathlib.Core.Bool.{Bool, true, false, false≢true}
@@ -32,14 +33,16 @@ word-four n t = omega arith
 shape-four : (n : ℕ) (t : List ℕ) → shape (four n ++ t) ≡ ledBy n (four n ++ t)
 unfolding shape four
 shape-four n t =
-    if-true _ _ _ (le-leb 4 (suc (suc (suc (suc (length t))))) (omega arith)) ∙ ap (λ (w : ℕ). ledBy w (four n ++ t)) (word-four n t)
+    if-true _ _ _ (le-leb 4 (suc (suc (suc (suc (length t))))) (omega arith))
+    ∙ ap (λ (w : ℕ). ledBy w (four n ++ t)) (word-four n t)
 
 -- what is read from a length word and what follows it
 decode-four : (n : ℕ) (t : List ℕ) (p : Shape) → ledBy n (four n ++ t) ≡ p
     → decode (four n ++ t) ≡ itemOf p (four n ++ t) ∷ decode (behind p (four n ++ t))
 unfolding four
 decode-four n t p e =
-    decode-more (four n ++ t) (omega arith) ∙ ap (λ (q : Shape). itemOf q (four n ++ t) ∷ decode (behind q (four n ++ t))) (shape-four n t ∙ e)
+    decode-more (four n ++ t) (omega arith)
+    ∙ ap (λ (q : Shape). itemOf q (four n ++ t) ∷ decode (behind q (four n ++ t))) (shape-four n t ∙ e)
 
 pad-zero : (n : ℕ) → allAre 0 (pad n) ≡ true
 unfolding pad allAre
@@ -61,7 +64,8 @@ module _ (bs t : List ℕ) where
   at-pad = sym (drop-drop n 4 written) ∙ ap (drop n) at-data ∙ drop-at bs (pad n ++ (four n ++ t)) n refl
 
   at-second : drop (second n) written ≡ four n ++ t
-  at-second = sym (drop-drop (n % 2) (4 + n) written) ∙ ap (drop (n % 2)) at-pad ∙ drop-at (pad n) (four n ++ t) (n % 2) (length-pad n)
+  at-second =
+      sym (drop-drop (n % 2) (4 + n) written) ∙ ap (drop (n % 2)) at-pad ∙ drop-at (pad n) (four n ++ t) (n % 2) (length-pad n)
 
   at-end : drop (spanOf n) written ≡ t
   unfolding four
@@ -79,7 +83,8 @@ module _ (bs t : List ℕ) where
   unfolding isWhole part
   is-whole =
       and-true _ _ (le-leb (spanOf n) (length written) (omega (arith, long)))
-      (and-true _ _ (ap (λ (l : List ℕ). allAre 0 (take (n % 2) l)) at-pad ∙ ap (allAre 0) (take-at (pad n) (four n ++ t) (n % 2) (length-pad n)) ∙ pad-zero n)
+      (and-true _ _ (ap (λ (l : List ℕ). allAre 0 (take (n % 2) l)) at-pad
+      ∙ ap (allAre 0) (take-at (pad n) (four n ++ t) (n % 2) (length-pad n)) ∙ pad-zero n)
       (eq-eqb (word (drop (second n) written)) n (ap word at-second ∙ word-four n t)))
 
   block-again : isItem (block bs) ≡ true → decode written ≡ block bs ∷ decode t
@@ -90,14 +95,16 @@ module _ (bs t : List ℕ) where
       let not-mark : n ≡ 0 → ⊥ = omega arith in
       let not-end : n ≡ endWord → ⊥ = omega arith in
       decode-four n (bs ++ (pad n ++ (four n ++ t))) (Block n)
-      (if-false _ _ _ (ne-eqb n 0 not-mark) ∙ if-false _ _ _ (ne-eqb n endWord not-end) ∙ if-true _ _ _ (le-leb n mostBytes most) ∙ if-true _ _ _ is-whole)
+      (if-false _ _ _ (ne-eqb n 0 not-mark) ∙ if-false _ _ _ (ne-eqb n endWord not-end) ∙ if-true _ _ _ (le-leb n mostBytes most)
+      ∙ if-true _ _ _ is-whole)
       ∙ ap₂ (λ (b l : List ℕ). block b ∷ decode l) (ap (take n) at-data ∙ take-at bs (pad n ++ (four n ++ t)) n refl) at-end
 
 pub decode-item : (x : Item) (t : List ℕ) → isItem x ≡ true → decode (bytesOf x ++ t) ≡ x ∷ decode t
 unfolding bytesOf isItem ledBy itemOf behind four
 decode-item (block bs) t h =
     let n : ℕ = length bs in
-    ap decode (append-assoc (four n ++ bs ++ pad n) (four n) t ∙ append-assoc (four n ++ bs) (pad n) (four n ++ t) ∙ append-assoc (four n) bs (pad n ++ (four n ++ t)))
+    ap decode (append-assoc (four n ++ bs ++ pad n) (four n) t ∙ append-assoc (four n ++ bs) (pad n) (four n ++ t)
+    ∙ append-assoc (four n) bs (pad n ++ (four n ++ t)))
     ∙ block-again bs t h
 decode-item mark t h = decode-four 0 t Mark (if-true _ _ _ refl)
 decode-item reelEnd t h = decode-four endWord t ReelEnd (if-false _ _ _ refl ∙ if-true _ _ _ refl)
@@ -165,7 +172,8 @@ whole-again s n b a =
     ∙ word-again s n b (a .led) (omega arith)
 
 -- an item that is not broken has the bytes at whose head it stands
-item-again : (p : Shape) (s : List ℕ) → shape s ≡ p → Bytes s → isItem (itemOf p s) ≡ true → bytesOf (itemOf p s) ++ behind p s ≡ s
+item-again : (p : Shape) (s : List ℕ) → shape s ≡ p → Bytes s → isItem (itemOf p s) ≡ true
+    → bytesOf (itemOf p s) ++ behind p s ≡ s
 unfolding itemOf behind bytesOf isItem
 item-again (Block n) s e b h = whole-again s n b (block-at s n e)
 item-again Mark s e b h = word-again s 0 b (mark-at s e .led) (mark-at s e .whole)

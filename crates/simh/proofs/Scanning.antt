@@ -48,7 +48,8 @@ pub scanning-none : (first : ℕ) (s : List ℕ) → Scanning first s 0 first 0
 scanning-none first s =
     record { counted = omega arith; short = omega arith; within = omega arith; left = refl; all = refl; bytes = omega arith }
 
-module _ (first : ℕ) (s : List ℕ) (at item len : ℕ) (p : Shape) (w : Scanning first s at item len) (h : at < length s) (e : p ≡ shape (drop at s)) where
+module _ (first : ℕ) (s : List ℕ) (at item len : ℕ) (p : Shape) (w : Scanning first s at item len) (h : at < length s)
+    (e : p ≡ shape (drop at s)) where
   pub scanning-block : (n r : ℕ) → p ≡ Block n → r ≡ spanOf n → Scanning first s (at + r) (item + 1) (len + 3 + n)
   unfolding reelVerdict
   scanning-block n r q k =
@@ -97,7 +98,8 @@ module _ (first : ℕ) (s : List ℕ) (at item len : ℕ) (p : Shape) (w : Scann
       record {
         wrong =
             λ t. sym (w .left) ∙ ap (reelVerdict item) (d
-            ∙ ap (λ (xs : List Item). reelEnd ∷ xs) (decode-at s (at + 4) (shape (drop (at + 4) s)) (ltb-true (at + 4) (length s) t) refl));
+            ∙ ap (λ (xs : List Item). reelEnd ∷ xs)
+            (decode-at s (at + 4) (shape (drop (at + 4) s)) (ltb-true (at + 4) (length s) t) refl));
         right = λ f. sym (w .left) ∙ ap (reelVerdict item) (last f);
         all = λ f. omega (arith, w .all, ap length (last f));
         bytes = λ f. omega (arith, w .bytes, ap (λ (xs : List Item). length (imageBytes xs)) (last f) ∙ image-end [], no-bytes);
@@ -135,10 +137,12 @@ scanned-open first s at item len w h =
 pub block-most : (s : List ℕ) (at n : ℕ) (p : Shape) → p ≡ shape (drop at s) → p ≡ Block n → n ≤ mostBytes
 block-most s at n p e q = block-at (drop at s) n (sym e ∙ q) .most
 
-pub place-fits : (s : List ℕ) (at n r : ℕ) (p : Shape) → p ≡ shape (drop at s) → p ≡ Block n → r ≡ spanOf n → length s < 2 ^ 64 → Fits w64 (at + r)
+pub place-fits : (s : List ℕ) (at n r : ℕ) (p : Shape) → p ≡ shape (drop at s) → p ≡ Block n → r ≡ spanOf n → length s < 2 ^ 64
+    → Fits w64 (at + r)
 place-fits s at n r p e q k h = let room : at + spanOf n ≤ length s = block-within s at n (sym e ∙ q) in record { fits = omega arith }
 
-pub len-fits : (first : ℕ) (s : List ℕ) (at item len n : ℕ) (p : Shape) → Scanning first s at item len → p ≡ shape (drop at s) → p ≡ Block n
+pub len-fits : (first : ℕ) (s : List ℕ) (at item len n : ℕ) (p : Shape) → Scanning first s at item len → p ≡ shape (drop at s)
+    → p ≡ Block n
     → length s < 2 ^ 64 → Fits w64 (len + 3 + n)
 len-fits first s at item len n p w e q h =
     let room : at + spanOf n ≤ length s = block-within s at n (sym e ∙ q) in record { fits = omega (arith, w .short) }
@@ -149,4 +153,5 @@ mark-fits s at p e q h = let room : at + 4 ≤ length s = mark-within s at (sym 
 pub end-fits : (s : List ℕ) (at : ℕ) (p : Shape) → p ≡ shape (drop at s) → p ≡ ReelEnd → length s < 2 ^ 64 → Fits w64 (at + 4)
 end-fits s at p e q h = let room : at + 4 ≤ length s = end-within s at (sym e ∙ q) in record { fits = omega arith }
 
-pub ruleset scans = (scanning-none, scanning-block, scanning-mark, scanned-end, scanned-broken, scanned-open, block-most, place-fits, len-fits, mark-fits, end-fits, needs)
+pub ruleset scans =
+    (scanning-none, scanning-block, scanning-mark, scanned-end, scanned-broken, scanned-open, block-most, place-fits, len-fits, mark-fits, end-fits, needs)

@@ -48,7 +48,8 @@ item-span bs =
 
 pub file-block : (bs : List ℕ) (xs : List Item) → length (encode (block bs ∷ xs)) ≡ spanOf (length bs) + length (encode xs)
 unfolding encode encodeBy
-file-block bs xs = length-append (bytesOf (block bs)) (encodeBy bytesOf xs) ∙ ap (λ (n : ℕ). n + length (encodeBy bytesOf xs)) (item-span bs)
+file-block bs xs =
+    length-append (bytesOf (block bs)) (encodeBy bytesOf xs) ∙ ap (λ (n : ℕ). n + length (encodeBy bytesOf xs)) (item-span bs)
 
 pub file-mark : (xs : List Item) → length (encode (mark ∷ xs)) ≡ 4 + length (encode xs)
 unfolding encode encodeBy bytesOf four
@@ -60,7 +61,8 @@ file-end xs = omega arith
 
 -- ---- either form held against the other
 
-broken-shorter : (xs : List Item) → length (imageBytes xs) ≤ length (encode xs) → length (imageBytes (broken ∷ xs)) ≤ length (encode (broken ∷ xs))
+broken-shorter : (xs : List Item) → length (imageBytes xs) ≤ length (encode xs)
+    → length (imageBytes (broken ∷ xs)) ≤ length (encode (broken ∷ xs))
 unfolding imageBytes encode encodeBy imageItem bytesOf
 broken-shorter xs h = h
 

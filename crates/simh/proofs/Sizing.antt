@@ -32,9 +32,17 @@ pub record Sizing (s : List ℕ) (at n r : ℕ) (closed : Bool) (len : ℕ) : Ty
 
 pub sizing-none : (s : List ℕ) → Sizing s 5 0 0 false 0
 unfolding items
-sizing-none s = record { walked = walked-none s 5 0 0 false (omega arith) (omega arith); small = omega arith; bytes = omega arith; count = omega arith }
+sizing-none s =
+    record {
+      walked = walked-none s 5 0 0 false (omega arith)
+          (omega arith);
+      small = omega arith;
+      bytes = omega arith;
+      count = omega arith;
+    }
 
-module _ (s : List ℕ) (at n r : ℕ) (closed : Bool) (len : ℕ) (p : Shape) (w : Sizing s at n r closed len) (h : at < length s) (f : r ≡ mostReels → ⊥)
+module _ (s : List ℕ) (at n r : ℕ) (closed : Bool) (len : ℕ) (p : Shape) (w : Sizing s at n r closed len) (h : at < length s)
+    (f : r ≡ mostReels → ⊥)
     (e : p ≡ shape (drop at s)) where
   pub sizing-block : (m k : ℕ) → p ≡ Block m → k ≡ spanOf m → Sizing s (at + 3 + m) (n + 1) r false (len + k)
   unfolding lengthsFrom
@@ -84,7 +92,8 @@ module _ (s : List ℕ) (at n r : ℕ) (closed : Bool) (len : ℕ) (p : Shape) (
 -- ---- the returns
 
 -- an answer that is a refusal tells nothing of a size
-sized-refused : (s : List ℕ) (z : Size) (n : ℕ) → z ≡ wrongItem n → z .verdict ≡ framedFrom 0 0 false (items s) → ImageSized (framedFrom 0 0 false (items s)) s z
+sized-refused : (s : List ℕ) (z : Size) (n : ℕ) → z ≡ wrongItem n → z .verdict ≡ framedFrom 0 0 false (items s)
+    → ImageSized (framedFrom 0 0 false (items s)) s z
 unfolding wrongItem verdict
 sized-refused s z n e a =
     let two : z .verdict .number ≡ 2 = ap (λ (y : Size). y .verdict .number) e in
@@ -98,13 +107,16 @@ module _ (s : List ℕ) (at n r : ℕ) (closed : Bool) (len : ℕ) (w : Sizing s
   pub sized-full : (z : Size) → z ≡ wrongItem n → at < length s → r ≡ mostReels → ImageSized (framedFrom 0 0 false (items s)) s z
   sized-full z e h q = sized-refused s z n e (walked-full s _ at n r closed (z .verdict) (answer-of z n e) (w .walked) h q)
 
-  pub sized-broken : (p : Shape) (z : Size) → z ≡ wrongItem n → at < length s → p ≡ shape (drop at s) → p ≡ Broken → ImageSized (framedFrom 0 0 false (items s)) s z
-  sized-broken p z e h k q = sized-refused s z n e (walked-broken s _ at n r closed p (z .verdict) (answer-of z n e) (w .walked) h k q)
+  pub sized-broken : (p : Shape) (z : Size) → z ≡ wrongItem n → at < length s → p ≡ shape (drop at s) → p ≡ Broken
+      → ImageSized (framedFrom 0 0 false (items s)) s z
+  sized-broken p z e h k q =
+      sized-refused s z n e (walked-broken s _ at n r closed p (z .verdict) (answer-of z n e) (w .walked) h k q)
 
   pub sized-open : (z : Size) → z ≡ wrongItem n → length s ≤ at → closed ≡ false → ImageSized (framedFrom 0 0 false (items s)) s z
   sized-open z e h q = sized-refused s z n e (walked-open s _ at n r closed (z .verdict) (answer-of z n e) (w .walked) h q)
 
-  pub sized-closed : (z : Size) → z ≡ sizeOf len r → length s ≤ at → closed ≡ true → ImageSized (framedFrom 0 0 false (items s)) s z
+  pub sized-closed : (z : Size) → z ≡ sizeOf len r → length s ≤ at → closed ≡ true
+      → ImageSized (framedFrom 0 0 false (items s)) s z
   unfolding sizeOf verdict lengthsFrom
   sized-closed z e h q =
       let gone : decode (drop at s) ≡ [] = decode-past s at h in
@@ -117,7 +129,8 @@ module _ (s : List ℕ) (at n r : ℕ) (closed : Bool) (len : ℕ) (w : Sizing s
         reels = λ _. omega (arith, w .count);
       })
 
-  pub len-fits : (p : Shape) (m k : ℕ) → p ≡ shape (drop at s) → p ≡ Block m → k ≡ spanOf m → length s ≤ mostImage → Fits w64 (len + k)
+  pub len-fits : (p : Shape) (m k : ℕ) → p ≡ shape (drop at s) → p ≡ Block m → k ≡ spanOf m → length s ≤ mostImage
+      → Fits w64 (len + k)
   len-fits p m k e q i h =
       let within : at + 3 + m ≤ length s = block-within s at m p e q in
       record { fits = omega (arith, w .small) }
@@ -130,10 +143,12 @@ pub ruleset sizes =
 
 -- ---- any image
 
-pub framed-opened : (s : List ℕ) (b : Bool) (z : Size) → b ≡ opens s → b ≡ true → ImageSized (framedFrom 0 0 false (items s)) s z → ImageSized (framing s) s z
+pub framed-opened : (s : List ℕ) (b : Bool) (z : Size) → b ≡ opens s → b ≡ true → ImageSized (framedFrom 0 0 false (items s)) s z
+    → ImageSized (framing s) s z
 framed-opened s b z e h x = record { said = x .said ∙ sym (framing-opened s (sym e ∙ h)); bytes = x .bytes; reels = x .reels }
 
-pub framed-shut : (s : List ℕ) (b : Bool) (v : Verdict) → b ≡ opens s → b ≡ false → v ≡ framing s → ImageSized (framing s) s (record { verdict = v; len = 0; files = 0 })
+pub framed-shut : (s : List ℕ) (b : Bool) (v : Verdict) → b ≡ opens s → b ≡ false → v ≡ framing s
+    → ImageSized (framing s) s (record { verdict = v; len = 0; files = 0 })
 framed-shut s b v e h q =
     let wrong : v .number ≡ 0 → ⊥ = λ z. framing-shut s (sym e ∙ h) (sym (ap (λ (u : Verdict). u .number) q) ∙ z) in
     record { said = q; bytes = λ z. absurd (wrong z); reels = λ z. absurd (wrong z) }

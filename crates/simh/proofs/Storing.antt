@@ -34,7 +34,8 @@ pub putting-none : (bytes : Item → List ℕ) (xs : List Item) (o : List ℕ) (
 putting-none bytes xs o to h = record { size = refl; fits = h; ends = refl; left = refl }
 
 module _ (bytes : Item → List ℕ) (xs : List Item) (o : List ℕ) (to : ℕ) (out : List ℕ) (place : ℕ) where
-  pub putting-more : (ys zs : List Item) (q : List ℕ) → Putting bytes xs (ys ++ zs) o to out place → q ≡ putAt out place (encodeBy bytes ys)
+  pub putting-more : (ys zs : List Item) (q : List ℕ) → Putting bytes xs (ys ++ zs) o to out place
+      → q ≡ putAt out place (encodeBy bytes ys)
       → Putting bytes xs zs o to q (place + length (encodeBy bytes ys))
   putting-more ys zs q w e =
       let both : encodeBy bytes (ys ++ zs) ≡ encodeBy bytes ys ++ encodeBy bytes zs = by-append bytes ys zs in
@@ -53,13 +54,15 @@ module _ (bytes : Item → List ℕ) (xs : List Item) (o : List ℕ) (to : ℕ) 
       }
 
   -- one item
-  pub putting-item : (x : Item) (zs : List Item) (k : ℕ) (q : List ℕ) → Putting bytes xs (x ∷ zs) o to out place → length (bytes x) ≡ k
+  pub putting-item : (x : Item) (zs : List Item) (k : ℕ) (q : List ℕ) → Putting bytes xs (x ∷ zs) o to out place
+      → length (bytes x) ≡ k
       → q ≡ putAt out place (bytes x) → Putting bytes xs zs o to q (place + k)
   unfolding encodeBy
   putting-item x zs k q w l e =
       let one : encodeBy bytes (x ∷ []) ≡ bytes x = append-nil (bytes x) in
       let long : length (encodeBy bytes (x ∷ [])) ≡ k = ap length one ∙ l in
-      subst (λ (n : ℕ). Putting bytes xs zs o to q (place + n)) long (putting-more (x ∷ []) zs q w (e ∙ ap (putAt out place) (sym one)))
+      subst (λ (n : ℕ). Putting bytes xs zs o to q (place + n)) long
+      (putting-more (x ∷ []) zs q w (e ∙ ap (putAt out place) (sym one)))
 
   pub putting-all : Putting bytes xs [] o to out place → out ≡ putAt o to (encodeBy bytes xs)
   unfolding encodeBy
@@ -70,7 +73,8 @@ module _ (bytes : Item → List ℕ) (xs : List Item) (o : List ℕ) (to : ℕ) 
   putting-end w = omega (arith, w .ends)
 
   -- an item that is left has room
-  pub putting-room : (x : Item) (zs : List Item) → Putting bytes xs (x ∷ zs) o to out place → place + length (bytes x) ≤ length out
+  pub putting-room : (x : Item) (zs : List Item) → Putting bytes xs (x ∷ zs) o to out place
+      → place + length (bytes x) ≤ length out
   unfolding encodeBy
   putting-room x zs w = let long = length-append (bytes x) (encodeBy bytes zs) in omega (arith, w .size, w .fits, w .ends)
 
@@ -106,7 +110,8 @@ module _ (s o : List ℕ) (to : ℕ) (out : List ℕ) (at place : ℕ) where
     filling-word = let room : 4 ≤ length s - at = simp length-drop at (word-whole (drop at s) (shape (drop at s)) refl good) in omega arith
 
     -- the item at the place is written, and the next one stands at place a
-    next : (x : Item) (a k : ℕ) (q : List ℕ) → decode (drop at s) ≡ x ∷ decode (drop a s) → a ≤ length s → length (imageItem x) ≡ k
+    next : (x : Item) (a k : ℕ) (q : List ℕ) → decode (drop at s) ≡ x ∷ decode (drop a s) → a ≤ length s
+        → length (imageItem x) ≡ k
         → q ≡ putAt out place (imageItem x) → Filling s o to q a (place + k)
     next x a k q d m l e =
         record {
@@ -118,7 +123,9 @@ module _ (s o : List ℕ) (to : ℕ) (out : List ℕ) (at place : ℕ) where
         }
 
     roomy : (x : Item) (xs : List Item) → decode (drop at s) ≡ x ∷ xs → place + length (imageItem x) ≤ length out
-    roomy x xs d = putting-room imageItem (decode s) o to out place x xs (subst (λ (ys : List Item). Putting imageItem (decode s) ys o to out place) d (w .put))
+    roomy x xs d =
+        putting-room imageItem (decode s) o to out place x xs
+        (subst (λ (ys : List Item). Putting imageItem (decode s) ys o to out place) d (w .put))
 
     module _ (n : ℕ) (e : n ≡ word (drop at s)) where
       module _ (z : n ≡ 0) where
@@ -188,13 +195,15 @@ module _ (s o : List ℕ) (to : ℕ) (out : List ℕ) (at place : ℕ) where
         pub end-fits : length o < 2 ^ 64 → Fits w64 (place + 3 + n)
         end-fits f = record { fits = omega (arith, block-room, long, w .put .size) }
 
-        pub filling-block : (r : ℕ) (q : List ℕ) → r ≡ spanOf n → q ≡ putAt out place (imageItem (block (take (at + 4 + n - (at + 4)) (drop (at + 4) s))))
+        pub filling-block : (r : ℕ) (q : List ℕ) → r ≡ spanOf n
+            → q ≡ putAt out place (imageItem (block (take (at + 4 + n - (at + 4)) (drop (at + 4) s))))
             → Filling s o to q (at + r) (place + 3 + n)
         filling-block r q k f =
             let size : length (imageItem (block (take (at + 4 + n - (at + 4)) (drop (at + 4) s)))) ≡ 3 + n = item-size _ ∙ ap (λ (m : ℕ). 3 + m) long in
             let place-behind : place + (3 + n) ≡ place + 3 + n = omega arith in
             subst (λ (m : ℕ). Filling s o to q (at + m) (place + 3 + n)) (sym k)
-            (subst (Filling s o to q (at + spanOf n)) place-behind (next _ (at + spanOf n) (3 + n) q there (block-within s at n blocked) size f))
+            (subst (Filling s o to q (at + spanOf n)) place-behind
+            (next _ (at + spanOf n) (3 + n) q there (block-within s at n blocked) size f))
 
 pub ruleset fills =
     (filling-none, filling-word, filling-mark, filling-end, filling-block, filling-all, filling-place, mark-room, end-room, block-room, block-small, block-most, block-inside, block-fits, place-fits, end-fits, needs)
@@ -220,7 +229,8 @@ module _ (tape lengths o out : List ℕ) (from to i : ℕ) (w : Storing tape len
   unfolding imageBytes endToEnd
   storing-all h =
       putting-all imageItem (itemsIn tape lengths) o 5 out to
-      (subst (λ (rs : List (List Item)). Putting imageItem (itemsIn tape lengths) (endToEnd rs) o 5 out to) (reels-past tape lengths from i h) (w .put))
+      (subst (λ (rs : List (List Item)). Putting imageItem (itemsIn tape lengths) (endToEnd rs) o 5 out to)
+      (reels-past tape lengths from i h) (w .put))
 
   module _ (h : i < length lengths) where
     abbrev file : List ℕ
@@ -234,7 +244,9 @@ module _ (tape lengths o out : List ℕ) (from to i : ℕ) (w : Storing tape len
 
     here : Putting imageItem (itemsIn tape lengths) (decode file ++ endToEnd rest) o 5 out to
     unfolding endToEnd
-    here = subst (λ (rs : List (List Item)). Putting imageItem (itemsIn tape lengths) (endToEnd rs) o 5 out to) (reels-at tape lengths from i h) (w .put)
+    here =
+        subst (λ (rs : List (List Item)). Putting imageItem (itemsIn tape lengths) (endToEnd rs) o 5 out to)
+        (reels-at tape lengths from i h) (w .put)
 
     pub file-fitting : FittingItems (decode (take (from + getD lengths i 0 - from) (drop from tape))) (length out) to
     unfolding AllClose imageBytes
@@ -242,7 +254,8 @@ module _ (tape lengths o out : List ℕ) (from to i : ℕ) (w : Storing tape len
         let long = ap length (by-append imageItem (decode file) (endToEnd rest)) ∙ length-append (encodeBy imageItem (decode file)) (encodeBy imageItem (endToEnd rest)) in
         record { right = closes-right file (both .0); room = omega (arith, here .size, here .fits, here .ends) }
 
-    pub storing-more : (q : List ℕ) (r : ℕ) → r ≡ to + length (imageBytes (decode (take (from + getD lengths i 0 - from) (drop from tape))))
+    pub storing-more : (q : List ℕ) (r : ℕ)
+        → r ≡ to + length (imageBytes (decode (take (from + getD lengths i 0 - from) (drop from tape))))
         → q ≡ putAt out to (imageBytes (decode (take (from + getD lengths i 0 - from) (drop from tape))))
         → Storing tape lengths o q (from + getD lengths i 0) r (i + 1)
     unfolding AllClose imageBytes

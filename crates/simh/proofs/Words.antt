@@ -21,7 +21,8 @@ use Rattle.simh.specs.Tape.{word, second, spanOf, isWhole, ledBy, shape,
 
 -- ---- reading
 
-pub word-read : (s : List ℕ) (at a b c d : ℕ) → a ≡ getD s at 0 → b ≡ getD s (at + 1) 0 → c ≡ getD s (at + 2) 0 → d ≡ getD s (at + 3) 0
+pub word-read : (s : List ℕ) (at a b c d : ℕ) → a ≡ getD s at 0 → b ≡ getD s (at + 1) 0 → c ≡ getD s (at + 2) 0
+    → d ≡ getD s (at + 3) 0
     → a + b * 256 + c * 65536 + d * 16777216 ≡ word (drop at s)
 unfolding word
 word-read s at a b c d i j k l =
@@ -35,7 +36,8 @@ pub pad-none : (s : List ℕ) (at n : ℕ) → n % 2 ≡ 0 → true ≡ allAre 0
 unfolding part allAre
 pad-none s at n e = sym (ap (λ (k : ℕ). allAre 0 (take k (drop at s))) e)
 
-pub pad-byte : (s : List ℕ) (at n : ℕ) → (n % 2 ≡ 0 → ⊥) → at + n % 2 ≤ length s → eqb (getD s at 0) 0 ≡ allAre 0 (part at (n % 2) s)
+pub pad-byte : (s : List ℕ) (at n : ℕ) → (n % 2 ≡ 0 → ⊥) → at + n % 2 ≤ length s
+    → eqb (getD s at 0) 0 ≡ allAre 0 (part at (n % 2) s)
 unfolding part allAre
 pad-byte s at n e h =
     let odd : n % 2 ≡ 1 = omega arith in
@@ -55,7 +57,8 @@ pub whole-cut : (s : List ℕ) (at n r : ℕ) → r ≡ spanOf n → length s - 
 unfolding isWhole
 whole-cut s at n r e h = sym (and-left _ _ (lt-leb (spanOf n) (length (drop at s)) (simp length-drop (omega arith))))
 
-module _ (s : List ℕ) (at n r : ℕ) (p : Bool) (e : r ≡ spanOf n) (h : r ≤ length s - at) (q : p ≡ allAre 0 (part (at + 4 + n) (n % 2) s)) where
+module _ (s : List ℕ) (at n r : ℕ) (p : Bool) (e : r ≡ spanOf n) (h : r ≤ length s - at)
+    (q : p ≡ allAre 0 (part (at + 4 + n) (n % 2) s)) where
   there : leb (spanOf n) (length (drop at s)) ≡ true
   there = le-leb (spanOf n) (length (drop at s)) (simp length-drop (omega arith))
 
@@ -73,7 +76,8 @@ module _ (s : List ℕ) (at n r : ℕ) (p : Bool) (e : r ≡ spanOf n) (h : r �
   whole-again w t f =
       let place : at + second n ≡ at + 4 + n + n % 2 = omega arith in
       let same : word (drop (second n) (drop at s)) ≡ w = ap word (drop-drop (second n) at s) ∙ ap (λ (k : ℕ). word (drop k s)) place ∙ sym f in
-      sym (ap (λ (b : Bool). b && (allAre 0 (part (4 + n) (n % 2) (drop at s)) && eqb (word (drop (second n) (drop at s))) n)) there
+      sym (ap (λ (b : Bool). b &&
+      (allAre 0 (part (4 + n) (n % 2) (drop at s)) && eqb (word (drop (second n) (drop at s))) n)) there
       ∙ ap (λ (b : Bool). b && eqb (word (drop (second n) (drop at s))) n) (padded ∙ t)
       ∙ ap (λ (k : ℕ). eqb k n) same)
 
@@ -88,7 +92,8 @@ shape-short s at h = sym (if-false _ _ _ (lt-leb 4 (length (drop at s)) (simp le
 pub shape-past : (s : List ℕ) (at : ℕ) → length s ≤ at → Broken ≡ shape (drop at s)
 shape-past s at h = shape-short s at (omega arith)
 
-pub shape-led : (s : List ℕ) (at w : ℕ) (p : Shape) → p ≡ ledBy w (drop at s) → 4 ≤ length s - at → w ≡ word (drop at s) → p ≡ shape (drop at s)
+pub shape-led : (s : List ℕ) (at w : ℕ) (p : Shape) → p ≡ ledBy w (drop at s) → 4 ≤ length s - at → w ≡ word (drop at s)
+    → p ≡ shape (drop at s)
 unfolding shape
 shape-led s at w p e h l =
     e ∙ ap (λ (k : ℕ). ledBy k (drop at s)) l ∙ sym (if-true _ _ _ (le-leb 4 (length (drop at s)) (simp length-drop h)))
@@ -114,7 +119,8 @@ three-put o at n h =
     ∙ put-none _ _)
 
 pub four-put : (o : List ℕ) (at n : ℕ) → at + 4 ≤ length o
-    → set (set (set (set o at (n % 256)) (at + 1) (n / 256 % 256)) (at + 2) (n / 65536 % 256)) (at + 3) (n / 16777216) ≡ putAt o at (four n)
+    → set (set (set (set o at (n % 256)) (at + 1) (n / 256 % 256)) (at + 2) (n / 65536 % 256)) (at + 3) (n / 16777216)
+    ≡ putAt o at (four n)
 unfolding four
 four-put o at n h =
     let a : List ℕ = set o at (n % 256) in
@@ -150,7 +156,8 @@ pub pad-kept : (o : List ℕ) (at n : ℕ) → n % 2 ≡ 0 → o ≡ putAt o at 
 unfolding pad
 pad-kept o at n e = sym (ap (putAt o at) (if-true _ _ _ (eq-eqb (n % 2) 0 e)) ∙ put-none o at)
 
-pub block-put : (o s p q : List ℕ) (at : ℕ) → at + 3 + length s ≤ length o → p ≡ putAt o at (three (length s)) → q ≡ putIn p (at + 3) s
+pub block-put : (o s p q : List ℕ) (at : ℕ) → at + 3 + length s ≤ length o → p ≡ putAt o at (three (length s))
+    → q ≡ putIn p (at + 3) s
     → q ≡ putAt o at (imageItem (block s))
 unfolding imageItem three
 block-put o s p q at h e f =
@@ -173,6 +180,7 @@ module _ (o s p q r t : List ℕ) (at : ℕ) where
       = g ∙ ap₂ (λ (l : List ℕ) (k : ℕ). putAt l k (pad n)) two (sym place) ∙ put-put o at (four n ++ s) (pad n) (omega arith) in
       let padded : length (four n ++ s ++ pad n) ≡ 4 + n + n % 2 = length-append (four n ++ s) (pad n) ∙ ap₂ _+_ size (length-pad n) in
       let behind : at + length (four n ++ s ++ pad n) ≡ at + 4 + n + n % 2 = omega arith in
-      i ∙ ap₂ (λ (l : List ℕ) (k : ℕ). putAt l k (four n)) three (sym behind) ∙ put-put o at (four n ++ s ++ pad n) (four n) (omega arith)
+      i ∙ ap₂ (λ (l : List ℕ) (k : ℕ). putAt l k (four n)) three (sym behind)
+      ∙ put-put o at (four n ++ s ++ pad n) (four n) (omega arith)
 
 pub ruleset puts = (pad-put, pad-kept, block-put, record-put, needs)

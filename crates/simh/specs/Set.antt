@@ -1,4 +1,5 @@
--- A set of reels in the SIMH form: one file a reel, as one buffer of the files end to end and the list of their lengths; and its conversion into our image
+-- A set of reels in the SIMH form: one file a reel, as one buffer of the files end to end and the list of their lengths; and its
+-- conversion into our image
 -- and back. Document 02, P1, and its rulings.
 use mathlib.Core.Path.{_≡_}
 use mathlib.Core.Bool.{Bool, _&&_}
@@ -64,7 +65,8 @@ imageOf tape lengths = head ++ imageBytes (endToEnd (reelsIn tape lengths))
 unfoldable pub fromSimh : List ℕ → List ℕ → List ℕ → Result
 fromSimh tape lengths out =
     ifB (eqb (tapeVerdict tape lengths .number) 0)
-    (ifB (leb (length (imageOf tape lengths)) mostImage) (placed (fitted (imageOf tape lengths) out)) (refusedWith (verdict 14 0 0) out))
+    (ifB (leb (length (imageOf tape lengths)) mostImage) (placed (fitted (imageOf tape lengths) out))
+    (refusedWith (verdict 14 0 0) out))
     (refusedWith (tapeVerdict tape lengths) out)
 
 -- ---- out: 9, 1 and 2 as the framing has them, then 10
@@ -86,7 +88,8 @@ reelsOf (broken ∷ xs) = onFirst broken (reelsOf xs)
 unfoldable pub filesOf : List ℕ → List (List ℕ)
 filesOf s = map encode (reelsOf (items s))
 
--- what conversion gives: the answer, how many bytes and files were written (0 with a refusal), and what the two lent buffers then hold
+-- what conversion gives: the answer, how many bytes and files were written (0 with a refusal), and what the two lent buffers then
+-- hold
 pub record Converted : Type 0 where
   pub verdict : Verdict
   pub len : ℕ

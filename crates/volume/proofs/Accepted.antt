@@ -26,7 +26,8 @@ use Rattle.volume.specs.Accepted.{Faultless, All, MayEnd, Accepted, Firs
 -- ---- one item
 
 -- an item without fault goes on
-pub faultless-go : (s : State) (x : Item) (p : Phase) → Faultless s x p → step s x ≡ go (stateBehind s x p) (eventsOf s (kindIn (s .phase) x) (bytesIn x))
+pub faultless-go : (s : State) (x : Item) (p : Phase) → Faultless s x p
+    → step s x ≡ go (stateBehind s x p) (eventsOf s (kindIn (s .phase) x) (bytesIn x))
 unfolding step ordered judged
 faultless-go s x p h =
     ap (ordered s (kindIn (s .phase) x) (bytesIn x)) (h .due)
@@ -85,7 +86,8 @@ all-ends s (x ∷ xs) (p, h, q) =
 pub ends-all : (s : State) (xs : List Item) → Ends (runs s xs) → All MayEnd s xs
 unfolding runs next Ends
 ends-all s [] h =
-    if-case (λ (r : Run). Ends r → MayEnd s) (isDue (dueAfter (s .phase) endOfImage)) (ended []) (stopped 3 0 0) (λ e _. e) (λ _ q. absurd q) h
+    if-case (λ (r : Run). Ends r → MayEnd s) (isDue (dueAfter (s .phase) endOfImage)) (ended []) (stopped 3 0 0) (λ e _. e)
+    (λ _ q. absurd q) h
 ends-all s (x ∷ xs) h =
     by-step (λ (r : Next). Ends (next r (λ t. runs t xs)) → All MayEnd s (x ∷ xs)) s x
     (λ p f q. (p, f, ends-all _ xs (ends-further _ _ q))) (λ k b _ _ q. absurd q) h
@@ -100,7 +102,8 @@ told-further : (s : State) (x : Item) (xs : List Item) (p : Phase) → Faultless
     → Told (stateBehind s x p) xs r → Told s (x ∷ xs) (further es r)
 unfolding Told further
 told-further s x xs p f es (ended fs) h = tt
-told-further s x xs p f es (stopped k i b) h = (h .0, record { within = omega (arith, h .1 .within); refused = (p, f, h .1 .refused) })
+told-further s x xs p f es (stopped k i b) h =
+    (h .0, record { within = omega (arith, h .1 .within); refused = (p, f, h .1 .refused) })
 
 told : (s : State) (xs : List Item) → Told s xs (runs s xs)
 unfolding runs next Told
@@ -131,7 +134,8 @@ ends-zero (stopped k i b) h = absurd h
 pub accepted-done : (s : List ℕ) → Accepted s → imageVerdict s ≡ verdict 0 0 0
 unfolding imageVerdict
 accepted-done s a =
-    if-true _ _ _ (eq-eqb (framing s .number) 0 (a .framed)) ∙ ends-zero (runs start (items s)) (all-ends start (items s) (a .followed))
+    if-true _ _ _ (eq-eqb (framing s .number) 0 (a .framed))
+    ∙ ends-zero (runs start (items s)) (all-ends start (items s) (a .followed))
 
 -- number 0 is given exactly to accepted sets
 pub accepted-iff : (s : List ℕ) → imageVerdict s .number ≡ 0 ↔ Accepted s
@@ -140,8 +144,13 @@ accepted-iff s = (to, from)
   where
     to : imageVerdict s .number ≡ 0 → Accepted s
     to =
-        if-case (λ (v : Verdict). v .number ≡ 0 → Accepted s) (eqb (framing s .number) 0) (answerOf 0 (runs start (items s))) (framing s)
-        (λ e h. record { framed = eqb-true (framing s .number) 0 e; followed = ends-all start (items s) (zero-ends start (items s) h) })
+        if-case (λ (v : Verdict). v .number ≡ 0 → Accepted s) (eqb (framing s .number) 0) (answerOf 0 (runs start (items s)))
+        (framing s)
+        (λ e h. record {
+          framed = eqb-true (framing s .number) 0 e;
+          followed = ends-all start (items s)
+              (zero-ends start (items s) h);
+        })
         (λ e h. absurd (eqb-false (framing s .number) 0 e h))
 
     zero : verdict 0 0 0 .number ≡ 0
@@ -156,9 +165,11 @@ unfolding verdict
 done-accepted s e = accepted-iff s .0 (ap (λ (v : Verdict). v .number) e)
 
 -- where the framing is good, a refusal names the first wrong item, with the number and the byte that its step gives
-pub refused-first : (s : List ℕ) (k i b : ℕ) → framing s .number ≡ 0 → (k ≡ 0 → ⊥) → imageVerdict s ≡ verdict k i b → FirstWrong start (items s) k i b
+pub refused-first : (s : List ℕ) (k i b : ℕ) → framing s .number ≡ 0 → (k ≡ 0 → ⊥) → imageVerdict s ≡ verdict k i b
+    → FirstWrong start (items s) k i b
 unfolding imageVerdict answerOf verdict Told
-refused-first s k i b f z e = by-run (runs start (items s)) (told start (items s)) (sym (if-true _ _ _ (eq-eqb (framing s .number) 0 f)) ∙ e)
+refused-first s k i b f z e =
+    by-run (runs start (items s)) (told start (items s)) (sym (if-true _ _ _ (eq-eqb (framing s .number) 0 f)) ∙ e)
   where
     by-run : (r : Run) → Told start (items s) r → answerOf 0 r ≡ verdict k i b → FirstWrong start (items s) k i b
     by-run (ended es) t q = absurd (z (sym (ap (λ (v : Verdict). v .number) q)))

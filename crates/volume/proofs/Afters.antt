@@ -42,7 +42,8 @@ unfolding labelAt
 label-sized s start len e = ap (λ (n : ℕ). part start n s) (sym e)
 
 -- a label kept by its place
-label-after : (s : List ℕ) (t : Bool) (start len kept : ℕ) → (t ≡ true → len ≡ 80) → labelAt s (ifB t start kept) ≡ ifB t (part start len s) (labelAt s kept)
+label-after : (s : List ℕ) (t : Bool) (start len kept : ℕ) → (t ≡ true → len ≡ 80)
+    → labelAt s (ifB t start kept) ≡ ifB t (part start len s) (labelAt s kept)
 label-after s t start len kept z =
     if-case (λ (x : ℕ). labelAt s x ≡ ifB t (part start len s) (labelAt s kept)) t start kept
     (λ h. label-sized s start len (z h) ∙ sym (if-true t (part start len s) (labelAt s kept) h))
@@ -50,7 +51,8 @@ label-after s t start len kept z =
 
 -- the volume identifiers, with one more
 names-kept : (s names : List ℕ) (start len : ℕ) (t : Bool) → (t ≡ true → len ≡ 80)
-    → namesAt s (ifB t (names ++ (start ∷ [])) names) ≡ ifB t (namesAt s names ++ (volumeOf (part start len s) ∷ [])) (namesAt s names)
+    → namesAt s (ifB t (names ++ (start ∷ [])) names)
+    ≡ ifB t (namesAt s names ++ (volumeOf (part start len s) ∷ [])) (namesAt s names)
 unfolding ifB
 names-kept s names start len true z =
     names-append s names start ∙ ap (λ (l : List ℕ). namesAt s names ++ (volumeOf l ∷ [])) (label-sized s start len (z refl))
@@ -59,14 +61,16 @@ names-kept s names start len false z = refl
 -- ---- the whole state
 
 -- what the code makes of each field stands for the state behind the item
-pub contents-after : (s : List ℕ) (st : Reading) (p : Phase) (k : Kind) (start len files first second count pending : ℕ) (ongoing : Bool) (names : List ℕ)
+pub contents-after : (s : List ℕ) (st : Reading) (p : Phase) (k : Kind) (start len files first second count pending : ℕ)
+    (ongoing : Bool) (names : List ℕ)
     → LabelSized k len
     → files ≡ ifB (isKind k (hdr 2)) (ifB (st .ongoing) (st .files) (st .files + 1)) (st .files)
     → ongoing ≡ ifB (isKind k (eov 1)) true (ifB (isKind k (eof 1)) false (st .ongoing))
     → first ≡ ifB (isKind k (hdr 1)) start (st .first)
     → second ≡ ifB (isKind k (hdr 2)) start (st .second)
     → count ≡ ifB (isKind k dataBlock) (st .count + 1) (ifB (isKind k (hdr 1)) 0 (st .count))
-    → pending ≡ ifB (isKind k dataBlock) (outcomeIn (labelAt s (st .second)) (st .pending) (part start len s) .pending) (st .pending)
+    → pending ≡ ifB (isKind k dataBlock) (outcomeIn (labelAt s (st .second)) (st .pending) (part start len s) .pending)
+    (st .pending)
     → contents s (ifB (isKind k (vol 1)) (names ++ (start ∷ [])) names)
     (record { first = first; second = second; count = count; pending = pending; files = files; phase = p; ongoing = ongoing })
     ≡ stateAfter (contents s names st) p k (part start len s)
@@ -84,29 +88,37 @@ contents-after s st p k start len files first second count pending ongoing names
 if-most : (t : Bool) (a b m x : ℕ) → a ≤ m → b ≤ m → x ≡ ifB t a b → x ≤ m
 if-most t a b m x p q e = subst (λ (y : ℕ). y ≤ m) (sym e) (if-case (λ (y : ℕ). y ≤ m) t a b (λ _. p) (λ _. q))
 
-pub behind-made : (s : List ℕ) (st : Reading) (p : Phase) (k : Kind) (start len files first second count pending : ℕ) (ongoing : Bool)
+pub behind-made : (s : List ℕ) (st : Reading) (p : Phase) (k : Kind) (start len files first second count pending : ℕ)
+    (ongoing : Bool)
     → LabelSized k len
     → files ≡ ifB (isKind k (hdr 2)) (ifB (st .ongoing) (st .files) (st .files + 1)) (st .files)
     → ongoing ≡ ifB (isKind k (eov 1)) true (ifB (isKind k (eof 1)) false (st .ongoing))
     → first ≡ ifB (isKind k (hdr 1)) start (st .first)
     → second ≡ ifB (isKind k (hdr 2)) start (st .second)
     → count ≡ ifB (isKind k dataBlock) (st .count + 1) (ifB (isKind k (hdr 1)) 0 (st .count))
-    → pending ≡ ifB (isKind k dataBlock) (outcomeIn (labelAt s (st .second)) (st .pending) (part start len s) .pending) (st .pending)
+    → pending ≡ ifB (isKind k dataBlock) (outcomeIn (labelAt s (st .second)) (st .pending) (part start len s) .pending)
+    (st .pending)
     → ReadingBehind s st p k start len
     (record { first = first; second = second; count = count; pending = pending; files = files; phase = p; ongoing = ongoing })
 behind-made s st p k start len files first second count pending ongoing z ef eo e1 e2 ec ep =
     record {
       same = λ names. contents-after s st p k start len files first second count pending ongoing names z ef eo e1 e2 ec ep;
-      files = if-most _ _ _ _ _ (if-case (λ (y : ℕ). y ≤ st .files + 1) (st .ongoing) _ _ (λ _. omega arith) (λ _. omega arith)) (omega arith) ef;
-      blocks = if-most _ _ _ _ _ (omega arith) (if-case (λ (y : ℕ). y ≤ st .count + 1) (isKind k (hdr 1)) _ _ (λ _. omega arith) (λ _. omega arith)) ec;
+      files =
+          if-most _ _ _ _ _ (if-case (λ (y : ℕ). y ≤ st .files + 1) (st .ongoing) _ _ (λ _. omega arith) (λ _. omega arith))
+          (omega arith) ef;
+      blocks =
+          if-most _ _ _ _ _ (omega arith)
+          (if-case (λ (y : ℕ). y ≤ st .count + 1) (isKind k (hdr 1)) _ _ (λ _. omega arith) (λ _. omega arith)) ec;
     }
 
 -- what is pending behind a data block
-pub pending-data : (s : List ℕ) (t m : Bool) (o : Outcome) (a b : List ℕ) (second pending start len : ℕ) → m ≡ t → m ≡ true → a ≡ part second 80 s → b ≡ part start len s
+pub pending-data : (s : List ℕ) (t m : Bool) (o : Outcome) (a b : List ℕ) (second pending start len : ℕ) → m ≡ t → m ≡ true
+    → a ≡ part second 80 s → b ≡ part start len s
     → o ≡ outcomeIn a pending b → o .pending ≡ ifB t (outcomeIn (labelAt s second) pending (part start len s) .pending) pending
 unfolding labelAt
 pending-data s t m o a b second pending start len e h p q c =
-    ap (λ (x : Outcome). x .pending) c ∙ ap₂ (λ (x y : List ℕ). outcomeIn x pending y .pending) p q ∙ sym (if-true t _ pending (so-true m t e h))
+    ap (λ (x : Outcome). x .pending) c ∙ ap₂ (λ (x y : List ℕ). outcomeIn x pending y .pending) p q
+    ∙ sym (if-true t _ pending (so-true m t e h))
 
 pub ruleset behinds = (behind-made, pending-data, if-true, if-false, so-true, so-false, needs)
 

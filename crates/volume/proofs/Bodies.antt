@@ -75,7 +75,8 @@ block-ends s at n e h = block-at s at n e h .within
 
 pub skip-block : (s : List ℕ) (h : Lengths) (a : Between) (at item count pending n : ℕ) (o : Outcome)
     → Skipped s h a (between at item count pending) → n ≡ blockLength (shape (drop at s)) → (n ≡ 0 → ⊥)
-    → o ≡ blockOutcome (h .format) (h .block) (h .size) (h .offset) pending (take (at + 3 + n - (at + 3)) (drop (at + 3) s)) → o .number ≡ 0
+    → o ≡ blockOutcome (h .format) (h .block) (h .size) (h .offset) pending (take (at + 3 + n - (at + 3)) (drop (at + 3) s))
+    → o .number ≡ 0
     → Skipped s h a (between (at + 3 + n) (item + 1) (count + 1) (o .pending))
 unfolding toldBetween
 skip-block s h a at item count pending n o k e f q z =
@@ -89,28 +90,35 @@ skip-block s h a at item count pending n o k e f q z =
       same = λ t g.
           k .same t g
           ∙ ap (toldFrom item (body t count pending)) (decode-block s at n _ (omega arith) refl (b .is))
-          ∙ told-go item (body t count pending) (body t (count + 1) (outcomeIn (t .second) pending l .pending)) (block l) (decode (drop (at + 3 + n) s)) _
+          ∙ told-go item (body t count pending) (body t (count + 1) (outcomeIn (t .second) pending l .pending)) (block l)
+          (decode (drop (at + 3 + n) s)) _
           (step-block t count pending l (ap (λ x. x .number) (sym (made ∙ outcome-given h (t .second) pending l g)) ∙ z))
-          ∙ ap (λ (x : Outcome). toldFrom (item + 1) (body t (count + 1) (x .pending)) (decode (drop (at + 3 + n) s))) (sym (made ∙ outcome-given h (t .second) pending l g));
+          ∙ ap (λ (x : Outcome). toldFrom (item + 1) (body t (count + 1) (x .pending)) (decode (drop (at + 3 + n) s)))
+          (sym (made ∙ outcome-given h (t .second) pending l g));
       onward = omega (arith, k .onward);
       passed = omega (arith, k .passed);
       inside = record { short = i .short; within = w; items = omega (arith, i .items); blocks = omega (arith, i .blocks) };
     }
 
-pub block-falls : (s : List ℕ) (at n : ℕ) → n ≡ blockLength (shape (drop at s)) → (n ≡ 0 → ⊥) → length s - (at + 3 + n) < length s - at
+pub block-falls : (s : List ℕ) (at n : ℕ) → n ≡ blockLength (shape (drop at s)) → (n ≡ 0 → ⊥)
+    → length s - (at + 3 + n) < length s - at
 block-falls s at n e f = omega (arith, block-at s at n e f .within)
 
-pub start-fits : (s : List ℕ) (at item count n : ℕ) → PlaceInside s at item count → n ≡ blockLength (shape (drop at s)) → (n ≡ 0 → ⊥) → Fits w64 (at + 3)
+pub start-fits : (s : List ℕ) (at item count n : ℕ) → PlaceInside s at item count → n ≡ blockLength (shape (drop at s))
+    → (n ≡ 0 → ⊥) → Fits w64 (at + 3)
 start-fits s at item count n i e f = record { fits = omega (arith, block-at s at n e f .within, i .short) }
 
-pub end-fits : (s : List ℕ) (at item count n : ℕ) → PlaceInside s at item count → n ≡ blockLength (shape (drop at s)) → (n ≡ 0 → ⊥) → Fits w64 (at + 3 + n)
+pub end-fits : (s : List ℕ) (at item count n : ℕ) → PlaceInside s at item count → n ≡ blockLength (shape (drop at s))
+    → (n ≡ 0 → ⊥) → Fits w64 (at + 3 + n)
 end-fits s at item count n i e f = record { fits = omega (arith, block-at s at n e f .within, i .short) }
 
 -- an item and a block more can be counted
-pub item-fits : (s : List ℕ) (at item count n : ℕ) → PlaceInside s at item count → n ≡ blockLength (shape (drop at s)) → (n ≡ 0 → ⊥) → Fits w32 (item + 1)
+pub item-fits : (s : List ℕ) (at item count n : ℕ) → PlaceInside s at item count → n ≡ blockLength (shape (drop at s))
+    → (n ≡ 0 → ⊥) → Fits w32 (item + 1)
 item-fits s at item count n i e f = record { fits = omega (arith, block-at s at n e f .within, i .short, i .items) }
 
-pub count-fits : (s : List ℕ) (at item count n : ℕ) → PlaceInside s at item count → n ≡ blockLength (shape (drop at s)) → (n ≡ 0 → ⊥) → Fits w64 (count + 1)
+pub count-fits : (s : List ℕ) (at item count n : ℕ) → PlaceInside s at item count → n ≡ blockLength (shape (drop at s))
+    → (n ≡ 0 → ⊥) → Fits w64 (count + 1)
 count-fits s at item count n i e f = record { fits = omega (arith, block-at s at n e f .within, i .short, i .blocks) }
 
 pub ruleset skips = (skip-none, skip-block, block-falls, start-fits, end-fits, item-fits, count-fits, block-ends, needs)

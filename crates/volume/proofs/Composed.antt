@@ -1,4 +1,5 @@
--- A call's answer at what its arguments are equal to: one law for each function that is called on the answers of calls. Assumes nothing.
+-- A call's answer at what its arguments are equal to: one law for each function that is called on the answers of calls. Assumes
+-- nothing.
 use mathlib.Core.Path.{_≡_, sym, _∙_}
 use mathlib.Core.Bool.{Bool, true, false}
 use mathlib.Core.List.{List}
@@ -42,7 +43,8 @@ lower-is r p q a b e f g = cc
 pub or-else-is : (r p q a b : Fault) → r ≡ orElse p q → p ≡ a → q ≡ b → r ≡ orElse a b
 or-else-is r p q a b e f g = cc
 
-pub one-higher : (b : Bool) (n : ℕ) (x y f l : Number) → b ≡ says (n + 1) y → y ≡ l → n ≡ valueOf x → x ≡ f → b ≡ says (valueOf f + 1) l
+pub one-higher : (b : Bool) (n : ℕ) (x y f l : Number) → b ≡ says (n + 1) y → y ≡ l → n ≡ valueOf x → x ≡ f
+    → b ≡ says (valueOf f + 1) l
 one-higher b n x y f l e g h i = cc
 
 pub section-then : (b : Bool) (n : ℕ) (x y f l : Number) → b ≡ says (n + 1) y → y ≡ l → n ≡ valueOf x → x ≡ f → b ≡ true
@@ -53,14 +55,16 @@ pub section-else : (b : Bool) (n : ℕ) (x y f l : Number) → b ≡ says (n + 1
     → _≡_ {A = ℕ} 28 (ifB (says (valueOf f + 1) l) 0 28)
 section-else b n x y f l e g h i t = sym (if-false _ _ _ (sym (one-higher b n x y f l e g h i) ∙ t))
 
-pub outcome-is : (r : Outcome) (f b n o g c m p : ℕ) (pending : ℕ) (l : List ℕ) → r ≡ blockOutcome f b n o pending l → f ≡ g → b ≡ c → n ≡ m
+pub outcome-is : (r : Outcome) (f b n o g c m p : ℕ) (pending : ℕ) (l : List ℕ) → r ≡ blockOutcome f b n o pending l → f ≡ g
+    → b ≡ c → n ≡ m
     → o ≡ p → r ≡ blockOutcome g c m p pending l
 outcome-is r f b n o g c m p pending l e h i j k = cc
 
 pub same-volume : (r : Bool) (v x y z : List ℕ) → r ≡ same v x → x ≡ volumeOf y → y ≡ z → r ≡ same v (volumeOf z)
 same-volume r v x y z e f g = cc
 
-pub item-is : (r a b : Fault) (image places first second : List ℕ) (st : Reading) (k : Kind) (l : List ℕ) → r ≡ orElse a b → a ≡ labelFault k l
+pub item-is : (r a b : Fault) (image places first second : List ℕ) (st : Reading) (k : Kind) (l : List ℕ) → r ≡ orElse a b
+    → a ≡ labelFault k l
     → b ≡ contextFault (record {
       phase = st .phase;
       names = namesAt image places;
@@ -79,4 +83,5 @@ pub number-is : (o p : Outcome) → o ≡ p → _≡_ {A = Fault} (record { numb
 unfolding fault
 number-is o p e = λ i. record { number = e i .number; byte = 0 }
 
-pub ruleset composed = (says-value, says-wrong, value-some, value-none, same-volume, item-is, number-is, value-is, crossed-is, lower-is, or-else-is, same-is, section-then, section-else, outcome-is)
+pub ruleset composed =
+    (says-value, says-wrong, value-some, value-none, same-volume, item-is, number-is, value-is, crossed-is, lower-is, or-else-is, same-is, section-then, section-else, outcome-is)

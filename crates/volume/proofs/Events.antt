@@ -1,4 +1,5 @@
--- What a reading hands out, item by item; when the meaning of two readings is one; as many files as begin; segments and bytes. Assumes nothing.
+-- What a reading hands out, item by item; when the meaning of two readings is one; as many files as begin; segments and bytes.
+-- Assumes nothing.
 use mathlib.Core.Path.{_≡_, refl, sym, ap, _∙_, subst}
 use mathlib.Core.Bool.{Bool, true, false}
 use mathlib.Core.List.{List, [], _∷_, _++_}
@@ -40,7 +41,8 @@ pub handed-more : (t : State) (x : Item) (xs : List Item) (q : Phase) → Faultl
     → handedOut (runs t (x ∷ xs)) ≡ eventsOf t (kindIn (t .phase) x) (bytesIn x) ++ handedOut (runs (stateBehind t x q) xs)
 handed-more t x xs q f all =
     ap handedOut (faultless-runs t x xs q f)
-    ∙ handed-further (eventsOf t (kindIn (t .phase) x) (bytesIn x)) (runs (stateBehind t x q) xs) (all-ends (stateBehind t x q) xs all)
+    ∙ handed-further (eventsOf t (kindIn (t .phase) x) (bytesIn x)) (runs (stateBehind t x q) xs)
+    (all-ends (stateBehind t x q) xs all)
 
 -- where the image may end nothing more is handed out
 pub handed-none : (t : State) → MayEnd t → handedOut (runs t []) ≡ []
@@ -59,15 +61,28 @@ pub meaning-behind : (x : Event) (es fs : List Event) → OneMeaning es fs → O
 unfolding collect setFrom
 meaning-behind (begins f s) es fs h =
     record {
-      collected = ap (λ (c : Collected). record { segments = []; files = record { fields = fieldsFrom f s; records = joined (c .segments) } ∷ c .files }) (h .collected);
+      collected =
+          ap (λ (c : Collected). record {
+            segments = [];
+            files = record {
+              fields = fieldsFrom f s;
+              records = joined
+                  (c .segments);
+            } ∷ c .files;
+          }) (h .collected);
       set = refl;
     }
 meaning-behind (continues f s) es fs h = record { collected = h .collected; set = h .set }
 meaning-behind (holds l xs) es fs h =
-    record { collected = ap (λ (c : Collected). record { segments = xs ++ c .segments; files = c .files }) (h .collected); set = h .set }
+    record {
+      collected = ap (λ (c : Collected). record { segments = xs ++ c .segments; files = c .files })
+          (h .collected);
+      set = h .set;
+    }
 
 -- and stateBehind a later section of a file, whatever its HDR1 and HDR2
-pub meaning-continued : (f s g t : List ℕ) (es fs : List Event) → OneMeaning es fs → OneMeaning (continues f s ∷ es) (continues g t ∷ fs)
+pub meaning-continued : (f s g t : List ℕ) (es fs : List Event) → OneMeaning es fs
+    → OneMeaning (continues f s ∷ es) (continues g t ∷ fs)
 unfolding collect setFrom
 meaning-continued f s g t es fs h = record { collected = h .collected; set = h .set }
 
@@ -106,7 +121,8 @@ unfolding turned outcome segmentsOf
 turned-some r q none h = absurd (eqb-false 7 0 refl h)
 turned-some r q (some xs) h = refl
 
-block-cuts : (t : State) (k : Kind) (l : List ℕ) → itemFault t k l .number ≡ 0 → isKind k dataBlock ≡ true → unitsBy (t .second) l ≡ some (segmentsIn t l)
+block-cuts : (t : State) (k : Kind) (l : List ℕ) → itemFault t k l .number ≡ 0 → isKind k dataBlock ≡ true
+    → unitsBy (t .second) l ≡ some (segmentsIn t l)
 unfolding itemFault contextFault blockFault outcomeIn blockOutcome segmentsIn fault
 block-cuts t k l h e =
     turned-some (valueOf (recordLengthOf (t .second))) (t .pending) (unitsBy (t .second) l)
@@ -116,12 +132,15 @@ no-header : (k : Kind) → isKind k dataBlock ≡ true → isKind k (hdr 2) ≡ 
 unfolding isKind
 no-header k h = ap (λ (j : Kind). isKind j (hdr 2)) (kind-is k dataBlock h)
 
-cuts-step : (t : State) (k : Kind) (l : List ℕ) (es : List Event) → itemFault t k l .number ≡ 0 → Cuts (secondAfter t k l) es → Cuts (t .second) (eventsOf t k l ++ es)
+cuts-step : (t : State) (k : Kind) (l : List ℕ) (es : List Event) → itemFault t k l .number ≡ 0 → Cuts (secondAfter t k l) es
+    → Cuts (t .second) (eventsOf t k l ++ es)
 unfolding secondAfter eventsOf ifB
 cuts-step t k l es h = by-kind (isKind k dataBlock) (isKind k (hdr 2)) (t .goesOn) (block-cuts t k l h) (no-header k)
   where
-    by-kind : (a b g : Bool) → (a ≡ true → unitsBy (t .second) l ≡ some (segmentsIn t l)) → (a ≡ true → b ≡ false) → Cuts (ifB b l (t .second)) es
-        → Cuts (t .second) (ifB a (holds l (segmentsIn t l) ∷ []) (ifB b (ifB g (continues (t .first) l) (begins (t .first) l) ∷ []) []) ++ es)
+    by-kind : (a b g : Bool) → (a ≡ true → unitsBy (t .second) l ≡ some (segmentsIn t l)) → (a ≡ true → b ≡ false)
+        → Cuts (ifB b l (t .second)) es
+        → Cuts (t .second) (ifB a (holds l (segmentsIn t l) ∷ [])
+        (ifB b (ifB g (continues (t .first) l) (begins (t .first) l) ∷ []) []) ++ es)
     by-kind true b g e n c = (e refl, subst (λ (x : Bool). Cuts (ifB x l (t .second)) es) (n refl) c)
     by-kind false true true e n c = c
     by-kind false true false e n c = c
@@ -132,4 +151,5 @@ pub handed-cuts : (xs : List Item) (t : State) → All MayEnd t xs → Cuts (t .
 unfolding stateAfter
 handed-cuts [] t h = subst (Cuts (t .second)) (sym (handed-none t h)) tt
 handed-cuts (x ∷ xs) t (p, f, all) =
-    subst (Cuts (t .second)) (sym (handed-more t x xs p f all)) (cuts-step t (kindIn (t .phase) x) (bytesIn x) _ (f .sound) (handed-cuts xs (stateBehind t x p) all))
+    subst (Cuts (t .second)) (sym (handed-more t x xs p f all))
+    (cuts-step t (kindIn (t .phase) x) (bytesIn x) _ (f .sound) (handed-cuts xs (stateBehind t x p) all))

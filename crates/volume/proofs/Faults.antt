@@ -72,7 +72,8 @@ pub searched-found : (s v places : List ℕ) (i : ℕ) (b : Bool) → Searched s
     → b ≡ same v (volumeOf (labelAt s (getD places i 0))) → b ≡ true → true ≡ isAmong v (namesAt s places)
 searched-found s v places i b c h e f = sym (names-at s v places i h ∙ if-true _ _ _ (sym e ∙ f)) ∙ c .left
 
-pub searched-all : (s v places : List ℕ) (i : ℕ) → Searched s v places i → length places ≤ i → false ≡ isAmong v (namesAt s places)
+pub searched-all : (s v places : List ℕ) (i : ℕ) → Searched s v places i → length places ≤ i
+    → false ≡ isAmong v (namesAt s places)
 unfolding isAmong namesAt
 searched-all s v places i c h = sym (ap (λ (l : List ℕ). isAmong v (namesAt s l)) (drop-of-length-le places h)) ∙ c .left
 

@@ -1,4 +1,5 @@
--- What is read without fault is well framed: a broken item is never due, a 17th volume label is a fault, and the image may end only stateBehind an end of
+-- What is read without fault is well framed: a broken item is never due, a 17th volume label is a fault, and the image may end
+-- only stateBehind an end of
 -- reel. So the framing of the whole is that of what is left from the first wrong item on. Assumes nothing.
 use mathlib.Core.Path.{_≡_, refl, sym, ap, ap₂, _∙_, subst}
 use mathlib.Core.Bool.{Bool, true, false, not, _&&_, _||_, false≢true}
@@ -88,11 +89,13 @@ isReached (volume n) = leb 1 n
 isReached within = true
 isReached over = true
 
--- an end of reel leads out of a reel, and the end of the image stands stateBehind the last; all else of a kind leads on inside a reel or, VOL1, into one
+-- an end of reel leads out of a reel, and the end of the image stands stateBehind the last; all else of a kind leads on inside a
+-- reel or, VOL1, into one
 abbrev leads : Phase → Kind → Phase → Bool
 leads p k q =
     ifB (isKind k endOfReel) (isWithin (side p) && not (isInside q))
-    (ifB (isKind k endOfImage) (isOver (side p)) (not (isKind k other) && ((isWithin (side p) || isKind k (vol 1)) && isWithin (side q))))
+    (ifB (isKind k endOfImage) (isOver (side p))
+    (not (isKind k other) && ((isWithin (side p) || isKind k (vol 1)) && isWithin (side q))))
 
 -- and VOL1 is due only outside a reel
 abbrev Row : Phase → Kind → Phase → Type 0
@@ -210,7 +213,8 @@ record Inside (p : Phase) (k : Kind) (q : Phase) : Type 0 where
   pub from : isWithin (side p) || isKind k (vol 1) ≡ true
   pub to : isWithin (side q) ≡ true
 
-item-inside : (p : Phase) (k : Kind) (q : Phase) → isKind k endOfReel ≡ false → isKind k endOfImage ≡ false → dueAfter p k ≡ To q → Inside p k q
+item-inside : (p : Phase) (k : Kind) (q : Phase) → isKind k endOfReel ≡ false → isKind k endOfImage ≡ false → dueAfter p k ≡ To q
+    → Inside p k q
 item-inside p k q r i e =
     let h : not (isKind k other) && ((isWithin (side p) || isKind k (vol 1)) && isWithin (side q)) ≡ true
     = sym (if-false _ _ _ r ∙ if-false _ _ _ i) ∙ led p k q e in
@@ -231,7 +235,8 @@ volume-few : (s : State) (l : List ℕ) → itemFault s (vol 1) l .number ≡ 0 
 unfolding itemFault contextFault isKind ifB volumeFault fault
 volume-few s l h =
     if-case (λ (f : Fault). f .number ≡ 0 → length (s .names) < mostReels) (leb mostReels (length (s .names))) (fault 2 0) _
-    (λ _ q. absurd (eqb-false 2 0 refl q)) (λ e _. leb-false mostReels (length (s .names)) e) (or-second (labelFault (vol 1) l) (contextFault s (vol 1) l) h)
+    (λ _ q. absurd (eqb-false 2 0 refl q)) (λ e _. leb-false mostReels (length (s .names)) e)
+    (or-second (labelFault (vol 1) l) (contextFault s (vol 1) l) h)
 
 -- ---- reels begun and reels ended
 
@@ -269,7 +274,8 @@ or-second-false : (a : Bool) → a || false ≡ true → a ≡ true
 or-second-false true h = refl
 or-second-false false h = h
 
-passed-on : (p q : Phase) (m : ℕ) (v : Bool) → Reels p m → isWithin (side p) || v ≡ true → (v ≡ true → isInside p ≡ false) → (v ≡ true → m < mostReels)
+passed-on : (p q : Phase) (m : ℕ) (v : Bool) → Reels p m → isWithin (side p) || v ≡ true → (v ≡ true → isInside p ≡ false)
+    → (v ≡ true → m < mostReels)
     → isWithin (side q) ≡ true → isReached (side q) ≡ true → Passed p q m (ifB v (m + 1) m)
 unfolding ifB
 passed-on p q m true h from outside few to known =
@@ -294,7 +300,8 @@ passed-on p q m false h from outside few to known =
       next = record { few = h .few; reached = known; begun = λ _. one; shut = λ _. one };
     }
 
-length-names : (s : State) (k : Kind) (l : List ℕ) → ifB (isKind k (vol 1)) (length (s .names) + 1) (length (s .names)) ≡ length (namesAfter s k l)
+length-names : (s : State) (k : Kind) (l : List ℕ)
+    → ifB (isKind k (vol 1)) (length (s .names) + 1) (length (s .names)) ≡ length (namesAfter s k l)
 unfolding namesAfter
 length-names s k l =
     sym (ap-if length (isKind k (vol 1)) (s .names ++ (volumeOf l ∷ [])) (s .names)
@@ -308,20 +315,24 @@ record Onward (n : ℕ) (s : State) (x : Item) (xs : List Item) (t : State) : Ty
   pub next : Reels (t .phase) (length (t .names))
 
 -- one of a kind that ends neither a reel nor the image
-item-on : (s : State) (k : Kind) (l : List ℕ) (q : Phase) → Reels (s .phase) (length (s .names)) → isKind k endOfReel ≡ false → isKind k endOfImage ≡ false
-    → dueAfter (s .phase) k ≡ To q → itemFault s k l .number ≡ 0 → Passed (s .phase) q (length (s .names)) (length (namesAfter s k l))
+item-on : (s : State) (k : Kind) (l : List ℕ) (q : Phase) → Reels (s .phase) (length (s .names)) → isKind k endOfReel ≡ false
+    → isKind k endOfImage ≡ false
+    → dueAfter (s .phase) k ≡ To q → itemFault s k l .number ≡ 0
+    → Passed (s .phase) q (length (s .names)) (length (namesAfter s k l))
 item-on s k l q h e i d z =
     let inside : Inside (s .phase) k q = item-inside (s .phase) k q e i d in
     subst (Passed (s .phase) q (length (s .names))) (length-names s k l)
     (passed-on (s .phase) q (length (s .names)) (isKind k (vol 1)) h (inside .from) (outside-volume (s .phase) k q d)
-    (λ v. volume-few s l (subst (λ (j : Kind). itemFault s j l .number ≡ 0) (kind-is k (vol 1) v) z)) (inside .to) (reached (s .phase) k q d))
+    (λ v. volume-few s l (subst (λ (j : Kind). itemFault s j l .number ≡ 0) (kind-is k (vol 1) v) z)) (inside .to)
+    (reached (s .phase) k q d))
 
 -- what is left stateBehind it
 passed-framed : (n : ℕ) (xs : List Item) (p q : Phase) (m o : ℕ) → Passed p q m o
     → framedFrom n (endedIn p m) false xs ≡ framedFrom n (endedIn q o) (closedIn q o) xs
 passed-framed n xs p q m o on = ap₂ (λ (r : ℕ) (c : Bool). framedFrom n r c xs) (on .ended) (sym (on .still))
 
-onward : (n : ℕ) (s : State) (x : Item) (xs : List Item) (p : Phase) → Reels (s .phase) (length (s .names)) → Faultless s x p → Onward n s x xs (stateBehind s x p)
+onward : (n : ℕ) (s : State) (x : Item) (xs : List Item) (p : Phase) → Reels (s .phase) (length (s .names)) → Faultless s x p
+    → Onward n s x xs (stateBehind s x p)
 unfolding framedIn kindIn bytesIn stateAfter isKind namesAfter ifB
 onward n s (block l) xs p h f =
     let k : Kind = kindIn (s .phase) (block l) in
@@ -356,13 +367,15 @@ told-end n s h e =
     = if-true _ _ _ (closed-outside (s .phase) (length (s .names)) (outside-over (s .phase) e) (h .shut (end-over (s .phase) e))) in
     sym (if-true _ _ _ (eq-eqb (framedIn n s [] .number) 0 (ap (λ (v : Verdict). v .number) good)) ∙ answer-end n s e)
 
-told-all : (n : ℕ) (s : State) (xs : List Item) → Reels (s .phase) (length (s .names)) → toldFrom n s xs ≡ framedOr n s xs (answerOf n (runs s xs))
+told-all : (n : ℕ) (s : State) (xs : List Item) → Reels (s .phase) (length (s .names))
+    → toldFrom n s xs ≡ framedOr n s xs (answerOf n (runs s xs))
 unfolding toldFrom toldNext runs next answerOf framedOr
 told-all n s [] h =
     if-case (λ (v : Verdict). v ≡ framedOr n s [] (answerOf n (runs s []))) (isDue (dueAfter (s .phase) endOfImage)) _ _
     (told-end n s h) (λ e. ap (framedOr n s []) (sym (answer-early n s e)))
 told-all n s (x ∷ xs) h =
-    by-step (λ (r : Next). toldNext n s (x ∷ xs) r (λ t. toldFrom (n + 1) t xs) ≡ framedOr n s (x ∷ xs) (answerOf n (next r (λ t. runs t xs)))) s x
+    by-step (λ (r : Next). toldNext n s (x ∷ xs) r (λ t. toldFrom (n + 1) t xs)
+    ≡ framedOr n s (x ∷ xs) (answerOf n (next r (λ t. runs t xs)))) s x
     (λ p f.
     let on : Onward n s x xs (stateBehind s x p) = onward n s x xs p h f in
     told-all (n + 1) (stateBehind s x p) xs (on .next)
@@ -371,7 +384,14 @@ told-all n s (x ∷ xs) h =
     (λ k b _ _. let z : n ≡ n + 0 = omega arith in ap (λ (m : ℕ). framedOr n s (x ∷ xs) (verdict k m b)) z)
 
 -- the framing from the first wrong item on decides as that of the whole does
-pub told-whole : (xs : List Item) → toldFrom 0 start xs ≡ ifB (eqb (framedFrom 0 0 false xs .number) 0) (answerOf 0 (runs start xs)) (framedFrom 0 0 false xs)
+pub told-whole : (xs : List Item)
+    → toldFrom 0 start xs ≡ ifB (eqb (framedFrom 0 0 false xs .number) 0) (answerOf 0 (runs start xs)) (framedFrom 0 0 false xs)
 unfolding start framedOr framedIn endedIn closedIn ifB
 told-whole xs =
-    told-all 0 start xs (record { few = omega arith; reached = refl; begun = λ w. absurd (false≢true w); shut = λ o. absurd (false≢true o) })
+    told-all 0 start xs (record {
+      few = omega arith;
+      reached = refl;
+      begun = λ w. absurd (false≢true w);
+      shut = λ o. absurd
+          (false≢true o);
+    })

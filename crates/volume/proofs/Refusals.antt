@@ -67,7 +67,8 @@ opens-true : (s : List ℕ) → ltb mostImage (length s) ≡ false → same (tak
 unfolding opens
 opens-true s l h = if-false _ _ _ l ∙ h
 
-unframed-at : (s : List ℕ) (v : Verdict) (i : ℕ) → opens s ≡ true → v ≡ verdict 2 (0 + i) 0 → Unframed 0 false (items s) i → FirstFault s v
+unframed-at : (s : List ℕ) (v : Verdict) (i : ℕ) → opens s ≡ true → v ≡ verdict 2 (0 + i) 0 → Unframed 0 false (items s) i
+    → FirstFault s v
 unframed-at s v i o e u =
     let q : 0 + i ≡ i = omega arith in
     subst (FirstFault s) (sym (e ∙ ap (λ (m : ℕ). verdict 2 m 0) q)) (unframed i o u)
@@ -89,7 +90,8 @@ first-fault s z = by-framing (eqb (framing s .number) 0) refl
   where
     by-framing : (t : Bool) → eqb (framing s .number) 0 ≡ t → FirstFault s (imageVerdict s)
     by-framing true e = unfold verdict in wrong (imageVerdict s .number) (imageVerdict s .item) (imageVerdict s .byte) (eqb-true (framing s .number) 0 e)
-        (refused-first s (imageVerdict s .number) (imageVerdict s .item) (imageVerdict s .byte) (eqb-true (framing s .number) 0 e) z refl)
+        (refused-first s (imageVerdict s .number) (imageVerdict s .item) (imageVerdict s .byte)
+        (eqb-true (framing s .number) 0 e) z refl)
     by-framing false e = unfold imageVerdict in subst (FirstFault s) (sym (if-false _ _ _ e)) (framing-fault s (eqb-false (framing s .number) 0 e))
 
 -- ---- numbers and places
@@ -119,7 +121,8 @@ sound-crossed bp = if-case Sound (eqb bp 0) _ _ (λ _. none-wrong) (λ e. in-fie
 
 sound-volume : (names : List (List ℕ)) (l : List ℕ) → Sound (volumeFault names l)
 unfolding volumeFault
-sound-volume names l = if-case Sound (leb mostReels (length names)) _ _ (λ _. bare 2 (λ l h. omega arith) (omega arith)) (λ _. sound-crossed _)
+sound-volume names l =
+    if-case Sound (leb mostReels (length names)) _ _ (λ _. bare 2 (λ l h. omega arith) (omega arith)) (λ _. sound-crossed _)
 
 sound-file : (files : ℕ) → Sound (fileFault files)
 unfolding fileFault
@@ -128,7 +131,8 @@ sound-file files = if-case Sound (leb mostFiles files) _ _ (λ _. bare 9 (λ l h
 sound-header : (goesOn : Bool) (files : ℕ) (first l : List ℕ) → Sound (firstHeaderFault goesOn files first l)
 unfolding firstHeaderFault
 sound-header goesOn files first l =
-    if-case Sound goesOn _ _ (λ _. sound-crossed _) (λ _. sound-or (crossed (newFilePlace files first l)) (fileFault files) (sound-crossed _) (sound-file files))
+    if-case Sound goesOn _ _ (λ _. sound-crossed _)
+    (λ _. sound-or (crossed (newFilePlace files first l)) (fileFault files) (sound-crossed _) (sound-file files))
 
 sound-second : (goesOn : Bool) (second l : List ℕ) → Sound (secondHeaderFault goesOn second l)
 unfolding secondHeaderFault
@@ -207,13 +211,17 @@ unfolding step ordered judged Stops fault
 step-stops s x = by-due (dueAfter (s .phase) (kindIn (s .phase) x))
   where
     by-due : (d : Due) → Stops (ordered s (kindIn (s .phase) x) (bytesIn x) d)
-    by-due (To p) = if-case Stops (eqb (itemFault s (kindIn (s .phase) x) (bytesIn x) .number) 0) _ _ (λ _. tt) (λ _. sound-item s (kindIn (s .phase) x) (bytesIn x))
+    by-due (To p) =
+        if-case Stops (eqb (itemFault s (kindIn (s .phase) x) (bytesIn x) .number) 0) _ _ (λ _. tt)
+        (λ _. sound-item s (kindIn (s .phase) x) (bytesIn x))
     by-due Wrong = bare 3 (λ l h. omega arith) (omega arith)
 
 stops-at : (s : State) (xs : List Item) (k i b : ℕ) → All (Refused (drop i xs) k b) s (take i xs) → Placed k b
 unfolding Stops fault
-stops-at s [] k zero b (e, q, _) = subst (λ (m : ℕ). Placed m b) (sym e) (subst (Placed 3) (sym q) (bare 3 (λ l h. omega arith) (omega arith)))
-stops-at s [] k (suc i) b (e, q, _) = subst (λ (m : ℕ). Placed m b) (sym e) (subst (Placed 3) (sym q) (bare 3 (λ l h. omega arith) (omega arith)))
+stops-at s [] k zero b (e, q, _) =
+    subst (λ (m : ℕ). Placed m b) (sym e) (subst (Placed 3) (sym q) (bare 3 (λ l h. omega arith) (omega arith)))
+stops-at s [] k (suc i) b (e, q, _) =
+    subst (λ (m : ℕ). Placed m b) (sym e) (subst (Placed 3) (sym q) (bare 3 (λ l h. omega arith) (omega arith)))
 stops-at s (x ∷ xs) k zero b e = subst Stops e (step-stops s x)
 stops-at s (x ∷ xs) k (suc i) b (p, _, all) = stops-at _ xs k i b all
 

@@ -1,4 +1,5 @@
--- Laws of reading: a step at a time, as a loop wants them, and over a list put before another, as a writer wants them. Assumes nothing.
+-- Laws of reading: a step at a time, as a loop wants them, and over a list put before another, as a writer wants them. Assumes
+-- nothing.
 use mathlib.Core.Path.{_≡_, refl, sym, ap, _∙_, subst}
 use mathlib.Core.Bool.{Bool, true, false}
 use mathlib.Core.List.{List, [], _∷_, _++_, append-assoc}
@@ -25,12 +26,14 @@ answer-further n es (ended fs) = refl
 answer-further n es (stopped k i b) = let e : n + suc i ≡ n + 1 + i = omega arith in ap (λ (m : ℕ). verdict k m b) e
 
 -- an item that goes on
-pub told-go : (n : ℕ) (s t : State) (x : Item) (xs : List Item) (es : List Event) → step s x ≡ go t es → toldFrom n s (x ∷ xs) ≡ toldFrom (n + 1) t xs
+pub told-go : (n : ℕ) (s t : State) (x : Item) (xs : List Item) (es : List Event) → step s x ≡ go t es
+    → toldFrom n s (x ∷ xs) ≡ toldFrom (n + 1) t xs
 unfolding toldFrom toldNext
 told-go n s t x xs es e = ap (λ (r : Next). toldNext n s (x ∷ xs) r (λ u. toldFrom (n + 1) u xs)) e
 
 -- an item that is refused
-pub answer-no : (n : ℕ) (s : State) (x : Item) (xs : List Item) (k b : ℕ) → step s x ≡ no k b → answerOf n (runs s (x ∷ xs)) ≡ verdict k n b
+pub answer-no : (n : ℕ) (s : State) (x : Item) (xs : List Item) (k b : ℕ) → step s x ≡ no k b
+    → answerOf n (runs s (x ∷ xs)) ≡ verdict k n b
 unfolding runs next answerOf
 answer-no n s x xs k b e =
     let z : n + 0 ≡ n = omega arith in
@@ -67,10 +70,12 @@ unfolding behindAll
 behind-none (ended es) = refl
 behind-none (stopped n i b) = let e : i ≡ 0 + i = omega arith in ap (λ (m : ℕ). stopped n m b) e
 
-pub runs-append : (s t : State) (xs ys : List Item) (es : List Event) → ReadsOver s xs t es → runs s (xs ++ ys) ≡ behindAll (length xs) es (runs t ys)
+pub runs-append : (s t : State) (xs ys : List Item) (es : List Event) → ReadsOver s xs t es
+    → runs s (xs ++ ys) ≡ behindAll (length xs) es (runs t ys)
 unfolding runs next
 runs-append s t [] ys es h =
-    ap (λ (u : State). runs u ys) (h .0) ∙ behind-none (runs t ys) ∙ ap (λ (e : List Event). behindAll 0 e (runs t ys)) (sym (h .1))
+    ap (λ (u : State). runs u ys) (h .0) ∙ behind-none (runs t ys)
+    ∙ ap (λ (e : List Event). behindAll 0 e (runs t ys)) (sym (h .1))
 runs-append s t (x ∷ xs) ys es (u, fs, gs, e, q, h) =
     ap (λ (r : Next). next r (λ v. runs v (xs ++ ys))) e
     ∙ ap (further fs) (runs-append u t xs ys gs h)

@@ -58,7 +58,11 @@ use Rattle.volume.proofs.Afters.{room-for-name}
 pub small : (s : List ℕ) (x : Spot) (n : ℕ) → BlockHere s x n → Small (x .state)
 small s x n h =
     let b : Bounded s (x .at) (x .item) (x .state) = h .bounded in
-    record { files = omega (arith, b .short, b .within, b .items, b .files); blocks = omega (arith, b .short, b .within, b .items, b .blocks) }
+    record {
+      files = omega (arith, b .short, b .within, b .items, b .files);
+      blocks = omega
+          (arith, b .short, b .within, b .items, b .blocks);
+    }
 
 -- ---- the framing from a spot on
 
@@ -74,7 +78,8 @@ pub outside-reel : (p : Phase) (b : Bool) → b ≡ isDue (dueAfter p (vol 1)) �
 unfolding isInside
 outside-reel p b e h = sym (if-true _ _ _ (sym e ∙ h))
 
-pub inside-reel : (p : Phase) (b c : Bool) → b ≡ isDue (dueAfter p (vol 1)) → b ≡ false → c ≡ isDue (dueAfter p endOfImage) → not c ≡ isInside p
+pub inside-reel : (p : Phase) (b c : Bool) → b ≡ isDue (dueAfter p (vol 1)) → b ≡ false → c ≡ isDue (dueAfter p endOfImage)
+    → not c ≡ isInside p
 unfolding isInside
 inside-reel p b c e h f = ap not f ∙ sym (if-false _ _ _ (sym e ∙ h))
 
@@ -105,27 +110,33 @@ frame-outside at item p m w z e h =
 ended-most : (p : Phase) (m : ℕ) → endedIn p m ≤ m
 unfolding endedIn
 ended-most p m =
-    if-case (λ (r : ℕ). r ≤ m) (eqb m 0) _ _ (λ _. omega arith) (λ _. if-case (λ (r : ℕ). r ≤ m) (isInside p) _ _ (λ _. omega arith) (λ _. omega arith))
+    if-case (λ (r : ℕ). r ≤ m) (eqb m 0) _ _ (λ _. omega arith)
+    (λ _. if-case (λ (r : ℕ). r ≤ m) (isInside p) _ _ (λ _. omega arith) (λ _. omega arith))
 
 -- the framing from a place on
-framed-here : (s : List ℕ) (at item : ℕ) (p : Phase) (m : ℕ) (y : Frame) (f : Verdict) → FrameHere s at item m → y ≡ frame at item (endedIn p m) (closedIn p m)
+framed-here : (s : List ℕ) (at item : ℕ) (p : Phase) (m : ℕ) (y : Frame) (f : Verdict) → FrameHere s at item m
+    → y ≡ frame at item (endedIn p m) (closedIn p m)
     → f ≡ framingFrom s (y .at) (y .item) (y .reels) (y .closed) → f ≡ framedAt s at item p m
 framed-here s at item p m y f b e q =
     q ∙ ap (λ (z : Frame). framingFrom s (z .at) (z .item) (z .reels) (z .closed)) e
-    ∙ framing-from s at item (endedIn p m) (closedIn p m) (b .short) (omega (arith, b .short, b .within, b .items)) (omega (arith, ended-most p m, b .few))
+    ∙ framing-from s at item (endedIn p m) (closedIn p m) (b .short) (omega (arith, b .short, b .within, b .items))
+    (omega (arith, ended-most p m, b .few))
 
-pub framed-good : (s : List ℕ) (at item : ℕ) (p : Phase) (m : ℕ) (y : Frame) (f v : Verdict) → FrameHere s at item m → y ≡ frame at item (endedIn p m) (closedIn p m)
+pub framed-good : (s : List ℕ) (at item : ℕ) (p : Phase) (m : ℕ) (y : Frame) (f v : Verdict) → FrameHere s at item m
+    → y ≡ frame at item (endedIn p m) (closedIn p m)
     → f ≡ framingFrom s (y .at) (y .item) (y .reels) (y .closed) → f .number ≡ 0 → v ≡ framedElse s at item p m v
 framed-good s at item p m y f v b e q z =
     sym (if-true _ _ _ (eq-eqb _ 0 (ap (λ (g : Verdict). g .number) (sym (framed-here s at item p m y f b e q)) ∙ z)))
 
-pub framed-bad : (s : List ℕ) (at item : ℕ) (p : Phase) (m : ℕ) (y : Frame) (f v : Verdict) → FrameHere s at item m → y ≡ frame at item (endedIn p m) (closedIn p m)
+pub framed-bad : (s : List ℕ) (at item : ℕ) (p : Phase) (m : ℕ) (y : Frame) (f v : Verdict) → FrameHere s at item m
+    → y ≡ frame at item (endedIn p m) (closedIn p m)
     → f ≡ framingFrom s (y .at) (y .item) (y .reels) (y .closed) → (f .number ≡ 0 → ⊥) → f ≡ framedElse s at item p m v
 framed-bad s at item p m y f v b e q z =
     let here : f ≡ framedAt s at item p m = framed-here s at item p m y f b e q in
     here ∙ sym (if-false _ _ _ (ne-eqb _ 0 (λ n. z (ap (λ (g : Verdict). g .number) here ∙ n))))
 
-pub ruleset frames = (is-due, is-undue, outside-reel, inside-reel, frame-none, frame-inside, frame-outside, framed-good, framed-bad, needs)
+pub ruleset frames =
+    (is-due, is-undue, outside-reel, inside-reel, frame-none, frame-inside, frame-outside, framed-good, framed-bad, needs)
 
 -- ---- the end of the walk
 
@@ -134,14 +145,16 @@ unfolding toldEnd
 end-good s names x f z = sym (if-true _ _ _ (eq-eqb _ 0 z))
 
 pub end-bad : (s names : List ℕ) (x : Spot) (f : Fault) (r : Verdict) → (f .number ≡ 0 → ⊥)
-    → r ≡ framedElse s (x .at) (x .item) (x .state .phase) (length names) (verdict (f .number) (x .item) (f .byte)) → r ≡ toldEnd s names x f
+    → r ≡ framedElse s (x .at) (x .item) (x .state .phase) (length names) (verdict (f .number) (x .item) (f .byte))
+    → r ≡ toldEnd s names x f
 unfolding toldEnd
 end-bad s names x f r z e = e ∙ sym (if-false _ _ _ (ne-eqb _ 0 z))
 
 -- ---- turns that stop
 
 -- a turn that ends with a number
-owes-last : (s names : List ℕ) (x : Spot) (v : Verdict) (number byte : ℕ) (r : Turn) → Bounded s (x .at) (x .item) (x .state) → r ≡ lastTurn x number byte
+owes-last : (s names : List ℕ) (x : Spot) (v : Verdict) (number byte : ℕ) (r : Turn) → Bounded s (x .at) (x .item) (x .state)
+    → r ≡ lastTurn x number byte
     → v ≡ toldEnd s names x (fault number byte) → Owes s names (x .at) v r
 unfolding toldAfter placesAfter ifB fault
 owes-last s names x v number byte r b e q =
@@ -150,14 +163,16 @@ owes-last s names x v number byte r b e q =
 
 -- the verdict of a refusal
 told-refused : (s names : List ℕ) (x : Spot) (number byte : ℕ) → (number ≡ 0 → ⊥)
-    → framedOr (x .item) (contents s names (x .state)) (decode (drop (x .at) s)) (verdict number (x .item) byte) ≡ toldEnd s names x (fault number byte)
+    → framedOr (x .item) (contents s names (x .state)) (decode (drop (x .at) s)) (verdict number (x .item) byte)
+    ≡ toldEnd s names x (fault number byte)
 unfolding toldEnd framedOr framedIn contents fault
 told-refused s names x number byte z =
     ap (λ (m : ℕ). framedElse s (x .at) (x .item) (x .state .phase) m (verdict number (x .item) byte)) (length-names s names)
     ∙ sym (if-false _ _ _ (ne-eqb number 0 z))
 
 -- the verdict by a refused item
-told-stop : (s names : List ℕ) (x : Spot) (behind k b : ℕ) → (k ≡ 0 → ⊥) → toldStep s names x behind (no k b) ≡ toldEnd s names x (fault k b)
+told-stop : (s names : List ℕ) (x : Spot) (behind k b : ℕ) → (k ≡ 0 → ⊥)
+    → toldStep s names x behind (no k b) ≡ toldEnd s names x (fault k b)
 unfolding toldStep toldNext
 told-stop s names x behind k b z = told-refused s names x k b z
 
@@ -165,20 +180,24 @@ not-three : _≡_ {A = ℕ} 3 0 → ⊥
 not-three = eqb-false 3 0 refl
 
 -- an item that is not due
-undue-told : (s names : List ℕ) (x : Spot) (k : Kind) (l : List ℕ) (behind : ℕ) (d : Due) → d ≡ dueAfter (x .state .phase) k → d ≡ Wrong
+undue-told : (s names : List ℕ) (x : Spot) (k : Kind) (l : List ℕ) (behind : ℕ) (d : Due) → d ≡ dueAfter (x .state .phase) k
+    → d ≡ Wrong
     → toldBy s names x k l behind ≡ toldEnd s names x (fault 3 0)
 unfolding toldBy ordered
 undue-told s names x k l behind d e w =
-    ap (λ (y : Due). toldStep s names x behind (ordered (contents s names (x .state)) k l y)) (sym e ∙ w) ∙ told-stop s names x behind 3 0 not-three
+    ap (λ (y : Due). toldStep s names x behind (ordered (contents s names (x .state)) k l y)) (sym e ∙ w)
+    ∙ told-stop s names x behind 3 0 not-three
 
-pub owes-undue : (s names : List ℕ) (x : Spot) (k : Kind) (l : List ℕ) (n behind : ℕ) (d : Due) (r : Turn) → BlockHere s x n → d ≡ dueAfter (x .state .phase) k → d ≡ Wrong
+pub owes-undue : (s names : List ℕ) (x : Spot) (k : Kind) (l : List ℕ) (n behind : ℕ) (d : Due) (r : Turn) → BlockHere s x n
+    → d ≡ dueAfter (x .state .phase) k → d ≡ Wrong
     → r ≡ lastTurn x 3 0 → Owes s names (x .at) (toldBy s names x k l behind) r
 owes-undue s names x k l n behind d r h e w q = owes-last s names x _ 3 0 r (h .bounded) q (undue-told s names x k l behind d e w)
 
 -- an item with a fault
 pub owes-fault : (s names : List ℕ) (x : Spot) (p : Phase) (k : Kind) (n : ℕ) (f : Fault) (r : Turn) → BlockHere s x n
     → f ≡ itemFault (contents s names (x .state)) k (take (x .at + 3 + n - (x .at + 3)) (drop (x .at + 3) s))
-    → (f .number ≡ 0 → ⊥) → r ≡ lastTurn x (f .number) (f .byte) → Owes s names (x .at) (toldDue s names x p k (part (x .at + 3) n s) (x .at + 3 + n)) r
+    → (f .number ≡ 0 → ⊥) → r ≡ lastTurn x (f .number) (f .byte)
+    → Owes s names (x .at) (toldDue s names x p k (part (x .at + 3) n s) (x .at + 3 + n)) r
 unfolding toldDue judged
 owes-fault s names x p k n f r h e z q =
     let t : State = contents s names (x .state) in
@@ -186,21 +205,25 @@ owes-fault s names x p k n f r h e z q =
     let same : itemFault t k l ≡ f = ap (itemFault t k) (sym (part-within (x .at + 3) n s)) ∙ sym e in
     owes-last s names x _ (f .number) (f .byte) r (h .bounded) q
     (ap (λ (y : Fault). toldStep s names x (x .at + 3 + n) (judged t p k l y)) same
-    ∙ ap (toldStep s names x (x .at + 3 + n)) (if-false _ _ _ (ne-eqb (f .number) 0 z)) ∙ told-stop s names x (x .at + 3 + n) (f .number) (f .byte) z)
+    ∙ ap (toldStep s names x (x .at + 3 + n)) (if-false _ _ _ (ne-eqb (f .number) 0 z))
+    ∙ told-stop s names x (x .at + 3 + n) (f .number) (f .byte) z)
 
 -- ---- turns that go on
 
-told-on : (s names : List ℕ) (x : Spot) (behind : ℕ) (t : State) (es : List Event) → toldStep s names x behind (go t es) ≡ toldFrom (x .item + 1) t (decode (drop behind s))
+told-on : (s names : List ℕ) (x : Spot) (behind : ℕ) (t : State) (es : List Event)
+    → toldStep s names x behind (go t es) ≡ toldFrom (x .item + 1) t (decode (drop behind s))
 unfolding toldStep toldNext
 told-on s names x behind t es = refl
 
 pub onward-made : (s : List ℕ) (x : Spot) (p : Phase) (k : Kind) (n : ℕ) (t : Reading) (b : Bool) (r : Turn)
-    → ReadingBehind s (x .state) p k (x .at + 3) n t → b ≡ isKind k (vol 1) → r ≡ onTurn (x .at + 3 + n) (x .item + 1) t b (x .at + 3) → Onward s x p k n r
+    → ReadingBehind s (x .state) p k (x .at + 3) n t → b ≡ isKind k (vol 1)
+    → r ≡ onTurn (x .at + 3 + n) (x .item + 1) t b (x .at + 3) → Onward s x p k n r
 onward-made s x p k n t b r h e q =
     subst (Onward s x p k n) (sym q) (record { on = refl; at = refl; item = refl; named = e; label = refl; behind = h })
 
 -- one more name where there is room for it
-length-places : (t : Bool) (names : List ℕ) (a m : ℕ) → (t ≡ true → length names < m) → length names ≤ m → length (ifB t (names ++ (a ∷ [])) names) ≤ m
+length-places : (t : Bool) (names : List ℕ) (a m : ℕ) → (t ≡ true → length names < m) → length names ≤ m
+    → length (ifB t (names ++ (a ∷ [])) names) ≤ m
 length-places t names a m f h =
     if-case (λ (l : List ℕ). length l ≤ m) t _ _ (λ e. omega (arith, length-append names (a ∷ []), f e)) (λ _. h)
 
@@ -220,8 +243,10 @@ owes-on s names x p k n f r h e z o =
     record {
       same =
           if-true _ _ _ (o .on)
-          ∙ ap (λ (m : ℕ). toldFrom m (contents s (ifB (r .named) (names ++ (r .label ∷ [])) names) (r .spot .state)) (decode (drop (r .spot .at) s))) (o .item)
-          ∙ ap (λ (m : ℕ). toldFrom (x .item + 1) (contents s (ifB (r .named) (names ++ (r .label ∷ [])) names) (r .spot .state)) (decode (drop m s))) (o .at)
+          ∙ ap (λ (m : ℕ). toldFrom m (contents s (ifB (r .named) (names ++ (r .label ∷ [])) names) (r .spot .state))
+          (decode (drop (r .spot .at) s))) (o .item)
+          ∙ ap (λ (m : ℕ). toldFrom (x .item + 1) (contents s (ifB (r .named) (names ++ (r .label ∷ [])) names) (r .spot .state))
+          (decode (drop m s))) (o .at)
           ∙ ap (λ (ns : List ℕ). toldFrom (x .item + 1) (contents s ns (r .spot .state)) (decode (drop behind s))) places
           ∙ ap (λ (u : State). toldFrom (x .item + 1) u (decode (drop behind s))) (o .behind .same names)
           ∙ sym (told-on s names x behind (stateAfter t p k l) (eventsOf t k l))
@@ -241,7 +266,8 @@ owes-on s names x p k n f r h e z o =
     }
 
 -- an item that is due owes what its judgement owes
-pub owes-due : (s names : List ℕ) (x : Spot) (p : Phase) (k : Kind) (l : List ℕ) (behind : ℕ) (d : Due) (r : Turn) → d ≡ dueAfter (x .state .phase) k → d ≡ To p
+pub owes-due : (s names : List ℕ) (x : Spot) (p : Phase) (k : Kind) (l : List ℕ) (behind : ℕ) (d : Due) (r : Turn)
+    → d ≡ dueAfter (x .state .phase) k → d ≡ To p
     → Owes s names (x .at) (toldDue s names x p k l behind) r → Owes s names (x .at) (toldBy s names x k l behind) r
 unfolding toldBy toldDue ordered
 owes-due s names x p k l behind d r e q o =
@@ -250,7 +276,8 @@ owes-due s names x p k l behind d r e q o =
 
 -- ---- the end of the image
 
-pub owes-end : (s names : List ℕ) (x : Spot) (d : Due) (p : Phase) (r : Turn) → Bounded s (x .at) (x .item) (x .state) → length s ≤ x .at
+pub owes-end : (s names : List ℕ) (x : Spot) (d : Due) (p : Phase) (r : Turn) → Bounded s (x .at) (x .item) (x .state)
+    → length s ≤ x .at
     → d ≡ dueAfter (x .state .phase) endOfImage → d ≡ To p → r ≡ lastTurn x 0 0 → Owes s names (x .at) (toldAt s names x) r
 unfolding toldAt toldFrom isDue contents toldEnd fault ifB
 owes-end s names x d p r b h e q t =
@@ -279,7 +306,8 @@ told-item s names x y behind h =
 
 -- ---- what a block is
 
-pub kind-label : (p : Phase) (l : List ℕ) (d : Due) (k : Kind) → d ≡ dueAfter p dataBlock → d ≡ Wrong → k ≡ kindOf l → k ≡ kindIn p (block l)
+pub kind-label : (p : Phase) (l : List ℕ) (d : Due) (k : Kind) → d ≡ dueAfter p dataBlock → d ≡ Wrong → k ≡ kindOf l
+    → k ≡ kindIn p (block l)
 unfolding kindIn isDue
 kind-label p l d k e w q = q ∙ sym (if-false _ _ _ (ap isDue (sym e ∙ w)))
 
@@ -309,7 +337,8 @@ sized-block s x n k h e =
 
 pub owes-block : (s names : List ℕ) (x : Spot) (n : ℕ) (k : Kind) (r : Turn) → BlockHere s x n
     → k ≡ kindIn (x .state .phase) (block (take (x .at + 3 + n - (x .at + 3)) (drop (x .at + 3) s)))
-    → Owes s names (x .at) (toldBy s names x k (part (x .at + 3) n s) (x .at + 3 + n)) r → Owes s names (x .at) (toldAt s names x) r
+    → Owes s names (x .at) (toldBy s names x k (part (x .at + 3) n s) (x .at + 3 + n)) r
+    → Owes s names (x .at) (toldAt s names x) r
 unfolding bytesIn
 owes-block s names x n k r h e o =
     let l : List ℕ = part (x .at + 3) n s in
@@ -319,17 +348,20 @@ owes-block s names x n k r h e o =
 
 -- ---- items without bytes
 
-bare-told : (s names : List ℕ) (x : Spot) (family : ℕ) → BareHere s x family → toldBy s names x (kind family 0) [] (x .at + 3) ≡ toldAt s names x
+bare-told : (s names : List ℕ) (x : Spot) (family : ℕ) → BareHere s x family
+    → toldBy s names x (kind family 0) [] (x .at + 3) ≡ toldAt s names x
 bare-told s names x family h =
     let y : Item = h .here .0 in
     ap (λ (l : List ℕ). toldBy s names x (kind family 0) l (x .at + 3)) (sym (h .here .3))
     ∙ ap (λ (j : Kind). toldBy s names x j (bytesIn y) (x .at + 3)) (sym (h .here .2))
     ∙ told-item s names x y (x .at + 3) (h .here .1)
 
-pub bare-undue : (s names : List ℕ) (x : Spot) (family : ℕ) (d : Due) (r : Turn) → BareHere s x family → d ≡ dueAfter (x .state .phase) (kind family 0) → d ≡ Wrong
+pub bare-undue : (s names : List ℕ) (x : Spot) (family : ℕ) (d : Due) (r : Turn) → BareHere s x family
+    → d ≡ dueAfter (x .state .phase) (kind family 0) → d ≡ Wrong
     → r ≡ lastTurn x 3 0 → Owes s names (x .at) (toldAt s names x) r
 bare-undue s names x family d r h e w q =
-    owes-last s names x _ 3 0 r (h .bounded) q (sym (bare-told s names x family h) ∙ undue-told s names x (kind family 0) [] (x .at + 3) d e w)
+    owes-last s names x _ 3 0 r (h .bounded) q
+    (sym (bare-told s names x family h) ∙ undue-told s names x (kind family 0) [] (x .at + 3) d e w)
 
 pub bare-on : (s names : List ℕ) (x : Spot) (family : ℕ) (d : Due) (p : Phase) (r : Turn) → BareHere s x family
     → d ≡ dueAfter (x .state .phase) (kind family 0) → d ≡ To p → r ≡ bareTurn x p
@@ -362,7 +394,8 @@ bare-on s names x family d p r h e w q =
       few = λ most. most;
     })
 
-pub bare-mark : (s : List ℕ) (x : Spot) (p : Shape) → Bounded s (x .at) (x .item) (x .state) → x .at < length s → p ≡ shape (drop (x .at) s) → p ≡ Mark → BareHere s x 9
+pub bare-mark : (s : List ℕ) (x : Spot) (p : Shape) → Bounded s (x .at) (x .item) (x .state) → x .at < length s
+    → p ≡ shape (drop (x .at) s) → p ≡ Mark → BareHere s x 9
 unfolding isKind kindIn bytesIn itemFault orElse labelFault fieldFault fieldsOf firstBad accessOf accessAt contextFault ifB fault stateAfter namesAfter filesAfter goesOnAfter firstAfter secondAfter countAfter pendingAfter
 bare-mark s x p b m e q =
     record {
@@ -372,7 +405,8 @@ bare-mark s x p b m e q =
       bare = λ t p. record { sound = refl; same = refl };
     }
 
-pub bare-reel-end : (s : List ℕ) (x : Spot) (p : Shape) → Bounded s (x .at) (x .item) (x .state) → x .at < length s → p ≡ shape (drop (x .at) s) → p ≡ ReelEnd
+pub bare-reel-end : (s : List ℕ) (x : Spot) (p : Shape) → Bounded s (x .at) (x .item) (x .state) → x .at < length s
+    → p ≡ shape (drop (x .at) s) → p ≡ ReelEnd
     → BareHere s x 10
 unfolding isKind kindIn bytesIn itemFault orElse labelFault fieldFault fieldsOf firstBad accessOf accessAt contextFault ifB fault stateAfter namesAfter filesAfter goesOnAfter firstAfter secondAfter countAfter pendingAfter
 bare-reel-end s x p b m e q =
@@ -388,7 +422,8 @@ broken-wrong : (p : Phase) (d : Due) → d ≡ dueAfter p other → d ≡ Wrong
 broken-wrong p Wrong e = refl
 broken-wrong p (To q) e = absurd (broken-undue p q (sym e))
 
-pub owes-broken : (s names : List ℕ) (x : Spot) (p : Shape) (r : Turn) → Bounded s (x .at) (x .item) (x .state) → x .at < length s → p ≡ shape (drop (x .at) s) → p ≡ Broken
+pub owes-broken : (s names : List ℕ) (x : Spot) (p : Shape) (r : Turn) → Bounded s (x .at) (x .item) (x .state) → x .at < length s
+    → p ≡ shape (drop (x .at) s) → p ≡ Broken
     → r ≡ lastTurn x 3 0 → Owes s names (x .at) (toldAt s names x) r
 unfolding kindIn bytesIn
 owes-broken s names x p r b m e q t =
@@ -398,7 +433,8 @@ owes-broken s names x p r b m e q t =
     (sym (told-item s names x broken (length s) here)
     ∙ undue-told s names x other [] (length s) (dueAfter (x .state .phase) other) refl (broken-wrong (x .state .phase) _ refl))
 
-pub block-stands : (s : List ℕ) (x : Spot) (n : ℕ) (p : Shape) → Bounded s (x .at) (x .item) (x .state) → x .at < length s → p ≡ shape (drop (x .at) s) → p ≡ Block n
+pub block-stands : (s : List ℕ) (x : Spot) (n : ℕ) (p : Shape) → Bounded s (x .at) (x .item) (x .state) → x .at < length s
+    → p ≡ shape (drop (x .at) s) → p ≡ Block n
     → BlockHere s x n
 block-stands s x n p b m e q =
     record { bounded = b; here = decode-block s (x .at) n p m e q; within = block-within s (x .at) n p e q }
@@ -422,12 +458,15 @@ bare-items s x family h = h .bounded .items
 pub bare-most : (s : List ℕ) (x : Spot) (family : ℕ) → BareHere s x family → x .at + 3 ≤ mostImage
 bare-most s x family h = omega (arith, h .bounded .short, h .within)
 
-pub passed : (x : Spot) (p : Phase) (t : Reading) (r : Turn) → t ≡ inPhase (x .state) p → r ≡ onTurn (x .at + 3) (x .item + 1) t false 0 → r ≡ bareTurn x p
+pub passed : (x : Spot) (p : Phase) (t : Reading) (r : Turn) → t ≡ inPhase (x .state) p
+    → r ≡ onTurn (x .at + 3) (x .item + 1) t false 0 → r ≡ bareTurn x p
 passed x p t r e q = q ∙ ap (λ (y : Reading). onTurn (x .at + 3) (x .item + 1) y false 0) e
 
-pub ruleset turns = (small, owes-undue, owes-fault, owes-on, owes-due, onward-made, start-fits, end-fits, item-fits, block-within-image, needs)
+pub ruleset turns =
+    (small, owes-undue, owes-fault, owes-on, owes-due, onward-made, start-fits, end-fits, item-fits, block-within-image, needs)
 
-pub ruleset items = (owes-end, owes-early, kind-label, kind-data, sized-block, owes-block, bare-undue, bare-on, bare-mark, bare-reel-end, owes-broken, block-stands, start-fits, end-fits, block-within-image, bare-items, bare-most, passed, needs)
+pub ruleset items =
+    (owes-end, owes-early, kind-label, kind-data, sized-block, owes-block, bare-undue, bare-on, bare-mark, bare-reel-end, owes-broken, block-stands, start-fits, end-fits, block-within-image, bare-items, bare-most, passed, needs)
 
 -- ---- data blocks in a row
 
@@ -436,7 +475,8 @@ inside s x b = record { short = b .short; within = b .within; items = b .items; 
 
 -- past data blocks the verdict is the same
 pub past-data : (s : List ℕ) (x : Spot) (h : Lengths) (m : List ℕ) (b : Between) → m ≡ part (x .state .second) 80 s → Given h m
-    → Skipped s h (between (x .at) (x .item) (x .state .count) (x .state .pending)) b → x .state .phase ≡ Data → Bounded s (x .at) (x .item) (x .state)
+    → Skipped s h (between (x .at) (x .item) (x .state .count) (x .state .pending)) b → x .state .phase ≡ Data
+    → Bounded s (x .at) (x .item) (x .state)
     → Past s x
     (record {
       at = b .at;
@@ -500,17 +540,22 @@ pub walked-none : (s names : List ℕ) (x : Spot) → FirstSpot s [] x → lengt
 walked-none s names x b e = record { begun = b; few = omega arith; kept = e }
 
 -- a turn that goes on leads to a spot from which the verdict is the same
-begun-after : (s names : List ℕ) (x y : Spot) (t : Turn) → FirstSpot s names x → Past s x y → Owes s names (y .at) (toldAt s names y) t → t .on ≡ true
+begun-after : (s names : List ℕ) (x y : Spot) (t : Turn) → FirstSpot s names x → Past s x y
+    → Owes s names (y .at) (toldAt s names y) t → t .on ≡ true
     → FirstSpot s (placesAfter names t) (t .spot)
 unfolding toldAfter
-begun-after s names x y t b p o h = record { same = sym (if-true _ _ _ h) ∙ o .same ∙ p .same names ∙ b .same; bounded = o .bounded }
+begun-after s names x y t b p o h =
+    record { same = sym (if-true _ _ _ h) ∙ o .same ∙ p .same names ∙ b .same; bounded = o .bounded }
 
 pub walk-on : (s names : List ℕ) (reels : ℕ) (x y : Spot) (t : Turn) → Walked s names reels x → Past s x y
-    → Owes s (take reels names) (y .at) (toldAt s (take reels names) y) t → t .on ≡ true → t .named ≡ false → Walked s names reels (t .spot)
+    → Owes s (take reels names) (y .at) (toldAt s (take reels names) y) t → t .on ≡ true → t .named ≡ false
+    → Walked s names reels (t .spot)
 unfolding placesAfter
 walk-on s names reels x y t w p o h n =
     record {
-      begun = subst (λ (l : List ℕ). FirstSpot s l (t .spot)) (if-false _ _ _ n) (begun-after s (take reels names) x y t (w .begun) p o h);
+      begun =
+          subst (λ (l : List ℕ). FirstSpot s l (t .spot)) (if-false _ _ _ n)
+          (begun-after s (take reels names) x y t (w .begun) p o h);
       few = w .few;
       kept = w .kept;
     }
@@ -526,30 +571,42 @@ walk-room s names reels x y t w o n =
     omega (arith, length-append (take reels names) (t .label ∷ []), long, most)
 
 pub walk-named : (s names : List ℕ) (reels : ℕ) (x y : Spot) (t : Turn) → Walked s names reels x → Past s x y
-    → Owes s (take reels names) (y .at) (toldAt s (take reels names) y) t → t .on ≡ true → t .named ≡ true → Walked s (set names reels (t .label)) (reels + 1) (t .spot)
+    → Owes s (take reels names) (y .at) (toldAt s (take reels names) y) t → t .on ≡ true → t .named ≡ true
+    → Walked s (set names reels (t .label)) (reels + 1) (t .spot)
 unfolding placesAfter
 walk-named s names reels x y t w p o h n =
     let room : reels < 16 = walk-room s names reels x y t w o n in
     let places : take (reels + 1) (set names reels (t .label)) ≡ take reels names ++ (t .label ∷ [])
     = ap (λ (m : ℕ). take m (set names reels (t .label))) (add-one reels) ∙ take-suc-set names reels (t .label) (omega (arith, w .kept)) in
     record {
-      begun = subst (λ (l : List ℕ). FirstSpot s l (t .spot)) (if-true _ _ _ n ∙ sym places) (begun-after s (take reels names) x y t (w .begun) p o h);
+      begun =
+          subst (λ (l : List ℕ). FirstSpot s l (t .spot)) (if-true _ _ _ n ∙ sym places)
+          (begun-after s (take reels names) x y t (w .begun) p o h);
       few = omega arith;
       kept = length-set names reels (t .label) ∙ w .kept;
     }
 
-pub walk-falls : (s names : List ℕ) (reels : ℕ) (x y : Spot) (t : Turn) → Past s x y → Owes s (take reels names) (y .at) (toldAt s (take reels names) y) t → t .on ≡ true
+pub walk-falls : (s names : List ℕ) (reels : ℕ) (x y : Spot) (t : Turn) → Past s x y
+    → Owes s (take reels names) (y .at) (toldAt s (take reels names) y) t → t .on ≡ true
     → length s - t .spot .at < length s - x .at
 walk-falls s names reels x y t p o h = omega (arith, p .onward, o .onward h, o .bounded .within)
 
 pub walk-framed : (s names : List ℕ) (reels : ℕ) (x y : Spot) (t : Turn) → Walked s names reels x
-    → Owes s (take reels names) (y .at) (toldAt s (take reels names) y) t → FrameHere s (t .spot .at) (t .spot .item) (length (take reels names))
+    → Owes s (take reels names) (y .at) (toldAt s (take reels names) y) t
+    → FrameHere s (t .spot .at) (t .spot .item) (length (take reels names))
 walk-framed s names reels x y t w o =
     let b : Bounded s (t .spot .at) (t .spot .item) (t .spot .state) = o .bounded in
-    record { short = b .short; within = b .within; items = b .items; few = omega (arith, length-take-le reels names (omega (arith, w .few, w .kept)), w .few) }
+    record {
+      short = b .short;
+      within = b .within;
+      items = b .items;
+      few = omega
+          (arith, length-take-le reels names (omega (arith, w .few, w .kept)), w .few);
+    }
 
 pub walk-done : (s names : List ℕ) (reels : ℕ) (x y : Spot) (t : Turn) (v : Verdict) → Walked s names reels x → Past s x y
-    → Owes s (take reels names) (y .at) (toldAt s (take reels names) y) t → t .on ≡ false → v ≡ toldEnd s (take reels names) (t .spot) (t .fault)
+    → Owes s (take reels names) (y .at) (toldAt s (take reels names) y) t → t .on ≡ false
+    → v ≡ toldEnd s (take reels names) (t .spot) (t .fault)
     → v ≡ toldFrom 0 start (allItems s)
 unfolding toldAfter
 walk-done s names reels x y t v w p o h e = e ∙ sym (if-false _ _ _ h) ∙ o .same ∙ p .same (take reels names) ∙ w .begun .same
@@ -563,7 +620,8 @@ past-bounded s x y p = p .bounded
 pub reels-within : (s names : List ℕ) (reels : ℕ) (x : Spot) → Walked s names reels x → reels ≤ length names
 reels-within s names reels x w = omega (arith, w .few, w .kept)
 
-pub ruleset walks = (begun, walked-none, walk-on, walk-room, walk-named, walk-falls, walk-framed, walk-done, still-bounded, past-bounded, reels-within, end-good, end-bad, needs)
+pub ruleset walks =
+    (begun, walked-none, walk-on, walk-room, walk-named, walk-falls, walk-framed, walk-done, still-bounded, past-bounded, reels-within, end-good, end-bad, needs)
 
 -- ---- the verdict
 
@@ -578,7 +636,8 @@ pub verdict-shut : (s : List ℕ) (b : Bool) (f : Verdict) → b ≡ opens s →
 unfolding imageVerdict
 verdict-shut s b f e h q = q ∙ sym (if-false _ _ _ (ne-eqb (framing s .number) 0 (framing-shut s (sym e ∙ h))))
 
-pub verdict-told : (s : List ℕ) (b : Bool) (v : Verdict) → b ≡ opens s → b ≡ true → v ≡ toldFrom 0 start (allItems s) → v ≡ imageVerdict s
+pub verdict-told : (s : List ℕ) (b : Bool) (v : Verdict) → b ≡ opens s → b ≡ true → v ≡ toldFrom 0 start (allItems s)
+    → v ≡ imageVerdict s
 unfolding imageVerdict
 verdict-told s b v e h q =
     q ∙ told-whole (allItems s)

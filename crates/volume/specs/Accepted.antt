@@ -1,4 +1,5 @@
--- An accepted set, as a reader would state it: the framing is good, every item is due where it stands and has no fault against what was read
+-- An accepted set, as a reader would state it: the framing is good, every item is due where it stands and has no fault against
+-- what was read
 -- before it, and the image ends where the order of a reel lets it. And a refused one: what its verdict says of it.
 use mathlib.Core.Path.{_≡_}
 use mathlib.Core.Bool.{Bool, true, false, not}
@@ -42,7 +43,8 @@ pub record Accepted (s : List ℕ) : Type 0 where
   pub framed : framing s .number ≡ 0
   pub followed : All MayEnd start (items s)
 
--- what is left begins with an item that is refused with number k at byte b, or is the end of the image, which is 3 where it is not due
+-- what is left begins with an item that is refused with number k at byte b, or is the end of the image, which is 3 where it is
+-- not due
 abbrev pub Refused : List Item → ℕ → ℕ → State → Type 0
 Refused [] k b s = (k ≡ 3) × (b ≡ 0) × (isDue (dueAfter (s .phase) endOfImage) ≡ false)
 Refused (x ∷ xs) k b s = step s x ≡ no k b
@@ -67,7 +69,8 @@ isReelEnd mark = false
 isReelEnd reelEnd = true
 isReelEnd broken = false
 
--- stateBehind r ended reels, with `closed` where the last item was an end of reel: i items may stand, and what follows them may not, or is the end of an image
+-- stateBehind r ended reels, with `closed` where the last item was an end of reel: i items may stand, and what follows them may
+-- not, or is the end of an image
 -- that does not end stateBehind an end of reel
 abbrev pub Unframed : ℕ → Bool → List Item → ℕ → Type 0
 Unframed r closed [] zero = closed ≡ false

@@ -1,4 +1,5 @@
--- The faults of one item that is due, beyond those of its label by itself. Document 01, "Cross-checks" (6), "Blocks and records" (7, 8), the
+-- The faults of one item that is due, beyond those of its label by itself. Document 01, "Cross-checks" (6), "Blocks and records"
+-- (7, 8), the
 -- 65th file (9), and a record that is open at EOF1 (8).
 -- Each kind of item has its fault; of two numbers the smaller goes first, and of two fields the one with the lower BP.
 use mathlib.Core.Bool.{Bool, true, false}
@@ -53,17 +54,22 @@ isAmong v (u ∷ us) = ifB (same v u) true (isAmong v us)
 
 -- A 17th reel is 2 by the framing, before any item is read; the same number here bounds the names that reading has to keep.
 unfoldable pub volumeFault : List (List ℕ) → List ℕ → Fault
-volumeFault names l = ifB (leb mostReels (length names)) (fault 2 0) (crossed (ifB (isAmong (volumeOf l) names) (bpOf vol1 volumeRow) 0))
+volumeFault names l =
+    ifB (leb mostReels (length names)) (fault 2 0) (crossed (ifB (isAmong (volumeOf l) names) (bpOf vol1 volumeRow) 0))
 
--- the first HDR1 of a file, behind `files` others of which `first` was the last HDR1: one set identifier throughout, section 0001, sequence 0001 or
+-- the first HDR1 of a file, behind `files` others of which `first` was the last HDR1: one set identifier throughout, section
+-- 0001, sequence 0001 or
 -- one higher than that of the file before
 unfoldable pub newFilePlace : ℕ → List ℕ → List ℕ → ℕ
 newFilePlace files first l =
-    ifB (ifB (eqb files 0) true (same (setOf l) (setOf first))) (ifB (says 1 (sectionOf l)) (ifB (says (files + 1) (sequenceOf l)) 0 (bpOf hdr1 sequenceRow)) (bpOf hdr1 sectionRow)) (bpOf hdr1 setRow)
+    ifB (ifB (eqb files 0) true (same (setOf l) (setOf first)))
+    (ifB (says 1 (sectionOf l)) (ifB (says (files + 1) (sequenceOf l)) 0 (bpOf hdr1 sequenceRow)) (bpOf hdr1 sectionRow))
+    (bpOf hdr1 setRow)
 
 -- HDR1 of a later section: section one higher, and BP 5-27, 32-41 and 54 as in the section before (house)
 unfoldable pub laterPlace : List ℕ → List ℕ → ℕ
-laterPlace first l = lower (unequalIn perFile first l hdr1) (ifB (says (valueOf (sectionOf first) + 1) (sectionOf l)) 0 (bpOf hdr1 sectionRow))
+laterPlace first l =
+    lower (unequalIn perFile first l hdr1) (ifB (says (valueOf (sectionOf first) + 1) (sectionOf l)) 0 (bpOf hdr1 sectionRow))
 
 -- at most 64 files (house): the 65th is 9 at its HDR1
 abbrev pub mostFiles : ℕ
@@ -73,7 +79,8 @@ unfoldable pub fileFault : ℕ → Fault
 fileFault files = ifB (leb mostFiles files) (fault 9 0) (fault 0 0)
 
 unfoldable pub firstHeaderFault : Bool → ℕ → List ℕ → List ℕ → Fault
-firstHeaderFault goesOn files first l = ifB goesOn (crossed (laterPlace first l)) (orElse (crossed (newFilePlace files first l)) (fileFault files))
+firstHeaderFault goesOn files first l =
+    ifB goesOn (crossed (laterPlace first l)) (orElse (crossed (newFilePlace files first l)) (fileFault files))
 
 -- HDR2 of a later section: BP 5-15 and 51-52 as in the section before (house)
 unfoldable pub secondHeaderFault : Bool → List ℕ → List ℕ → Fault
@@ -81,7 +88,8 @@ secondHeaderFault goesOn second l = ifB goesOn (crossed (unequalIn perFile secon
 
 -- the first trailer label equals its header's; its count is the number of blocks of this section
 unfoldable pub firstTrailerFault : List ℕ → ℕ → List ℕ → Fault
-firstTrailerFault first count l = crossed (lower (unequalIn perSection first l hdr1) (ifB (says count (countOf l)) 0 (bpOf hdr1 countRow)))
+firstTrailerFault first count l =
+    crossed (lower (unequalIn perSection first l hdr1) (ifB (says count (countOf l)) 0 (bpOf hdr1 countRow)))
 
 -- no record may be open at EOF1
 unfoldable pub openFault : ℕ → Fault
@@ -99,7 +107,8 @@ secondTrailerFault second l = crossed (unequalIn perSection second l hdr2)
 -- the answer on a data block, by the lengths that this section's HDR2 gives
 unfoldable pub outcomeIn : List ℕ → ℕ → List ℕ → Outcome
 outcomeIn second pending l =
-    blockOutcome (formatOf second) (valueOf (blockLengthOf second)) (valueOf (recordLengthOf second)) (valueOf (offsetOf second)) pending l
+    blockOutcome (formatOf second) (valueOf (blockLengthOf second)) (valueOf (recordLengthOf second))
+    (valueOf (offsetOf second)) pending l
 
 unfoldable pub blockFault : List ℕ → ℕ → List ℕ → Fault
 blockFault second pending l = fault (outcomeIn second pending l .number) 0

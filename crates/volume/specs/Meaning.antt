@@ -1,4 +1,5 @@
--- The meaning of a set (a term of document 01): its set identifier and, per file in order, file identifier, generation, version, both dates,
+-- The meaning of a set (a term of document 01): its set identifier and, per file in order, file identifier, generation, version,
+-- both dates,
 -- format, B, R and the list of records; fields are compared as bytes. The dates are those of section 0001 (document 02, P2).
 use mathlib.Core.Path.{_≡_}
 use mathlib.Core.List.{List, [], _∷_, _++_}
@@ -14,7 +15,8 @@ use Rattle.volume.specs.Step.{Event, begins, continues, holds}
 use Rattle.volume.specs.Run.{Run, ended, stopped, runs}
 use Rattle.volume.specs.Accepted.{Accepted}
 
--- a file of a meaning: the 46 bytes of its fields as an order sheet has them (17 identifier, 4 generation, 2 version, 6 creation date,
+-- a file of a meaning: the 46 bytes of its fields as an order sheet has them (17 identifier, 4 generation, 2 version, 6 creation
+-- date,
 -- 6 expiration date, 1 format, 5 B, 5 R), and its records
 pub record File : Type 0 where
   pub fields : List ℕ
@@ -34,7 +36,9 @@ onFirst bs (r ∷ rs) = (bs ++ r) ∷ rs
 -- the records of a file's segments: 0 and 3 end a record, 1 and 2 go on
 unfoldable pub joined : List Segment → List (List ℕ)
 joined [] = []
-joined (x ∷ xs) = ifB (eqb (x .indicator) 1) (onFirst (x .bytes) (joined xs)) (ifB (eqb (x .indicator) 2) (onFirst (x .bytes) (joined xs)) (x .bytes ∷ joined xs))
+joined (x ∷ xs) =
+    ifB (eqb (x .indicator) 1) (onFirst (x .bytes) (joined xs))
+    (ifB (eqb (x .indicator) 2) (onFirst (x .bytes) (joined xs)) (x .bytes ∷ joined xs))
 
 -- ---- files from events
 
@@ -43,14 +47,20 @@ pub record Collected : Type 0 where
   pub segments : List Segment
   pub files : List File
 
--- the fields of a file from its first HDR1 and HDR2: the file identifier, generation to expiration date, and format to record length
+-- the fields of a file from its first HDR1 and HDR2: the file identifier, generation to expiration date, and format to record
+-- length
 unfoldable pub fieldsFrom : List ℕ → List ℕ → List ℕ
-fieldsFrom f s = field hdr1 identifierRow f ++ (fieldsTo hdr1 generationRow expiresRow f ++ fieldsTo hdr2 formatRow recordLengthRow s)
+fieldsFrom f s =
+    field hdr1 identifierRow f ++ (fieldsTo hdr1 generationRow expiresRow f ++ fieldsTo hdr2 formatRow recordLengthRow s)
 
 unfoldable pub collect : List Event → Collected
 collect [] = record { segments = []; files = [] }
 collect (begins f s ∷ es) =
-    record { segments = []; files = record { fields = fieldsFrom f s; records = joined (collect es .segments) } ∷ collect es .files }
+    record {
+      segments = [];
+      files = record { fields = fieldsFrom f s; records = joined (collect es .segments) } ∷
+          collect es .files;
+    }
 collect (continues f s ∷ es) = collect es
 collect (holds l xs ∷ es) = record { segments = xs ++ collect es .segments; files = collect es .files }
 

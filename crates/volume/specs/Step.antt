@@ -21,7 +21,8 @@ use Rattle.block.specs.declared.Outcome.{Outcome}
 use Rattle.volume.specs.State.{State}
 use Rattle.volume.specs.Fault.{itemFault, outcomeIn, valueOf}
 
--- what reading hands out: a file begins, with its first HDR1 and HDR2; a later section of it begins, with its own HDR1 and HDR2; a data block of it,
+-- what reading hands out: a file begins, with its first HDR1 and HDR2; a later section of it begins, with its own HDR1 and HDR2;
+-- a data block of it,
 -- with its bytes as they stand on the reel and its segments
 pub data Event : Type 0 where
   begins : List ℕ → List ℕ → Event
@@ -92,7 +93,8 @@ segmentsOf (some xs) = xs
 -- the segments of a data block, by the lengths that this section's HDR2 gives
 unfoldable pub segmentsIn : State → List ℕ → List Segment
 segmentsIn s l =
-    segmentsOf (units (formatOf (s .second)) (valueOf (blockLengthOf (s .second))) (valueOf (recordLengthOf (s .second))) (valueOf (offsetOf (s .second))) l)
+    segmentsOf (units (formatOf (s .second)) (valueOf (blockLengthOf (s .second))) (valueOf (recordLengthOf (s .second)))
+    (valueOf (offsetOf (s .second))) l)
 
 -- a data block; at HDR2 a section, which begins a file or goes on with one
 unfoldable pub eventsOf : State → Kind → List ℕ → List Event

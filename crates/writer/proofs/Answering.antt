@@ -53,7 +53,8 @@ image-given : (lay : Bool) (o : List ℕ) (l : Laid) (xs : List Item) → l ≡ 
 unfolding imageFrom imaged outcome
 image-given lay o l xs e = ap (λ (k : Laid). imageFrom lay o k .short) e
 
-image-end : (lay : Bool) (o : List ℕ) (l : Laid) (xs : List Item) → l ≡ laid xs → imageFrom lay o l .end ≡ 0 + length (head ++ encode xs)
+image-end : (lay : Bool) (o : List ℕ) (l : Laid) (xs : List Item) → l ≡ laid xs
+    → imageFrom lay o l .end ≡ 0 + length (head ++ encode xs)
 unfolding imageFrom imaged outcome behind ifB
 image-end lay o l xs e = ap (λ (k : Laid). imageFrom lay o k .end) e
 
@@ -119,7 +120,8 @@ module _ (t : Task) (g : Place) (o q : List ℕ) (r : Pen) (m : Sheeted false (s
         let long : mostImage < length (head ++ encode xs) = omega arith in
         subst (λ (w : List ℕ). Answers (storedLaid (setLaid t g) o) a w) (sym measured-same)
         (subst (λ (b : Answer). Answers (storedLaid (setLaid t g) o) b o) (sym h)
-        (subst (λ (w : Written). Answers w (refusalOf 14) o) (sym (stored-at (setLaid t g) xs o z ∙ if-false _ _ _ (lt-leb _ _ long))) (answers-refused 14 o))))
+        (subst (λ (w : Written). Answers w (refusalOf 14) o)
+        (sym (stored-at (setLaid t g) xs o z ∙ if-false _ _ _ (lt-leb _ _ long))) (answers-refused 14 o))))
 
     module _ (k : r .at < overLong) where
       pub answers-short : (a : Answer) → length q < r .at → a ≡ refusalOf 10 → Answers (storedLaid (setLaid t g) o) a q
@@ -132,7 +134,8 @@ module _ (t : Task) (g : Place) (o q : List ℕ) (r : Pen) (m : Sheeted false (s
           subst (λ (w : List ℕ). Answers (storedLaid (setLaid t g) o) a w) (sym measured-same)
           (subst (λ (b : Answer). Answers (storedLaid (setLaid t g) o) b o) (sym h)
           (subst (λ (w : Written). Answers w (refusalOf 10) o)
-          (sym (stored-at (setLaid t g) xs o z ∙ if-true _ _ _ (le-leb _ _ fits) ∙ if-false _ _ _ (lt-leb _ _ less))) (answers-refused 10 o))))
+          (sym (stored-at (setLaid t g) xs o z ∙ if-true _ _ _ (le-leb _ _ fits) ∙ if-false _ _ _ (lt-leb _ _ less)))
+          (answers-refused 10 o))))
 
       module _ (s : r .at ≤ length q) where
         -- what was measured is what the second pass asks for
@@ -148,7 +151,8 @@ module _ (t : Task) (g : Place) (o q : List ℕ) (r : Pen) (m : Sheeted false (s
                   record { given = image-given true q (setLaid t g) xs z; within = omega arith; most = omega arith });
             }
 
-        pub answers-done : (v : List ℕ) (u : Pen) (a : Answer) → Sheeted true (setLaid t g) q v u → a ≡ writtenOf (r .at) → Answers (storedLaid (setLaid t g) o) a v
+        pub answers-done : (v : List ℕ) (u : Pen) (a : Answer) → Sheeted true (setLaid t g) q v u → a ≡ writtenOf (r .at)
+            → Answers (storedLaid (setLaid t g) o) a v
         unfolding stored writtenOf putAt
         answers-done v u a w h =
             by-items (setLaid t g) o q r false m e
@@ -181,7 +185,8 @@ module _ (t : Task) (g : Place) (o q : List ℕ) (r : Pen) (m : Sheeted false (s
 pub first-ready : (t : Task) (g : Place) (o : List ℕ) → Writable t g → SetReady false t g o
 first-ready t g o y = record { writable = y; fits = λ z. absurd (false≢true z) }
 
-pub ruleset answering = (first-ready, answers-lacking, answers-over, answers-short, measured-ready, answers-done, done-kept, measured-kept, needs)
+pub ruleset answering =
+    (first-ready, answers-lacking, answers-over, answers-short, measured-ready, answers-done, done-kept, measured-kept, needs)
 
 -- ---- reels that all have the same room
 
@@ -219,7 +224,8 @@ whole-names (suc k) (x ∷ s) l h =
     omega (arith, length-take 6 (x ∷ s)))
     (ap (allLong 6) (sym parts) ∙ h)
 
-module _ (from : Origin) (set lengths bytes : List ℕ) (g : Place) (quota : ℕ) (names : List ℕ) (y : Ordered from set lengths bytes g quota names) where
+module _ (from : Origin) (set lengths bytes : List ℕ) (g : Place) (quota : ℕ) (names : List ℕ)
+    (y : Ordered from set lengths bytes g quota names) where
   abbrev count : ℕ
   count = length (inParts 6 names)
 
@@ -229,7 +235,8 @@ module _ (from : Origin) (set lengths bytes : List ℕ) (g : Place) (quota : ℕ
       both (leb 1 count) _
       (λ one r.
       both (leb count 16) (freshNames [] (inParts 6 names))
-      (λ few fresh. k (leb-true _ _ one) (leb-true _ _ few) (whole-names (length names) names (omega arith) (names-long [] (inParts 6 names) fresh))) r) (y .named)
+      (λ few fresh. k (leb-true _ _ one) (leb-true _ _ few)
+      (whole-names (length names) names (omega arith) (names-long [] (inParts 6 names) fresh))) r) (y .named)
 
   some-names : 1 ≤ count
   some-names = named (λ one few whole. one)
@@ -284,13 +291,15 @@ module _ (from : Origin) (set lengths bytes : List ℕ) (g : Place) (quota : ℕ
           ap (layOn (meaningAt (task from set lengths bytes rooms names) g))
           (ap (λ (qs : List ℕ). reelsFrom qs (inParts 6 names)) rooms-are ∙ reels-same count quota (inParts 6 names) refl)
 
-      quota-answers : (o : List ℕ) (a : Answer) (q : List ℕ) → Answers (storedLaid (setLaid (task from set lengths bytes rooms names) g) o) a q
+      quota-answers : (o : List ℕ) (a : Answer) (q : List ℕ)
+          → Answers (storedLaid (setLaid (task from set lengths bytes rooms names) g) o) a q
           → Answers (writeSheet (sheetAt from set lengths bytes g quota names) o) a q
       unfolding writeSheet
       quota-answers o a q m = subst (λ (l : Laid). Answers (storedLaid l o) a q) laid-is m
 
 -- the same, as the code holds it
-module _ (image : Bool) (files counts set lengths bytes : List ℕ) (g : Place) (quota : ℕ) (names : List ℕ) (y : Ordered (originOf image files counts) set lengths bytes g quota names) where
+module _ (image : Bool) (files counts set lengths bytes : List ℕ) (g : Place) (quota : ℕ) (names : List ℕ)
+    (y : Ordered (originOf image files counts) set lengths bytes g quota names) where
   abbrev from : Origin
   from = originOf image files counts
 
@@ -307,9 +316,11 @@ module _ (image : Bool) (files counts set lengths bytes : List ℕ) (g : Place) 
     pub quota-within : n ≤ 16
     quota-within = rooms-within from set lengths bytes g quota names y n e
 
-    module _ (rooms titled labels : List ℕ) (r : rooms ≡ take n (replicate 16 quota)) (t : titled ≡ putAt (replicate 149 0) 47 set) (l : labels ≡ putAt titled 53 names) where
+    module _ (rooms titled labels : List ℕ) (r : rooms ≡ take n (replicate 16 quota))
+        (t : titled ≡ putAt (replicate 149 0) 47 set) (l : labels ≡ putAt titled 53 names) where
       names-whole : length names ≡ 6 * length rooms
-      names-whole = omega (arith, whole from set lengths bytes g quota names y, rooms-long from set lengths bytes g quota names y n e rooms r)
+      names-whole =
+          omega (arith, whole from set lengths bytes g quota names y, rooms-long from set lengths bytes g quota names y n e rooms r)
 
       task-is : taskOf image files counts lengths bytes labels rooms ≡ task from set lengths bytes rooms names
       task-is =
@@ -317,42 +328,52 @@ module _ (image : Bool) (files counts set lengths bytes : List ℕ) (g : Place) 
           task from (set-in set names titled labels (y .six) few-bytes t l i) lengths bytes rooms (names-in set names titled labels (y .six) few-bytes t l (length rooms) names-whole i)
 
       pub parts-writable : Writable (taskOf image files counts lengths bytes labels rooms) g
-      parts-writable = subst (λ (s : Task). Writable s g) (sym task-is) (quota-writable from set lengths bytes g quota names y n e rooms r)
+      parts-writable =
+          subst (λ (s : Task). Writable s g) (sym task-is) (quota-writable from set lengths bytes g quota names y n e rooms r)
 
-      pub parts-answers : (o : List ℕ) (a : Answer) (q : List ℕ) → Answers (storedLaid (setLaid (taskOf image files counts lengths bytes labels rooms) g) o) a q
+      pub parts-answers : (o : List ℕ) (a : Answer) (q : List ℕ)
+          → Answers (storedLaid (setLaid (taskOf image files counts lengths bytes labels rooms) g) o) a q
           → Answers (writeSheet (sheetAt from set lengths bytes g quota names) o) a q
       parts-answers o a q m =
-          quota-answers from set lengths bytes g quota names y n e rooms r o a q (subst (λ (s : Task). Answers (storedLaid (setLaid s g) o) a q) task-is m)
+          quota-answers from set lengths bytes g quota names y n e rooms r o a q
+          (subst (λ (s : Task). Answers (storedLaid (setLaid s g) o) a q) task-is m)
 
 pub ruleset quotas = (set-room, names-room, quota-within, parts-writable, parts-answers, needs)
 
 -- ---- a flat sheet
 
-pub write-refused : (x : Flat) (out : List ℕ) (n : ℕ) (a : Answer) → n ≡ sheetNumber x → (n ≡ 0 → ⊥) → a ≡ refusalOf n → Answers (write x out) a out
+pub write-refused : (x : Flat) (out : List ℕ) (n : ℕ) (a : Answer) → n ≡ sheetNumber x → (n ≡ 0 → ⊥) → a ≡ refusalOf n
+    → Answers (write x out) a out
 unfolding write
 write-refused x out n a e d h =
     let other : sheetNumber x ≡ 0 → ⊥ = λ z. d (e ∙ z) in
     subst (λ (b : Answer). Answers (write x out) b out) (sym (h ∙ ap refusalOf e))
-    (subst (λ (w : Written). Answers w (refusalOf (sheetNumber x)) out) (sym (if-false _ _ _ (ne-eqb (sheetNumber x) 0 other))) (answers-refused (sheetNumber x) out))
+    (subst (λ (w : Written). Answers w (refusalOf (sheetNumber x)) out) (sym (if-false _ _ _ (ne-eqb (sheetNumber x) 0 other)))
+    (answers-refused (sheetNumber x) out))
 
-write-right : (x : Flat) (out : List ℕ) (n : ℕ) (a : Answer) (p : List ℕ) → n ≡ sheetNumber x → n ≡ 0 → Answers (writeSheet (sheetOf x) out) a p → Answers (write x out) a p
+write-right : (x : Flat) (out : List ℕ) (n : ℕ) (a : Answer) (p : List ℕ) → n ≡ sheetNumber x → n ≡ 0
+    → Answers (writeSheet (sheetOf x) out) a p → Answers (write x out) a p
 unfolding write
-write-right x out n a p e z m = subst (λ (w : Written). Answers w a p) (sym (if-true _ _ _ (eq-eqb (sheetNumber x) 0 (sym e ∙ z)))) m
+write-right x out n a p e z m =
+    subst (λ (w : Written). Answers w a p) (sym (if-true _ _ _ (eq-eqb (sheetNumber x) 0 (sym e ∙ z)))) m
 
 -- where the files of a sheet begin
 abbrev first : Place
 first =
     record { nth = 0; first = 0; byte = 0; file = record { first = 0; second = 0; walk = record { format = 0; size = 0; offset = 0; at = 0; left = 0 } }; on = true }
 
-module _ (set files counts lengths bytes : List ℕ) (quota : ℕ) (names : List ℕ) (n : ℕ) (e : n ≡ sheetNumber (flat set files counts lengths bytes quota names)) (z : n ≡ 0)
+module _ (set files counts lengths bytes : List ℕ) (quota : ℕ) (names : List ℕ) (n : ℕ)
+    (e : n ≡ sheetNumber (flat set files counts lengths bytes quota names)) (z : n ≡ 0)
   where
     pub write-ordered : Ordered (originOf false files counts) set lengths bytes first quota names
     write-ordered = sheet-ordered set files counts lengths bytes quota names (sym e ∙ z)
 
-    pub write-legal : (out : List ℕ) (a : Answer) (p : List ℕ) → Answers (writeSheet (sheetAt (originOf false files counts) set lengths bytes first quota names) out) a p
+    pub write-legal : (out : List ℕ) (a : Answer) (p : List ℕ)
+        → Answers (writeSheet (sheetAt (originOf false files counts) set lengths bytes first quota names) out) a p
         → Answers (write (flat set files counts lengths bytes quota names) out) a p
     write-legal out a p m =
-        write-right (flat set files counts lengths bytes quota names) out n a p e z (sheet-answers set files counts lengths bytes quota names (sym e ∙ z) out a p m)
+        write-right (flat set files counts lengths bytes quota names) out n a p e z
+        (sheet-answers set files counts lengths bytes quota names (sym e ∙ z) out a p m)
 
 pub ruleset writes = (write-refused, write-ordered, write-legal, needs)
 
@@ -379,12 +400,15 @@ module _ (s : List ℕ) (quota : ℕ) (names out : List ℕ) (v : Verdict) (e : 
         let other : reelsNumber quota names ≡ 0 → ⊥ = λ y. d (r ∙ y) in
         subst (λ (b : Answer). AnswersAt (rewrite s quota names out) b out) (sym (h ∙ ap refusalOf r))
         (subst (λ (w : Result). AnswersAt w (refusalOf (reelsNumber quota names)) out)
-        (sym (if-true _ _ _ (eq-eqb _ 0 accepted) ∙ if-false _ _ _ (ne-eqb _ 0 other))) (record { said = refl; len = refl; out = refl }))
+        (sym (if-true _ _ _ (eq-eqb _ 0 accepted) ∙ if-false _ _ _ (ne-eqb _ 0 other)))
+        (record { said = refl; len = refl; out = refl }))
 
-    pub rewrite-right : (a : Answer) (p : List ℕ) → n ≡ 0 → Answers (writeSheet (sheetFrom s quota names) out) a p → AnswersAt (rewrite s quota names out) a p
+    pub rewrite-right : (a : Answer) (p : List ℕ) → n ≡ 0 → Answers (writeSheet (sheetFrom s quota names) out) a p
+        → AnswersAt (rewrite s quota names out) a p
     unfolding rewrite placed
     rewrite-right a p y m =
-        subst (λ (w : Result). AnswersAt w a p) (sym (if-true _ _ _ (eq-eqb _ 0 accepted) ∙ if-true _ _ _ (eq-eqb _ 0 (sym r ∙ y))))
+        subst (λ (w : Result). AnswersAt w a p)
+        (sym (if-true _ _ _ (eq-eqb _ 0 accepted) ∙ if-true _ _ _ (eq-eqb _ 0 (sym r ∙ y))))
         (record { said = m .said; len = m .len; out = m .out })
 
     pub reels-zero : n ≡ 0 → reelsNumber quota names ≡ 0

@@ -21,9 +21,11 @@ use Rattle.writer.proofs.Dues.{fill-full, after-full}
 
 -- ---- a pen in an open block
 
-pub penned-on : (lay : Bool) (f b : ℕ) (j : Job) (p : Pen) (o : List ℕ) (d : UnitDue) (next : Sequel) → p .on ≡ true → p .short ≡ false
+pub penned-on : (lay : Bool) (f b : ℕ) (j : Job) (p : Pen) (o : List ℕ) (d : UnitDue) (next : Sequel) → p .on ≡ true
+    → p .short ≡ false
     → penned lay f b j p o d next
-    ≡ outcome lay true (p .at) (p .used) o (inked (p .used) (fillDue f b true (p .used) d) (restOf j p (blocksLeft f b (leftDue f b true (p .used) d)) next))
+    ≡ outcome lay true (p .at) (p .used) o
+    (inked (p .used) (fillDue f b true (p .used) d) (restOf j p (blocksLeft f b (leftDue f b true (p .used) d)) next))
 unfolding penned
 penned-on lay f b j p o d next h s =
     ap (λ (t : Bool). ends lay j p o (fillDue f b t (p .used) d) (blocksLeft f b (leftDue f b t (p .used) d)) next) h
@@ -42,7 +44,8 @@ module _ (f b : ℕ) (j : Job) (p : Pen) (o v : List ℕ) (d e : UnitDue) (next 
       fits-unit true (p .at) (p .used) o v (fillDue f b true (p .used + length v) e) _ (length o)
       (subst (λ (u : PassEnd). EndsWithin u (length o))
       (penned-on true f b j p o d next h s
-      ∙ ap (λ (cs : List ℕ). outcome true true (p .at) (p .used) o (inked (p .used) cs (restOf j p (blocksLeft f b (leftDue f b true (p .used) d)) next))) x) w)
+      ∙ ap (λ (cs : List ℕ). outcome true true (p .at) (p .used) o
+      (inked (p .used) cs (restOf j p (blocksLeft f b (leftDue f b true (p .used) d)) next))) x) w)
       .0
 
   pub penned-unit : (lay : Bool) → (lay ≡ true → p .at + 3 + p .used + length v ≤ length o)
@@ -51,9 +54,12 @@ module _ (f b : ℕ) (j : Job) (p : Pen) (o v : List ℕ) (d e : UnitDue) (next 
   unfolding restOf
   penned-unit lay r y =
       penned-on lay f b j (more p (length v)) (inkAt lay o (p .at + 3 + p .used) v) e next refl refl
-      ∙ outcome-unit lay (p .at) (p .used) o v (fillDue f b true (p .used + length v) e) (restOf j p (blocksLeft f b (leftDue f b true (p .used + length v) e)) next) r
-      ∙ ap (λ (l : Left). outcome lay true (p .at) (p .used) o (inked (p .used) (v ++ fillDue f b true (p .used + length v) e) (restOf j p (blocksLeft f b l) next))) (sym y)
-      ∙ ap (λ (cs : List ℕ). outcome lay true (p .at) (p .used) o (inked (p .used) cs (restOf j p (blocksLeft f b (leftDue f b true (p .used) d)) next))) (sym x)
+      ∙ outcome-unit lay (p .at) (p .used) o v (fillDue f b true (p .used + length v) e)
+      (restOf j p (blocksLeft f b (leftDue f b true (p .used + length v) e)) next) r
+      ∙ ap (λ (l : Left). outcome lay true (p .at) (p .used) o
+      (inked (p .used) (v ++ fillDue f b true (p .used + length v) e) (restOf j p (blocksLeft f b l) next))) (sym y)
+      ∙ ap (λ (cs : List ℕ). outcome lay true (p .at) (p .used) o
+      (inked (p .used) cs (restOf j p (blocksLeft f b (leftDue f b true (p .used) d)) next))) (sym x)
       ∙ sym (penned-on lay f b j p o d next h s)
 
 pub more-sound : (j : Job) (p : Pen) (n : ℕ) → Sound j p → p .on ≡ true → p .used + n ≤ 99999 → Sound j (more p n)
@@ -84,7 +90,8 @@ pub ruleset entering = (enters-on, enters-off, needs)
 
 pub entered-on : (f b : ℕ) (isOn : Bool) (u n : ℕ) → entersOn f b isOn u n ≡ true → (isOn ≡ true) × (enters f b u n ≡ true)
 unfolding entersOn
-entered-on f b isOn u n h = by-test isOn (λ e. (e, sym (if-true _ _ _ e) ∙ h)) (λ e. absurd (false≢true (sym (if-false _ _ _ e) ∙ h)))
+entered-on f b isOn u n h =
+    by-test isOn (λ e. (e, sym (if-true _ _ _ e) ∙ h)) (λ e. absurd (false≢true (sym (if-false _ _ _ e) ∙ h)))
 
 full-on : (f b : ℕ) (isOn : Bool) (u n : ℕ) → entersOn f b isOn u n ≡ false → isOn ≡ true → enters f b u n ≡ false
 unfolding entersOn
@@ -93,7 +100,8 @@ full-on f b isOn u n h e = sym (if-true _ _ _ e) ∙ h
 -- a record that does not enter is due in the next block
 penned-full : (lay : Bool) (f b : ℕ) (j : Job) (p : Pen) (o : List ℕ) (t : ℕ) (x : List ℕ) (xs : List (List ℕ)) (next : Sequel)
     → (p .on ≡ true → enters f b (p .used) (length x) ≡ false) → RoomEach f b (x ∷ xs)
-    → penned lay f b j p o (between (going t x xs)) next ≡ ends lay j p o [] (fill f b 0 t x xs ∷ blocksLeft f b (after f b 0 t x xs)) next
+    → penned lay f b j p o (between (going t x xs)) next
+    ≡ ends lay j p o [] (fill f b 0 t x xs ∷ blocksLeft f b (after f b 0 t x xs)) next
 unfolding penned fillDue leftDue fillOf afterOf
 penned-full lay f b j p o t x xs next h r =
     let none : ifB (p .on) (fill f b (p .used) t x xs) [] ≡ []
@@ -104,14 +112,18 @@ penned-full lay f b j p o t x xs next h r =
     ∙ ap (λ (l : Left). ends lay j p o [] (blocksLeft f b l) next) all
     ∙ ap (λ (bs : List (List ℕ)). ends lay j p o [] bs next) (blocks-going f b t x xs r)
 
-penned-empty : (lay : Bool) (f b : ℕ) (j : Job) (p : Pen) (o : List ℕ) (t : ℕ) (x : List ℕ) (xs : List (List ℕ)) (next : Sequel) → p .on ≡ true → p .used ≡ 0
-    → penned lay f b j p o (between (going t x xs)) next ≡ ends lay j p o (fill f b 0 t x xs) (blocksLeft f b (after f b 0 t x xs)) next
+penned-empty : (lay : Bool) (f b : ℕ) (j : Job) (p : Pen) (o : List ℕ) (t : ℕ) (x : List ℕ) (xs : List (List ℕ)) (next : Sequel)
+    → p .on ≡ true → p .used ≡ 0
+    → penned lay f b j p o (between (going t x xs)) next
+    ≡ ends lay j p o (fill f b 0 t x xs) (blocksLeft f b (after f b 0 t x xs)) next
 unfolding penned fillDue leftDue fillOf afterOf ifB
 penned-empty lay f b j p o t x xs next h e =
-    ap (λ (s : Bool). ends lay j p o (ifB s (fill f b (p .used) t x xs) []) (blocksLeft f b (ifB s (after f b (p .used) t x xs) (going t x xs))) next) h
+    ap (λ (s : Bool). ends lay j p o (ifB s (fill f b (p .used) t x xs) [])
+    (blocksLeft f b (ifB s (after f b (p .used) t x xs) (going t x xs))) next) h
     ∙ ap (λ (u : ℕ). ends lay j p o (fill f b u t x xs) (blocksLeft f b (after f b u t x xs)) next) e
 
-module _ (lay : Bool) (f b : ℕ) (j : Job) (n : ℕ) (p : Pen) (o : List ℕ) (w : Wanting lay f b j n p o) (t : Bool) (e : t ≡ entersOn f b (p .on) (p .used) n) where
+module _ (lay : Bool) (f b : ℕ) (j : Job) (n : ℕ) (p : Pen) (o : List ℕ) (w : Wanting lay f b j n p o) (t : Bool)
+    (e : t ≡ entersOn f b (p .on) (p .used) n) where
   pub blocked-here : t ≡ true → Blocked lay f b j n p o o p
   blocked-here h =
       let both = entered-on f b (p .on) (p .used) n (sym e ∙ h) in
@@ -145,7 +157,8 @@ module _ (lay : Bool) (f b : ℕ) (j : Job) (n : ℕ) (p : Pen) (o : List ℕ) (
                 next = a .next;
                 fits =
                     subst (λ (u : PassEnd). EndsWithin u (length o))
-                    (penned-full true f b j p o (a .begun) (a .first) (a .later) (a .next) (full (a .first) (a .size)) (enough (a .first) (a .size), a .room)) (a .fits);
+                    (penned-full true f b j p o (a .begun) (a .first) (a .later) (a .next) (full (a .first) (a .size))
+                    (enough (a .first) (a .size), a .room)) (a .fits);
               };
         }
 

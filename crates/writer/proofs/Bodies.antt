@@ -42,7 +42,8 @@ split-length : (bytes : List ℕ) (c : Cursor) (n : ℕ) → SplitHere bytes c n
 unfolding splitBytes
 split-length bytes c n h = split-long bytes (walkOf c) n (h .behind) (Split n (h .behind)) (h .is) refl
 
-module _ (lay : Bool) (f b : ℕ) (j : Job) (bytes : List ℕ) (c : Cursor) (r : Found) (p : Pen) (o : List ℕ) (k : Takable lay f b j bytes c r p o) where
+module _ (lay : Bool) (f b : ℕ) (j : Job) (bytes : List ℕ) (c : Cursor) (r : Found) (p : Pen) (o : List ℕ)
+    (k : Takable lay f b j bytes c r p o) where
   pub take-split : r .kind ≡ 2 → Splittable lay f b j bytes c (r .len) p o
   take-split e =
       record {
@@ -54,7 +55,8 @@ module _ (lay : Bool) (f b : ℕ) (j : Job) (bytes : List ℕ) (c : Cursor) (r :
         ahead = λ l. subst (λ (x : List ℕ). RoomBehind f b j x p o) (found-split bytes c r e) (k .ahead l);
       }
 
-  pub took-split : (q : List ℕ) (v : Pen) → r .kind ≡ 2 → Recorded lay f b j (splitBytes bytes c) p o q v → Recorded lay f b j (foundBytes bytes c r) p o q v
+  pub took-split : (q : List ℕ) (v : Pen) → r .kind ≡ 2 → Recorded lay f b j (splitBytes bytes c) p o q v
+      → Recorded lay f b j (foundBytes bytes c r) p o q v
   took-split q v e x = subst (λ (s : List ℕ). Recorded lay f b j s p o q v) (sym (found-split bytes c r e)) x
 
   take-whole : (r .kind ≡ 2 → ⊥) → Recordable lay f b j bytes (r .from) (r .len) p o
@@ -69,7 +71,8 @@ module _ (lay : Bool) (f b : ℕ) (j : Job) (bytes : List ℕ) (c : Cursor) (r :
       }
 
   module _ (e : r .kind ≡ 2 → ⊥) where
-    took-whole : (q : List ℕ) (v : Pen) → Recorded lay f b j (part (r .from) (r .len) bytes) p o q v → Recorded lay f b j (foundBytes bytes c r) p o q v
+    took-whole : (q : List ℕ) (v : Pen) → Recorded lay f b j (part (r .from) (r .len) bytes) p o q v
+        → Recorded lay f b j (foundBytes bytes c r) p o q v
     took-whole q v x = subst (λ (s : List ℕ). Recorded lay f b j s p o q v) (sym (found-whole bytes c r e)) x
 
     pub take-somewhere : Somewhere lay f b (r .len) p o
@@ -89,13 +92,15 @@ module _ (lay : Bool) (f b : ℕ) (j : Job) (bytes : List ℕ) (c : Cursor) (r :
         pub took-in-kept : t .ok ≡ true → Wholed lay f bytes (r .from) (r .len) (t .pen) q z v → length z ≡ length o
         took-in-kept h x = record-kept lay f b j bytes (r .from) (r .len) p o (take-whole e) q t y z v h x
 
-        pub took-slow : t .ok ≡ false → Recorded lay f b j (part (r .from) (r .len) bytes) p q z v → Recorded lay f b j (foundBytes bytes c r) p o z v
+        pub took-slow : t .ok ≡ false → Recorded lay f b j (part (r .from) (r .len) bytes) p q z v
+            → Recorded lay f b j (foundBytes bytes c r) p o z v
         took-slow h x = took-whole z v (record-slow lay f b j bytes (r .from) (r .len) p o (take-whole e) q t y z v h x)
 
         pub took-slow-kept : Recorded lay f b j (part (r .from) (r .len) bytes) p q z v → length z ≡ length o
         took-slow-kept x = x .kept ∙ y .kept
 
-pub took-kept : (lay : Bool) (f b : ℕ) (j : Job) (x : List ℕ) (p : Pen) (o q : List ℕ) (v : Pen) → Recorded lay f b j x p o q v → length q ≡ length o
+pub took-kept : (lay : Bool) (f b : ℕ) (j : Job) (x : List ℕ) (p : Pen) (o q : List ℕ) (v : Pen) → Recorded lay f b j x p o q v
+    → length q ≡ length o
 took-kept lay f b j x p o q v y = y .kept
 
 pub ruleset taking = (take-split, took-split, took-kept, needs)
@@ -103,7 +108,8 @@ pub ruleset taking = (take-split, took-split, took-kept, needs)
 -- ---- all records
 
 -- from the beginning of a file to a cursor in it
-pub record Writing (lay : Bool) (f b : ℕ) (j : Job) (lengths bytes : List ℕ) (first : Cursor) (p : Pen) (o q : List ℕ) (r : Pen) (c : Cursor) : Type 0 where
+pub record Writing (lay : Bool) (f b : ℕ) (j : Job) (lengths bytes : List ℕ) (first : Cursor) (p : Pen) (o q : List ℕ) (r : Pen)
+    (c : Cursor) : Type 0 where
   pub bodied : Bodied lay f b j lengths bytes c r q
   pub kept : length q ≡ length o
   pub untouched : lay ≡ false → q ≡ o
@@ -111,11 +117,14 @@ pub record Writing (lay : Bool) (f b : ℕ) (j : Job) (lengths bytes : List ℕ)
   pub same : (next : Sequel) → penned lay f b j r q (between (startOf (recordsOf lengths bytes c))) next
       ≡ penned lay f b j p o (between (startOf (recordsOf lengths bytes first))) next
 
-pub writing-none : (lay : Bool) (f b : ℕ) (j : Job) (lengths bytes : List ℕ) (first : Cursor) (p : Pen) (o : List ℕ) → Bodied lay f b j lengths bytes first p o
+pub writing-none : (lay : Bool) (f b : ℕ) (j : Job) (lengths bytes : List ℕ) (first : Cursor) (p : Pen) (o : List ℕ)
+    → Bodied lay f b j lengths bytes first p o
     → Writing lay f b j lengths bytes first p o o p first
-writing-none lay f b j lengths bytes first p o k = record { bodied = k; kept = refl; untouched = λ _. refl; end = refl; same = λ next. refl }
+writing-none lay f b j lengths bytes first p o k =
+    record { bodied = k; kept = refl; untouched = λ _. refl; end = refl; same = λ next. refl }
 
-module _ (lay : Bool) (f b : ℕ) (j : Job) (lengths bytes : List ℕ) (first : Cursor) (p : Pen) (o q : List ℕ) (r : Pen) (c : Cursor)
+module _ (lay : Bool) (f b : ℕ) (j : Job) (lengths bytes : List ℕ) (first : Cursor) (p : Pen) (o q : List ℕ) (r : Pen)
+    (c : Cursor)
     (w : Writing lay f b j lengths bytes first p o q r c) where
   pub writing-kept : length q ≡ length o
   writing-kept = w .kept
@@ -127,7 +136,8 @@ module _ (lay : Bool) (f b : ℕ) (j : Job) (lengths bytes : List ℕ) (first : 
     pub writing-stop : x .kind ≡ 0 → stopOf c ≡ endAt lengths bytes c
     writing-stop e = y .over e
 
-    pub writing-all : (n : ℕ) → x .kind ≡ 0 → n ≡ endAt lengths bytes c → BodyPut lay f b j lengths bytes first p o q (record { pen = r; end = n })
+    pub writing-all : (n : ℕ) → x .kind ≡ 0 → n ≡ endAt lengths bytes c
+        → BodyPut lay f b j lengths bytes first p o q (record { pen = r; end = n })
     unfolding startOf
     writing-all n e m =
         record {
@@ -135,7 +145,9 @@ module _ (lay : Bool) (f b : ℕ) (j : Job) (lengths bytes : List ℕ) (first : 
           kept = w .kept;
           untouched = w .untouched;
           end = λ _. m ∙ w .end;
-          same = λ next. ap (λ (l : List (List ℕ)). penned lay f b j r q (between (startOf l)) next) (sym (y .none e)) ∙ w .same next;
+          same =
+              λ next. ap (λ (l : List (List ℕ)). penned lay f b j r q (between (startOf l)) next) (sym (y .none e))
+              ∙ w .same next;
         }
 
     module _ (e : x .kind ≡ 0 → ⊥) where
@@ -182,7 +194,8 @@ module _ (lay : Bool) (f b : ℕ) (j : Job) (lengths bytes : List ℕ) (first : 
                   later = xs;
                   next = a .next;
                   room = room .1;
-                  fits = subst (λ (d : Left). EndsWithin (penned true f b j r q (between d) (a .next)) (length q)) starts (a .fits);
+                  fits =
+                      subst (λ (d : Left). EndsWithin (penned true f b j r q (between d) (a .next)) (length q)) starts (a .fits);
                 };
           }
 
@@ -193,7 +206,9 @@ module _ (lay : Bool) (f b : ℕ) (j : Job) (lengths bytes : List ℕ) (first : 
         pub writing-put-kept : length z ≡ length o
         writing-put-kept = u .kept ∙ w .kept
 
-        step : (next : Sequel) → penned lay f b j v z (between (startOf xs)) next ≡ penned lay f b j r q (between (startOf (recordsOf lengths bytes c))) next
+        step : (next : Sequel)
+            → penned lay f b j v z (between (startOf xs)) next
+            ≡ penned lay f b j r q (between (startOf (recordsOf lengths bytes c))) next
         step next = u .same xs next (room .1) ∙ ap (λ (d : Left). penned lay f b j r q (between d) next) (sym starts)
 
         pub writing-more : (d : Cursor) → v .short ≡ false → d ≡ later → Writing lay f b j lengths bytes first p o z v d

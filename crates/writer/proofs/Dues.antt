@@ -23,7 +23,8 @@ unfolding fill
 fill-full f b u t x [] e = if-false _ _ _ e
 fill-full f b u t x (y ∷ ys) e = if-false _ _ _ e
 
-pub after-full : (f b u t : ℕ) (x : List ℕ) (xs : List (List ℕ)) → enters f b u (length x) ≡ false → after f b u t x xs ≡ going t x xs
+pub after-full : (f b u t : ℕ) (x : List ℕ) (xs : List (List ℕ)) → enters f b u (length x) ≡ false
+    → after f b u t x xs ≡ going t x xs
 unfolding after
 after-full f b u t x [] e = if-false _ _ _ e
 after-full f b u t x (y ∷ ys) e = if-false _ _ _ e
@@ -37,7 +38,9 @@ module _ (f b u t : ℕ) (x : List ℕ) (e : enters f b u (length x) ≡ true) w
   behind-unit : u + length (unitIn f b u t x) ≡ u + wordOf f + k
   behind-unit = omega (arith, length-unit f b u t x e)
 
-  pub enter-fill : (xs : List (List ℕ)) → fillDue f b true u (between (going t x xs)) ≡ controlWord f (indicatorOf t k (length x)) k ++ fillDue f b true (u + wordOf f) (within k x xs)
+  pub enter-fill : (xs : List (List ℕ))
+      → fillDue f b true u (between (going t x xs)) ≡ controlWord f (indicatorOf t k (length x)) k ++
+      fillDue f b true (u + wordOf f) (within k x xs)
   unfolding fillDue fillOf fill startOf unitIn ifB
   enter-fill [] =
       if-true _ _ _ e
@@ -58,7 +61,8 @@ module _ (f b u t : ℕ) (x : List ℕ) (e : enters f b u (length x) ≡ true) w
       ∙ append-assoc (controlWord f (indicatorOf t k (length x)) k) (take k x) []
       ∙ ap (λ (l : List ℕ). controlWord f (indicatorOf t k (length x)) k ++ (take k x ++ l)) (sym (if-false _ _ _ h)))
 
-  pub enter-left : (xs : List (List ℕ)) → leftDue f b true u (between (going t x xs)) ≡ leftDue f b true (u + wordOf f) (within k x xs)
+  pub enter-left : (xs : List (List ℕ))
+      → leftDue f b true u (between (going t x xs)) ≡ leftDue f b true (u + wordOf f) (within k x xs)
   unfolding leftDue afterOf after startOf ifB
   enter-left [] = if-true _ _ _ e
   enter-left (y ∷ ys) =
@@ -85,9 +89,11 @@ module _ (f b : ℕ) (isOn : Bool) (u k m : ℕ) (x : List ℕ) (xs : List (List
   some-fill =
       let sum : k ≡ m + (k - m) = omega arith in
       let place : u + k ≡ u + m + (k - m) = omega arith in
-      ap (λ (l : List ℕ). l ++ ifB (eqb k (length x)) (fillOf f b (u + k) (startOf xs)) []) (ap (λ (n : ℕ). take n x) sum ∙ take-add m (k - m) x)
+      ap (λ (l : List ℕ). l ++ ifB (eqb k (length x)) (fillOf f b (u + k) (startOf xs)) [])
+      (ap (λ (n : ℕ). take n x) sum ∙ take-add m (k - m) x)
       ∙ ap (λ (t : Bool). take m x ++ take (k - m) (drop m x) ++ ifB t (fillOf f b (u + k) (startOf xs)) []) same-end
-      ∙ ap (λ (n : ℕ). take m x ++ take (k - m) (drop m x) ++ ifB (eqb (k - m) (length (drop m x))) (fillOf f b n (startOf xs)) []) place
+      ∙ ap (λ (n : ℕ). take m x ++ take (k - m) (drop m x) ++
+      ifB (eqb (k - m) (length (drop m x))) (fillOf f b n (startOf xs)) []) place
       ∙ append-assoc (take m x) (take (k - m) (drop m x)) _
 
   pub some-left : leftDue f b isOn u (within k x xs) ≡ leftDue f b isOn (u + m) (within (k - m) (drop m x) xs)
@@ -103,11 +109,13 @@ module _ (f b : ℕ) (isOn : Bool) (u k m : ℕ) (x : List ℕ) (xs : List (List
 -- ---- the end of a unit
 
 -- a record that goes on closes its block
-pub broken-fill : (f b : ℕ) (isOn : Bool) (u : ℕ) (x : List ℕ) (xs : List (List ℕ)) → (length x ≡ 0 → ⊥) → fillDue f b isOn u (within 0 x xs) ≡ []
+pub broken-fill : (f b : ℕ) (isOn : Bool) (u : ℕ) (x : List ℕ) (xs : List (List ℕ)) → (length x ≡ 0 → ⊥)
+    → fillDue f b isOn u (within 0 x xs) ≡ []
 unfolding fillDue
 broken-fill f b isOn u x xs d = if-false _ _ _ (ne-eqb 0 (length x) (λ e. d (sym e)))
 
-pub broken-left : (f b : ℕ) (isOn : Bool) (u : ℕ) (x : List ℕ) (xs : List (List ℕ)) → (length x ≡ 0 → ⊥) → leftDue f b isOn u (within 0 x xs) ≡ going 1 x xs
+pub broken-left : (f b : ℕ) (isOn : Bool) (u : ℕ) (x : List ℕ) (xs : List (List ℕ)) → (length x ≡ 0 → ⊥)
+    → leftDue f b isOn u (within 0 x xs) ≡ going 1 x xs
 unfolding leftDue
 broken-left f b isOn u x xs d = if-false _ _ _ (ne-eqb 0 (length x) (λ e. d (sym e)))
 

@@ -38,22 +38,27 @@ use Rattle.writer.proofs.Blocks.{penned-short}
 
 -- ---- between blocks, the bytes of an open block do not count
 
-outcome-shut : (lay : Bool) (at u : ℕ) (o : List ℕ) (l : Laid) → outcome lay false at u o (inked u [] l) ≡ outcome lay false at 0 o (inked 0 [] l)
+outcome-shut : (lay : Bool) (at u : ℕ) (o : List ℕ) (l : Laid)
+    → outcome lay false at u o (inked u [] l) ≡ outcome lay false at 0 o (inked 0 [] l)
 unfolding outcome inked inkedAt behind ifB
 outcome-shut lay at u o (laid xs) = refl
 outcome-shut lay at u o short = refl
 
-laid-given : (lay : Bool) (p : Pen) (o : List ℕ) (l : Laid) → p .short ≡ false → laidFrom lay p o l ≡ outcome lay false (p .at) 0 o (inked 0 [] l)
+laid-given : (lay : Bool) (p : Pen) (o : List ℕ) (l : Laid) → p .short ≡ false
+    → laidFrom lay p o l ≡ outcome lay false (p .at) 0 o (inked 0 [] l)
 unfolding laidFrom
 laid-given lay p o l e = ap (outcome lay false (p .at) 0 o) (if-false _ _ _ e)
 
-pub laid-short : (lay : Bool) (p : Pen) (o : List ℕ) (l : Laid) → p .short ≡ true → laidFrom lay p o l ≡ record { out = []; end = 0; short = true }
+pub laid-short : (lay : Bool) (p : Pen) (o : List ℕ) (l : Laid) → p .short ≡ true
+    → laidFrom lay p o l ≡ record { out = []; end = 0; short = true }
 unfolding laidFrom outcome
 laid-short lay p o l e = ap (outcome lay false (p .at) 0 o) (if-true _ _ _ e)
 
 -- items are laid between files
-pub laid-items : (lay : Bool) (p r : Pen) (o q : List ℕ) (ys : List Item) (l : Laid) (n : ℕ) → p .short ≡ false → r .short ≡ false → r .at ≡ p .at + n
-    → length (encode ys) ≡ n → q ≡ inkAt lay o (p .at) (encode ys) → (lay ≡ true → p .at + n ≤ length o) → laidFrom lay r q l ≡ laidFrom lay p o (put ys l)
+pub laid-items : (lay : Bool) (p r : Pen) (o q : List ℕ) (ys : List Item) (l : Laid) (n : ℕ) → p .short ≡ false → r .short ≡ false
+    → r .at ≡ p .at + n
+    → length (encode ys) ≡ n → q ≡ inkAt lay o (p .at) (encode ys) → (lay ≡ true → p .at + n ≤ length o)
+    → laidFrom lay r q l ≡ laidFrom lay p o (put ys l)
 laid-items lay p r o q ys l n s t e long w room =
     laid-given lay r q l t
     ∙ ap (λ (k : ℕ). outcome lay false k 0 q (inked 0 [] l)) (e ∙ ap (λ (k : ℕ). p .at + k) (sym long))
@@ -62,7 +67,8 @@ laid-items lay p r o q ys l n s t e long w room =
     ∙ sym (laid-given lay p o (put ys l) s)
 
 -- items behind an open block have room
-fits-tail : (at u : ℕ) (o : List ℕ) (ys : List Item) (l : Laid) (size : ℕ) → EndsWithin (outcome true true at u o (inked u [] (put ys l))) size
+fits-tail : (at u : ℕ) (o : List ℕ) (ys : List Item) (l : Laid) (size : ℕ)
+    → EndsWithin (outcome true true at u o (inked u [] (put ys l))) size
     → at + 3 + u + length (encode ys) ≤ size
 unfolding outcome inked behind ifB put
 fits-tail at u o ys short size w = absurd (false≢true (sym (w .given)))
@@ -72,7 +78,8 @@ fits-tail at u o ys (laid xs) size w =
     omega arith
 
 -- and have room
-pub laid-room : (p : Pen) (o : List ℕ) (ys : List Item) (l : Laid) (n : ℕ) → p .short ≡ false → length (encode ys) ≡ n → EndsWithin (laidFrom true p o (put ys l)) (length o)
+pub laid-room : (p : Pen) (o : List ℕ) (ys : List Item) (l : Laid) (n : ℕ) → p .short ≡ false → length (encode ys) ≡ n
+    → EndsWithin (laidFrom true p o (put ys l)) (length o)
     → p .at + n ≤ length o
 laid-room p o ys l n s long f =
     let r = fits-items true (p .at) 0 o ys l (length o) (subst (λ (w : PassEnd). EndsWithin w (length o)) (laid-given true p o (put ys l) s) f) in
@@ -80,7 +87,8 @@ laid-room p o ys l n s long f =
 
 -- ---- the numbers of an entry, as the code reads them
 
-pub block-length-said : (e f : List ℕ) (x : Number) (n : ℕ) → f ≡ part 36 5 e → x ≡ numberIn f → x ≡ Value n → n ≡ blockLengthFrom e
+pub block-length-said : (e f : List ℕ) (x : Number) (n : ℕ) → f ≡ part 36 5 e → x ≡ numberIn f → x ≡ Value n
+    → n ≡ blockLengthFrom e
 unfolding blockLengthFrom valueOf
 block-length-said e f x n h k v = ap valueOf (sym v ∙ k ∙ ap numberIn h)
 
@@ -90,14 +98,18 @@ block-length-unsaid e f x h k v = ap valueOf (sym v ∙ k ∙ ap numberIn h)
 
 pub ruleset entries = (block-length-said, block-length-unsaid, needs)
 
-module _ (lay : Bool) (f b : ℕ) (e : List ℕ) (j : Job) (lengths bytes : List ℕ) (c : Cursor) (p : Pen) (o : List ℕ) (h : f ≡ formatFrom e) (k : b ≡ blockLengthFrom e) where
+module _ (lay : Bool) (f b : ℕ) (e : List ℕ) (j : Job) (lengths bytes : List ℕ) (c : Cursor) (p : Pen) (o : List ℕ)
+    (h : f ≡ formatFrom e) (k : b ≡ blockLengthFrom e) where
   bodied-of : Bodied lay (formatFrom e) (blockLengthFrom e) j lengths bytes c p o → Bodied lay f b j lengths bytes c p o
   bodied-of y =
-      subst (λ (g : ℕ). Bodied lay g b j lengths bytes c p o) (sym h) (subst (λ (g : ℕ). Bodied lay (formatFrom e) g j lengths bytes c p o) (sym k) y)
+      subst (λ (g : ℕ). Bodied lay g b j lengths bytes c p o) (sym h)
+      (subst (λ (g : ℕ). Bodied lay (formatFrom e) g j lengths bytes c p o) (sym k) y)
 
-  put-of : (q : List ℕ) (r : Body) → BodyPut lay f b j lengths bytes c p o q r → BodyPut lay (formatFrom e) (blockLengthFrom e) j lengths bytes c p o q r
+  put-of : (q : List ℕ) (r : Body) → BodyPut lay f b j lengths bytes c p o q r
+      → BodyPut lay (formatFrom e) (blockLengthFrom e) j lengths bytes c p o q r
   put-of q r y =
-      subst (λ (g : ℕ). BodyPut lay g (blockLengthFrom e) j lengths bytes c p o q r) h (subst (λ (g : ℕ). BodyPut lay f g j lengths bytes c p o q r) k y)
+      subst (λ (g : ℕ). BodyPut lay g (blockLengthFrom e) j lengths bytes c p o q r) h
+      (subst (λ (g : ℕ). BodyPut lay f g j lengths bytes c p o q r) k y)
 
 -- ---- the header labels
 
@@ -120,10 +132,12 @@ module _ (lay : Bool) (set e : List ℕ) (sequence : ℕ) (p : Pen) (o : List �
   pub begins-measured : lay ≡ false → Begins lay set e sequence p o o (begun p)
   begins-measured l = begins o (sym (ink-none lay o (p .at) (encode (headers set e 1 sequence)) l))
 
-pub begins-laid : (lay : Bool) (labels : List ℕ) (p : Pen) (o q : List ℕ) → Beginnable lay p (length o) → lay ≡ true → Puts o (p .at) (encode (pairOf HDR1 HDR2 labels 1 0)) q
+pub begins-laid : (lay : Bool) (labels : List ℕ) (p : Pen) (o q : List ℕ) → Beginnable lay p (length o) → lay ≡ true
+    → Puts o (p .at) (encode (pairOf HDR1 HDR2 labels 1 0)) q
     → Begins lay (setIn labels) (entryIn labels) (sequenceIn labels) p o q (begun p)
 unfolding headers
-begins-laid lay labels p o q y l w = begins lay (setIn labels) (entryIn labels) (sequenceIn labels) p o y q (ink-puts lay o (p .at) _ q l w)
+begins-laid lay labels p o q y l w =
+    begins lay (setIn labels) (entryIn labels) (sequenceIn labels) p o y q (ink-puts lay o (p .at) _ q l w)
 
 pub ruleset beginning = (begin-room, begin-fits, begins-measured, begins-laid, puts-kept, needs)
 
@@ -135,7 +149,8 @@ behind-small true at u = omega arith
 behind-small false at u = omega arith
 
 abbrev closedEnd : Pen → Pen
-closedEnd c = record { at = c .at + 172; used = 0; room = c .room; next = c .next; section = c .section; count = c .count; on = false; short = false }
+closedEnd c =
+    record { at = c .at + 172; used = 0; room = c .room; next = c .next; section = c .section; count = c .count; on = false; short = false }
 
 module _ (lay : Bool) (set e : List ℕ) (sequence : ℕ) (p : Pen) (o : List ℕ) (y : Endable lay p (length o)) where
   module _ (q : List ℕ) (c : Pen) (x : Closes lay p o q c) where
@@ -143,19 +158,23 @@ module _ (lay : Bool) (set e : List ℕ) (sequence : ℕ) (p : Pen) (o : List �
     end-room l = let r = y .room l in omega (arith, x .kept, x .place)
 
     end-fits : FitsIn w64 (c .at + 172)
-    end-fits = record { fits = omega (arith, x .place, y .closable .place, y .closable .used, behind-small (p .on) (p .at) (p .used)) }
+    end-fits =
+        record { fits = omega (arith, x .place, y .closable .place, y .closable .used, behind-small (p .on) (p .at) (p .used)) }
 
     trailer-room : lay ≡ true → c .at + length (encode (fileEnd set e (c .section) sequence (c .count))) ≤ length q
     trailer-room l = let r = end-room l in omega (arith, length-file-end set e (c .section) sequence (c .count))
 
     module _ (z : List ℕ) (h : z ≡ inkAt lay q (c .at) (encode (fileEnd set e (c .section) sequence (c .count)))) where
       end-kept : length z ≡ length o
-      end-kept = ap length h ∙ ink-length lay q (c .at) (encode (fileEnd set e (c .section) sequence (c .count))) trailer-room ∙ x .kept
+      end-kept =
+          ap length h ∙ ink-length lay q (c .at) (encode (fileEnd set e (c .section) sequence (c .count))) trailer-room ∙ x .kept
 
       -- behind the last record the open block is only to be closed, and then the file ends
       finished-end : (f b : ℕ) (j : Job) (next : Sequel) → p .short ≡ false
           → penned lay f b j p o (between finished) next
-          ≡ outcome lay false (c .at) (c .used) q (inked (c .used) [] (put (fileEnd (j .set) (j .entry) (c .section) (j .sequence) (c .count)) (next (c .room) (reelsAt (j .rooms) (j .names) (c .next)))))
+          ≡ outcome lay false (c .at) (c .used) q
+          (inked (c .used) [] (put (fileEnd (j .set) (j .entry) (c .section) (j .sequence) (c .count))
+          (next (c .room) (reelsAt (j .rooms) (j .names) (c .next)))))
       unfolding penned fillDue leftDue fillOf afterOf blocksLeft blocksF weight restOf rest
       finished-end f b j next s =
           ap (λ (cs : List ℕ). ends lay j p o cs (blocksLeft f b (ifB (p .on) finished finished)) next) (if-same (p .on) [])
@@ -181,7 +200,8 @@ module _ (lay : Bool) (set e : List ℕ) (sequence : ℕ) (p : Pen) (o : List �
                   on = λ w. absurd (false≢true w);
                 };
             kept = end-kept;
-            untouched = λ l. h ∙ ink-none lay q (c .at) (encode (fileEnd set e (c .section) sequence (c .count))) l ∙ x .untouched l;
+            untouched =
+                λ l. h ∙ ink-none lay q (c .at) (encode (fileEnd set e (c .section) sequence (c .count))) l ∙ x .untouched l;
             shut = refl;
             given = refl;
             same =
@@ -227,17 +247,20 @@ module _ (lay : Bool) (labels : List ℕ) (x : Body) (o q z : List ℕ) (c : Pen
       → Puts q (c .at) (encode (mark ∷ pairOf EOF1 EOF2 labels (c .section) (c .count))) z
       → Tailed lay (setIn labels) (entryIn labels) (sequenceIn labels) x o z (record { pen = closedEnd c; end = x .end })
   unfolding fileEnd
-  tailed-laid y s k l w = tailed-by lay (setIn labels) (entryIn labels) (sequenceIn labels) x o y s q c k z (ink-puts lay q (c .at) _ z l w)
+  tailed-laid y s k l w =
+      tailed-by lay (setIn labels) (entryIn labels) (sequenceIn labels) x o y s q c k z (ink-puts lay q (c .at) _ z l w)
 
   pub tail-all-kept : (bs : List ℕ) → Closes lay (x .pen) o q c → Puts q (c .at) bs z → length z ≡ length o
   tail-all-kept bs k w = w .kept ∙ k .kept
 
-pub ruleset tails = (tail-short, tail-closable, tail-kept, tail-room, tail-fits, tailed-measured, tailed-laid, tail-all-kept, needs)
+pub ruleset tails =
+    (tail-short, tail-closable, tail-kept, tail-room, tail-fits, tailed-measured, tailed-laid, tail-all-kept, needs)
 
 -- ---- the whole file
 
 -- behind the last record, all that ends the file has room
-ends-room : (j : Job) (p : Pen) (o : List ℕ) (next : Sequel) → p .short ≡ false → EndsWithin (ends true j p o [] [] next) (length o)
+ends-room : (j : Job) (p : Pen) (o : List ℕ) (next : Sequel) → p .short ≡ false
+    → EndsWithin (ends true j p o [] [] next) (length o)
     → behind (p .on) (p .at) (p .used) + 172 ≤ length o
 unfolding restOf rest behind ifB
 ends-room j p o next s k =
@@ -252,7 +275,8 @@ ends-room j p o next s k =
     let r = fits-items true (p .at) (p .used) o end l (length o) (subst (λ (w : PassEnd). EndsWithin w (length o)) (ends-given true j p o [] [] next false s t) k) in
     omega (arith, r .0, if-false (p .on) (p .at + 3 + p .used) (p .at) t))
 
-module _ (lay : Bool) (j : Job) (lengths bytes : List ℕ) (c : Cursor) (p : Pen) (o : List ℕ) (y : FileReady lay j lengths bytes c p o) where
+module _ (lay : Bool) (j : Job) (lengths bytes : List ℕ) (c : Cursor) (p : Pen) (o : List ℕ)
+    (y : FileReady lay j lengths bytes c p o) where
   abbrev f : ℕ
   f = formatFrom (j .entry)
 
@@ -263,7 +287,8 @@ module _ (lay : Bool) (j : Job) (lengths bytes : List ℕ) (c : Cursor) (p : Pen
   xs = recordsOf lengths bytes c
 
   abbrev blocks : Sequel → Laid
-  blocks next = rest (j .set) (j .entry) (j .sequence) 1 0 (p .room) (reelsAt (j .rooms) (j .names) (p .next)) (blocksOf f b xs) next
+  blocks next =
+      rest (j .set) (j .entry) (j .sequence) 1 0 (p .room) (reelsAt (j .rooms) (j .names) (p .next)) (blocksOf f b xs) next
 
   pub file-beginnable : Beginnable lay p (length o)
   unfolding filedFrom fileLaid
@@ -273,11 +298,13 @@ module _ (lay : Bool) (j : Job) (lengths bytes : List ℕ) (c : Cursor) (p : Pen
         room =
             λ l.
             let a = y .ahead l in
-            laid-room p o (headers (j .set) (j .entry) 1 (j .sequence)) (blocks (a .next)) 169 (y .given) (length-headers (j .set) (j .entry) 1 (j .sequence)) (a .fits);
+            laid-room p o (headers (j .set) (j .entry) 1 (j .sequence)) (blocks (a .next)) 169 (y .given)
+            (length-headers (j .set) (j .entry) 1 (j .sequence)) (a .fits);
       }
 
   module _ (q : List ℕ) (h : Pen) (z : Begins lay (j .set) (j .entry) (j .sequence) p o q h) where
-    penned-start : (next : Sequel) → penned lay f b j (begun p) q (between (startOf xs)) next ≡ laidFrom lay (begun p) q (blocks next)
+    penned-start : (next : Sequel)
+        → penned lay f b j (begun p) q (between (startOf xs)) next ≡ laidFrom lay (begun p) q (blocks next)
     unfolding penned fillDue leftDue blocksOf restOf ifB
     penned-start next =
         ends-given lay j (begun p) q [] (blocksLeft f b (startOf xs)) next false refl refl
@@ -364,7 +391,8 @@ module _ (lay : Bool) (j : Job) (lengths bytes : List ℕ) (c : Cursor) (p : Pen
           = subst (EndsWithin (penned true f b j (x .pen) u (between finished) (a .next))) (sym body-kept) (subst (λ (v : PassEnd). EndsWithin v (length o)) (sym e) (a .fits)) in
           let d : ends true j (x .pen) u [] [] (a .next) ≡ penned true f b j (x .pen) u (between finished) (a .next)
           = sym
-          (ap (λ (cs : List ℕ). ends true j (x .pen) u cs (blocksLeft f b (ifB (x .pen .on) finished finished)) (a .next)) (if-same (x .pen .on) [])
+          (ap (λ (cs : List ℕ). ends true j (x .pen) u cs (blocksLeft f b (ifB (x .pen .on) finished finished)) (a .next))
+          (if-same (x .pen .on) [])
           ∙ ap (λ (k : Left). ends true j (x .pen) u [] (blocksLeft f b k) (a .next)) (if-same (x .pen .on) finished)) in
           ends-room j (x .pen) u (a .next) s (subst (λ (v : PassEnd). EndsWithin v (length u)) (sym d) g)
 
@@ -398,7 +426,9 @@ module _ (lay : Bool) (j : Job) (lengths bytes : List ℕ) (c : Cursor) (p : Pen
             record {
               sound = λ _. d .sound (j .rooms) (j .names) (w .sound) (y .few);
               kept = all-kept;
-              untouched = λ l. d .untouched l ∙ w .untouched l ∙ z .laid ∙ ink-none lay o (p .at) (encode (headers (j .set) (j .entry) 1 (j .sequence))) l;
+              untouched =
+                  λ l. d .untouched l ∙ w .untouched l ∙ z .laid
+                  ∙ ink-none lay o (p .at) (encode (headers (j .set) (j .entry) 1 (j .sequence))) l;
               end = λ _. t .end ∙ w .end s;
               same = λ next. d .same f b (j .rooms) (j .names) next s ∙ body-same next;
             }
@@ -411,7 +441,9 @@ module _ (lay : Bool) (j : Job) (lengths bytes : List ℕ) (c : Cursor) (p : Pen
             record {
               sound = λ e. absurd (false≢true (sym e ∙ gone));
               kept = all-kept;
-              untouched = λ l. d .0 ∙ w .untouched l ∙ z .laid ∙ ink-none lay o (p .at) (encode (headers (j .set) (j .entry) 1 (j .sequence))) l;
+              untouched =
+                  λ l. d .0 ∙ w .untouched l ∙ z .laid
+                  ∙ ink-none lay o (p .at) (encode (headers (j .set) (j .entry) 1 (j .sequence))) l;
               end = λ e. absurd (false≢true (sym e ∙ gone));
               same =
                   λ next.
@@ -423,12 +455,14 @@ module _ (lay : Bool) (j : Job) (lengths bytes : List ℕ) (c : Cursor) (p : Pen
         put-all : FilePut lay j lengths bytes c p o v r
         put-all = by-test (x .pen .short) put-lacks put-by
 
-    module _ (e : List ℕ) (n m : ℕ) (here : e ≡ j .entry) (format : n ≡ formatFrom e) (long : m ≡ blockLengthFrom e) (u : List ℕ) (x : Body)
+    module _ (e : List ℕ) (n m : ℕ) (here : e ≡ j .entry) (format : n ≡ formatFrom e) (long : m ≡ blockLengthFrom e) (u : List ℕ)
+        (x : Body)
         (w : BodyPut lay n m j lengths bytes c h q u x) where
       pub file-tailable : Tailable lay x (length u)
       file-tailable = tailable u x (file-body e n m here format long u x w)
 
-      pub file-put : (v : List ℕ) (r : Body) → Tailed lay (j .set) (j .entry) (j .sequence) x u v r → FilePut lay j lengths bytes c p o v r
+      pub file-put : (v : List ℕ) (r : Body) → Tailed lay (j .set) (j .entry) (j .sequence) x u v r
+          → FilePut lay j lengths bytes c p o v r
       file-put v r t = put-all u x (file-body e n m here format long u x w) v r t
 
       pub file-all-kept : (v : List ℕ) (r : Body) → Tailed lay (j .set) (j .entry) (j .sequence) x u v r → length v ≡ length o

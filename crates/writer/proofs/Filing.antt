@@ -75,11 +75,14 @@ module _ (t : Task) (g : Place) (entry : List ℕ) (records : List (List ℕ)) (
   this-file lay p o =
       ap
       (λ (n : ℕ). laidFrom lay p o (put (headers (t .set) entry 1 n)
-      (rest (t .set) entry n 1 0 (p .room) (reelsAt (t .rooms) (t .names) (p .next)) (blocksOf (formatFrom entry) (blockLengthFrom entry) records) following)))
+      (rest (t .set) entry n 1 0 (p .room) (reelsAt (t .rooms) (t .names) (p .next))
+      (blocksOf (formatFrom entry) (blockLengthFrom entry) records) following)))
       (add-one (g .nth))
-      ∙ ap (λ (ds : List File). laidFrom lay p o (layFiles (t .set) (suc (g .nth)) (p .room) (reelsAt (t .rooms) (t .names) (p .next)) ds)) (sym first)
+      ∙ ap (λ (ds : List File). laidFrom lay p o
+      (layFiles (t .set) (suc (g .nth)) (p .room) (reelsAt (t .rooms) (t .names) (p .next)) ds)) (sym first)
 
-  module _ (lay : Bool) (d : Cursor) (good : GoodCursor (t .lengths) (t .bytes) d) (begun : recordsOf (t .lengths) (t .bytes) d ≡ records) where
+  module _ (lay : Bool) (d : Cursor) (good : GoodCursor (t .lengths) (t .bytes) d)
+      (begun : recordsOf (t .lengths) (t .bytes) d ≡ records) where
     pub file-ready : (p : Pen) (o : List ℕ) → Fileable lay t g p o → FileReady lay j (t .lengths) (t .bytes) d p o
     file-ready p o f =
         record {
@@ -102,18 +105,24 @@ module _ (t : Task) (g : Place) (entry : List ℕ) (records : List (List ℕ)) (
         }
 
     -- the next file from a place behind this one, unless a reel is lacking
-    next-same : (x : Pen) (q : List ℕ) (h : Place) → h .nth ≡ g .nth + 1 → (x .short ≡ false → filesAt (t .from) (t .lengths) (t .bytes) h ≡ others)
+    next-same : (x : Pen) (q : List ℕ) (h : Place) → h .nth ≡ g .nth + 1
+        → (x .short ≡ false → filesAt (t .from) (t .lengths) (t .bytes) h ≡ others)
         → laidFrom lay x q (layAt t h x) ≡ nextFrom lay (t .rooms) (t .names) x q following
     unfolding layAt nextFrom
     next-same x q h n e =
         by-test (x .short) (λ z. laid-short lay x q _ z ∙ sym (laid-short lay x q _ z))
         (λ z.
-        ap (λ (k : ℕ). laidFrom lay x q (layFiles (t .set) (suc k) (x .room) (reelsAt (t .rooms) (t .names) (x .next)) (filesAt (t .from) (t .lengths) (t .bytes) h))) (n ∙ add-one (g .nth))
-        ∙ ap (λ (ds : List File). laidFrom lay x q (layFiles (t .set) (suc (suc (g .nth))) (x .room) (reelsAt (t .rooms) (t .names) (x .next)) ds)) (e z))
+        ap (λ (k : ℕ). laidFrom lay x q
+        (layFiles (t .set) (suc k) (x .room) (reelsAt (t .rooms) (t .names) (x .next))
+        (filesAt (t .from) (t .lengths) (t .bytes) h))) (n ∙ add-one (g .nth))
+        ∙ ap (λ (ds : List File). laidFrom lay x q
+        (layFiles (t .set) (suc (suc (g .nth))) (x .room) (reelsAt (t .rooms) (t .names) (x .next)) ds)) (e z))
 
     -- the file was laid, and the laying stands at the next
-    pub one-filed : (p : Pen) (o q : List ℕ) (x : Body) (v : Filing) → FilePut lay j (t .lengths) (t .bytes) d p o q x → v .pen ≡ x .pen → v .place .nth ≡ g .nth + 1
-        → (x .pen .short ≡ false → filesAt (t .from) (t .lengths) (t .bytes) (v .place) ≡ others) → (x .pen .short ≡ false → PlacedIn t (v .place))
+    pub one-filed : (p : Pen) (o q : List ℕ) (x : Body) (v : Filing) → FilePut lay j (t .lengths) (t .bytes) d p o q x
+        → v .pen ≡ x .pen → v .place .nth ≡ g .nth + 1
+        → (x .pen .short ≡ false → filesAt (t .from) (t .lengths) (t .bytes) (v .place) ≡ others)
+        → (x .pen .short ≡ false → PlacedIn t (v .place))
         → (v .place .on ≡ true → x .pen .short ≡ false) → (v .place .on ≡ true → v .place .nth < totalOf (t .from) (t .bytes))
         → (v .place .on ≡ false → x .pen .short ≡ false → totalOf (t .from) (t .bytes) ≤ v .place .nth) → OneFiled lay t g p o q v
     one-filed p o q x v m pen next there placed on more over =
@@ -155,11 +164,13 @@ pub record Along (lay : Bool) (t : Task) (g : Place) (p : Pen) (o q : List ℕ) 
   pub fits : lay ≡ true → EndsWithin (laidFrom true (x .pen) q (layAt t (x .place) (x .pen))) (length q)
 
 fits-on : (lay : Bool) (t : Task) (g : Place) (p : Pen) (o q : List ℕ) (x : Filing) → Filed lay t g p o q x
-    → (lay ≡ true → EndsWithin (laidFrom true p o (layAt t g p)) (length o)) → lay ≡ true → EndsWithin (laidFrom true (x .pen) q (layAt t (x .place) (x .pen))) (length q)
+    → (lay ≡ true → EndsWithin (laidFrom true p o (layAt t g p)) (length o)) → lay ≡ true
+    → EndsWithin (laidFrom true (x .pen) q (layAt t (x .place) (x .pen))) (length q)
 fits-on lay t g p o q x m f l =
     let e : laidFrom true (x .pen) q (layAt t (x .place) (x .pen)) ≡ laidFrom true p o (layAt t g p)
     = subst (λ (b : Bool). laidFrom b (x .pen) q (layAt t (x .place) (x .pen)) ≡ laidFrom b p o (layAt t g p)) l (m .same) in
-    subst (EndsWithin (laidFrom true (x .pen) q (layAt t (x .place) (x .pen)))) (sym (m .kept)) (subst (λ (w : PassEnd). EndsWithin w (length o)) (sym e) (f l))
+    subst (EndsWithin (laidFrom true (x .pen) q (layAt t (x .place) (x .pen)))) (sym (m .kept))
+    (subst (λ (w : PassEnd). EndsWithin w (length o)) (sym e) (f l))
 
 module _ (lay : Bool) (t : Task) (g : Place) (p : Pen) (o : List ℕ) where
   along-none : Fileable lay t g p o → g .on ≡ true → Along lay t g p o o (record { place = g; pen = p })
@@ -259,10 +270,12 @@ unfolding filesFrom
 no-counts [] ls bs = refl
 no-counts (e ∷ es) ls bs = refl
 
-files-none : (from : Origin) (lengths bytes : List ℕ) (g : Place) → totalOf from bytes ≤ g .nth → filesAt from lengths bytes g ≡ []
+files-none : (from : Origin) (lengths bytes : List ℕ) (g : Place) → totalOf from bytes ≤ g .nth
+    → filesAt from lengths bytes g ≡ []
 unfolding filesAt totalOf
 files-none (listed files counts) lengths bytes g h =
-    ap (λ (s : List ℕ). filesFrom (inParts 46 (drop (46 * g .nth) files)) s (drop (g .first) lengths) (drop (g .byte) bytes)) (drop-of-length-le counts h)
+    ap (λ (s : List ℕ). filesFrom (inParts 46 (drop (46 * g .nth) files)) s (drop (g .first) lengths) (drop (g .byte) bytes))
+    (drop-of-length-le counts h)
     ∙ no-counts (inParts 46 (drop (46 * g .nth) files)) (drop (g .first) lengths) (drop (g .byte) bytes)
 files-none read lengths bytes g h = drop-of-length-le (content bytes .files) h
 
@@ -272,10 +285,13 @@ length-head : (name : List ℕ) → length (headOf name) ≡ 88
 unfolding headOf
 length-head name = length-append head (encode (block (madeVolume name) ∷ [])) ∙ ap (λ (n : ℕ). 5 + n) (length-first-reel name)
 
-pub head-laid : (lay : Bool) (o labels name q : List ℕ) → lay ≡ true → name ≡ part 53 6 labels → Puts o 0 (headOf name) q → q ≡ inkAt lay o 0 (headOf (part 53 6 labels))
-head-laid lay o labels name q l e p = ink-puts lay o 0 (headOf (part 53 6 labels)) q l (subst (λ (n : List ℕ). Puts o 0 (headOf n) q) e p)
+pub head-laid : (lay : Bool) (o labels name q : List ℕ) → lay ≡ true → name ≡ part 53 6 labels → Puts o 0 (headOf name) q
+    → q ≡ inkAt lay o 0 (headOf (part 53 6 labels))
+head-laid lay o labels name q l e p =
+    ink-puts lay o 0 (headOf (part 53 6 labels)) q l (subst (λ (n : List ℕ). Puts o 0 (headOf n) q) e p)
 
-head-kept : (lay : Bool) (o name q : List ℕ) → (lay ≡ true → 88 ≤ length o) → q ≡ inkAt lay o 0 (headOf name) → length q ≡ length o
+head-kept : (lay : Bool) (o name q : List ℕ) → (lay ≡ true → 88 ≤ length o) → q ≡ inkAt lay o 0 (headOf name)
+    → length q ≡ length o
 head-kept lay o name q r e = ap length e ∙ ink-length lay o 0 (headOf name) (λ l. let m = r l in omega (arith, length-head name))
 
 pub first-index : (rooms : List ℕ) → 1 ≤ length rooms → 0 < length rooms
@@ -287,7 +303,8 @@ first-room lay o h l = h l
 pub ruleset setBegins = (head-laid, ink-not, puts-kept, first-index, first-room, needs)
 
 -- the head, the first reel's label, and what follows
-head-same : (lay : Bool) (o q name : List ℕ) (room : ℕ) (l : Laid) → (lay ≡ true → 88 ≤ length o) → q ≡ inkAt lay o 0 (headOf name)
+head-same : (lay : Bool) (o q name : List ℕ) (room : ℕ) (l : Laid) → (lay ≡ true → 88 ≤ length o)
+    → q ≡ inkAt lay o 0 (headOf name)
     → laidFrom lay (firstPen room) q l ≡ imageFrom lay o (put (block (madeVolume name) ∷ []) l)
 unfolding laidFrom imageFrom imaged inked outcome inkedAt behind put headOf inkAt ifB
 head-same lay o q name room short r e = refl
@@ -313,7 +330,8 @@ head-same false o q name room (laid xs) r e =
     λ i. record { out = e i; end = end i; short = false }
 
 -- and it has room
-head-room : (o name : List ℕ) (l : Laid) → EndsWithin (imageFrom true o (put (block (madeVolume name) ∷ []) l)) (length o) → 88 ≤ length o
+head-room : (o name : List ℕ) (l : Laid) → EndsWithin (imageFrom true o (put (block (madeVolume name) ∷ []) l)) (length o)
+    → 88 ≤ length o
 unfolding imageFrom imaged outcome behind put ifB
 head-room o name short f = absurd (false≢true (sym (f .given)))
 head-room o name (laid xs) f =
@@ -334,12 +352,16 @@ module _ (lay : Bool) (t : Task) (g : Place) (o : List ℕ) (y : SetReady lay t 
   set-is : put (block (madeVolume name) ∷ []) (layAt t g (firstPen first)) ≡ setLaid t g
   unfolding setLaid layOn meaningAt layAt
   set-is =
-      ap (λ (n : ℕ). put (block (madeVolume name) ∷ []) (layFiles (t .set) (suc n) first (reelsAt (t .rooms) (t .names) (0 + 1)) (filesAt (t .from) (t .lengths) (t .bytes) g))) (y .writable .first)
+      ap (λ (n : ℕ). put (block (madeVolume name) ∷ [])
+      (layFiles (t .set) (suc n) first (reelsAt (t .rooms) (t .names) (0 + 1)) (filesAt (t .from) (t .lengths) (t .bytes) g)))
+      (y .writable .first)
       ∙ ap (layOn (record { set = t .set; files = filesAt (t .from) (t .lengths) (t .bytes) g }))
       (sym (reels-some (t .rooms) (t .names) 0 (y .writable .reels) (omega (arith, y .writable .one))))
 
   pub set-room : lay ≡ true → 88 ≤ length o
-  set-room l = head-room o name (layAt t g (firstPen first)) (subst (λ (k : Laid). EndsWithin (imageFrom true o k) (length o)) (sym set-is) (y .fits l))
+  set-room l =
+      head-room o name (layAt t g (firstPen first))
+      (subst (λ (k : Laid). EndsWithin (imageFrom true o k) (length o)) (sym set-is) (y .fits l))
 
   module _ (q : List ℕ) (p : Pen) (e : p ≡ firstPen first) (h : q ≡ inkAt lay o 0 (headOf name)) where
     begun-same : laidFrom lay p q (layAt t g p) ≡ imageFrom lay o (setLaid t g)
@@ -373,13 +395,15 @@ module _ (lay : Bool) (t : Task) (g : Place) (o : List ℕ) (y : SetReady lay t 
           placed = y .writable .placed;
           more = y .writable .some;
           sound =
-              subst (λ (n : ℕ). BetweenFiles (t .rooms) (t .names) n p) (sym (y .writable .first)) (subst (BetweenFiles (t .rooms) (t .names) 0) (sym e) first-sound);
+              subst (λ (n : ℕ). BetweenFiles (t .rooms) (t .names) n p) (sym (y .writable .first))
+              (subst (BetweenFiles (t .rooms) (t .names) 0) (sym e) first-sound);
           enough = ap (λ (r : Pen). r .short) e;
           fits =
               λ l.
               let s : laidFrom true p q (layAt t g p) ≡ imageFrom true o (setLaid t g)
               = subst (λ (b : Bool). laidFrom b p q (layAt t g p) ≡ imageFrom b o (setLaid t g)) l begun-same in
-              subst (EndsWithin (laidFrom true p q (layAt t g p))) (sym set-kept) (subst (λ (w : PassEnd). EndsWithin w (length o)) (sym s) (y .fits l));
+              subst (EndsWithin (laidFrom true p q (layAt t g p))) (sym set-kept)
+              (subst (λ (w : PassEnd). EndsWithin w (length o)) (sym s) (y .fits l));
         }
 
     module _ (u : List ℕ) (x : Filing) (m : AllFiled lay t g p q u x) where
@@ -391,7 +415,8 @@ module _ (lay : Bool) (t : Task) (g : Place) (o : List ℕ) (y : SetReady lay t 
 
       last-same : laidFrom lay (x .pen) u (laid (mark ∷ reelEnd ∷ [])) ≡ imageFrom lay o (setLaid t g)
       last-same =
-          by-test (x .pen .short) (λ s. laid-short lay (x .pen) u _ s ∙ sym (laid-short lay (x .pen) u (layAt t (x .place) (x .pen)) s))
+          by-test (x .pen .short)
+          (λ s. laid-short lay (x .pen) u _ s ∙ sym (laid-short lay (x .pen) u (layAt t (x .place) (x .pen)) s))
           (λ s. ap (laidFrom lay (x .pen) u) (sym (last-is s)))
           ∙ m .filed .same
           ∙ begun-same
@@ -409,7 +434,8 @@ module _ (lay : Bool) (t : Task) (g : Place) (o : List ℕ) (y : SetReady lay t 
                 let e : laidFrom true (x .pen) u (laid (mark ∷ reelEnd ∷ [])) ≡ imageFrom true o (setLaid t g)
                 = subst (λ (b : Bool). laidFrom b (x .pen) u (laid (mark ∷ reelEnd ∷ [])) ≡ imageFrom b o (setLaid t g)) l last-same in
                 laid-room (x .pen) u (mark ∷ reelEnd ∷ []) (laid []) 6 s length-reel-end
-                (subst (EndsWithin (laidFrom true (x .pen) u (laid (mark ∷ reelEnd ∷ [])))) (sym all-kept) (subst (λ (w : PassEnd). EndsWithin w (length o)) (sym e) (y .fits l)));
+                (subst (EndsWithin (laidFrom true (x .pen) u (laid (mark ∷ reelEnd ∷ [])))) (sym all-kept)
+                (subst (λ (w : PassEnd). EndsWithin w (length o)) (sym e) (y .fits l)));
           }
 
       module _ (v : List ℕ) (r : Pen) (z : Closed lay (x .pen) u v r) where
@@ -426,7 +452,8 @@ module _ (lay : Bool) (t : Task) (g : Place) (o : List ℕ) (y : SetReady lay t 
 
 -- ---- the set, as the code holds it
 
-module _ (lay image : Bool) (files counts lengths bytes labels rooms : List ℕ) (g : Place) (o : List ℕ) (y : SetReady lay (taskOf image files counts lengths bytes labels rooms) g o) where
+module _ (lay image : Bool) (files counts lengths bytes labels rooms : List ℕ) (g : Place) (o : List ℕ)
+    (y : SetReady lay (taskOf image files counts lengths bytes labels rooms) g o) where
   abbrev t : Task
   t = taskOf image files counts lengths bytes labels rooms
 

@@ -1,4 +1,5 @@
--- The files of an accepted image: how they are met one after the other, and what each step of the code over them does. Assumes nothing.
+-- The files of an accepted image: how they are met one after the other, and what each step of the code over them does. Assumes
+-- nothing.
 use mathlib.Core.Path.{_≡_, refl, sym, ap, _∙_, subst}
 use mathlib.Core.Bool.{Bool, true, false, false≢true}
 use mathlib.Core.List.{List, [], _∷_}
@@ -129,7 +130,8 @@ module _ (lay : Bool) (set lengths bytes rooms names : List ℕ) (g : Place) (p 
 
     module _ (q : List ℕ) (x : Body) (m : FilePut lay (job set entry (g .nth + 1) rooms names) lengths bytes c p o q x) where
       -- a place behind this file
-      placed-on : (f : FileAt) (stop : ℕ) (on : Bool) → (g .nth + 1 < length all → Met bytes (At f) (drop (g .nth + 1) all)) → PlacedAmong read set lengths bytes (passed g stop (x .end) f on)
+      placed-on : (f : FileAt) (stop : ℕ) (on : Bool) → (g .nth + 1 < length all → Met bytes (At f) (drop (g .nth + 1) all))
+          → PlacedAmong read set lengths bytes (passed g stop (x .end) f on)
       unfolding totalOf filesAt
       placed-on f stop on w =
           record {
@@ -139,29 +141,38 @@ module _ (lay : Bool) (set lengths bytes rooms names : List ℕ) (g : Place) (p 
             legal = legal-others t g entry (d .records) _ (y .placed) files-first;
           }
 
-      next-filed : (stop : ℕ) (h : NextFile) → x .pen .short ≡ false → nextFile bytes (g .file) ≡ h → OneFiled lay t g p o q (record { place = followedBy g stop (x .end) h; pen = x .pen })
+      next-filed : (stop : ℕ) (h : NextFile) → x .pen .short ≡ false → nextFile bytes (g .file) ≡ h
+          → OneFiled lay t g p o q (record { place = followedBy g stop (x .end) h; pen = x .pen })
       unfolding followedBy totalOf filesAt
       next-filed stop (At h) z e =
           let there : Met bytes (At h) (drop (g .nth + 1) all) = subst (λ (f : NextFile). Met bytes f (drop (g .nth + 1) all)) e (both .1) in
           let some : 0 < length (drop (g .nth + 1) all) = met-some bytes h (drop (g .nth + 1) all) there in
-          one-filed t g entry (d .records) _ (y .placed) files-first lay c good begun p o q x _ m refl refl (λ _. refl) (λ _. placed-on h stop true (λ _. there)) (λ _. z)
+          one-filed t g entry (d .records) _ (y .placed) files-first lay c good begun p o q x _ m refl refl (λ _. refl)
+          (λ _. placed-on h stop true (λ _. there)) (λ _. z)
           (λ _. omega (arith, behind-long)) (λ w. absurd (false≢true (sym w)))
       next-filed stop Nowhere z e =
           let none : length (drop (g .nth + 1) all) ≡ 0
           = met-none bytes (drop (g .nth + 1) all) (subst (λ (f : NextFile). Met bytes f (drop (g .nth + 1) all)) e (both .1)) in
           one-filed t g entry (d .records) _ (y .placed) files-first lay c good begun p o q x _ m refl refl (λ _. refl)
-          (λ _. placed-on (g .file) stop false (λ w. absurd (omega (arith, behind-long)))) (λ w. absurd (false≢true w)) (λ w. absurd (false≢true w))
+          (λ _. placed-on (g .file) stop false (λ w. absurd (omega (arith, behind-long)))) (λ w. absurd (false≢true w))
+          (λ w. absurd (false≢true w))
           (λ _ _. omega (arith, behind-long))
 
       -- unless a reel is lacking, the next file is found from where the records of this one end
-      pub read-filed : (stop : ℕ) → x .pen .short ≡ false → OneFiled lay t g p o q (record { place = followedBy g stop (x .end) (fileBehind bytes (g .file) (x .end)); pen = x .pen })
+      pub read-filed : (stop : ℕ) → x .pen .short ≡ false
+          → OneFiled lay t g p o q
+          (record { place = followedBy g stop (x .end) (fileBehind bytes (g .file) (x .end)); pen = x .pen })
       read-filed stop z =
-          next-filed stop (fileBehind bytes (g .file) (x .end)) z (sym (ap (fileBehind bytes (g .file)) (m .end z ∙ ends) ∙ is .behind))
+          next-filed stop (fileBehind bytes (g .file) (x .end)) z
+          (sym (ap (fileBehind bytes (g .file)) (m .end z ∙ ends) ∙ is .behind))
 
-      pub read-short : (stop : ℕ) → x .pen .short ≡ true → OneFiled lay t g p o q (record { place = passed g stop (x .end) (g .file) false; pen = x .pen })
+      pub read-short : (stop : ℕ) → x .pen .short ≡ true
+          → OneFiled lay t g p o q (record { place = passed g stop (x .end) (g .file) false; pen = x .pen })
       read-short stop z =
-          one-filed t g entry (d .records) _ (y .placed) files-first lay c good begun p o q x _ m refl refl (λ w. absurd (false≢true (sym w ∙ z)))
-          (λ w. absurd (false≢true (sym w ∙ z))) (λ w. absurd (false≢true w)) (λ w. absurd (false≢true w)) (λ _ w. absurd (false≢true (sym w ∙ z)))
+          one-filed t g entry (d .records) _ (y .placed) files-first lay c good begun p o q x _ m refl refl
+          (λ w. absurd (false≢true (sym w ∙ z)))
+          (λ w. absurd (false≢true (sym w ∙ z))) (λ w. absurd (false≢true w)) (λ w. absurd (false≢true w))
+          (λ _ w. absurd (false≢true (sym w ∙ z)))
 
 -- ---- what an accepted image, a legal quota and legal names give
 
@@ -176,10 +187,12 @@ module _ (s : List ℕ) (quota : ℕ) (names : List ℕ) (h : imageVerdict s .nu
       let none : length (content s .files) ≡ 0 = met-none s (content s .files) (subst (λ (z : NextFile). Met s z (content s .files)) (sym e ∙ q) (files-all s h)) in
       omega (arith, says .one)
 
-  pub no-file : (out : List ℕ) (a : Answer) (n : NextFile) → n ≡ firstFile s → n ≡ Nowhere → Answers (writeSheet (sheetFrom s quota names) out) a out
+  pub no-file : (out : List ℕ) (a : Answer) (n : NextFile) → n ≡ firstFile s → n ≡ Nowhere
+      → Answers (writeSheet (sheetFrom s quota names) out) a out
   no-file out a n e q = absurd (some-file n e q)
 
-  module _ (v : NextFile) (f : FileAt) (there : v ≡ firstFile s) (found : v ≡ At f) (files counts lengths set l : List ℕ) (p : l ≡ part (f .first) 80 s) (q : set ≡ setOf l)
+  module _ (v : NextFile) (f : FileAt) (there : v ≡ firstFile s) (found : v ≡ At f) (files counts lengths set l : List ℕ)
+      (p : l ≡ part (f .first) 80 s) (q : set ≡ setOf l)
     where
       e : firstFile s ≡ At f
       e = sym there ∙ found
@@ -214,11 +227,13 @@ module _ (s : List ℕ) (quota : ℕ) (names : List ℕ) (h : imageVerdict s .nu
             six = ap length same-set ∙ legal-set (content s .set) (content s .files) (says .one) (says .files);
           })
 
-      pub image-answers : (out : List ℕ) (a : Answer) (r : List ℕ) → Answers (writeSheet (sheetAt (originOf true files counts) set lengths s start quota names) out) a r
+      pub image-answers : (out : List ℕ) (a : Answer) (r : List ℕ)
+          → Answers (writeSheet (sheetAt (originOf true files counts) set lengths s start quota names) out) a r
           → Answers (writeSheet (sheetFrom s quota names) out) a r
       unfolding sheetAt sheetFrom filesAt
       image-answers out a r m =
-          subst (λ (z : List ℕ). Answers (writeSheet (record { meaning = record { set = z; files = content s .files }; quota = quota; names = inParts 6 names }) out) a r) same-set
+          subst (λ (z : List ℕ). Answers
+          (writeSheet (record { meaning = record { set = z; files = content s .files }; quota = quota; names = inParts 6 names }) out) a r) same-set
           (subst (λ (o : Origin). Answers (writeSheet (sheetAt o set lengths s start quota names) out) a r) is-from m)
 
 pub ruleset images = (no-file, image-ordered, image-answers, needs)

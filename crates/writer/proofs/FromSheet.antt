@@ -43,7 +43,8 @@ place f nth first byte on = record { nth = nth; first = first; byte = byte; file
 sum-split : (n : ℕ) (ns : List ℕ) → sum ns ≡ sum (take n ns) + sum (drop n ns)
 sum-split n ns = ap sum (sym (take-append-drop n ns)) ∙ sum-append (take n ns) (drop n ns)
 
-module _ (files counts set lengths bytes rooms names : List ℕ) (g : Place) (y : PlacedAmong (listed files counts) set lengths bytes g) (h : g .nth < length counts) where
+module _ (files counts set lengths bytes rooms names : List ℕ) (g : Place)
+    (y : PlacedAmong (listed files counts) set lengths bytes g) (h : g .nth < length counts) where
   abbrev t : Task
   t = task (listed files counts) set lengths bytes rooms names
 
@@ -54,7 +55,9 @@ module _ (files counts set lengths bytes rooms names : List ℕ) (g : Place) (y 
   counted = sum-at counts (g .nth) h
 
   measured : sum (drop (g .first) lengths) ≡ sum (take c (drop (g .first) lengths)) + sum (drop (g .first + c) lengths)
-  measured = sum-split c (drop (g .first) lengths) ∙ ap (λ (ns : List ℕ). sum (take c (drop (g .first) lengths)) + sum ns) (drop-drop c (g .first) lengths)
+  measured =
+      sum-split c (drop (g .first) lengths)
+      ∙ ap (λ (ns : List ℕ). sum (take c (drop (g .first) lengths)) + sum ns) (drop-drop c (g .first) lengths)
 
   pub stop-within : g .first + c ≤ length lengths
   stop-within = omega (arith, counted, y .stands .records)
@@ -75,7 +78,8 @@ module _ (files counts set lengths bytes rooms names : List ℕ) (g : Place) (y 
   abbrev onward : Bool → Place
   onward = place (g .file) (g .nth + 1) (g .first + c) (g .byte + sum (take c (drop (g .first) lengths)))
 
-  files-some : filesAt (listed files counts) lengths bytes g ≡ record { fields = entry; records = records } ∷ filesAt (listed files counts) lengths bytes (onward true)
+  files-some : filesAt (listed files counts) lengths bytes g ≡ record { fields = entry; records = records } ∷
+      filesAt (listed files counts) lengths bytes (onward true)
   unfolding filesAt filesFrom part
   files-some =
       let l : length (drop (46 * g .nth) files) ≡ length files - 46 * g .nth = length-drop (46 * g .nth) files in
@@ -87,9 +91,14 @@ module _ (files counts set lengths bytes rooms names : List ℕ) (g : Place) (y 
       let cs : drop (g .nth) counts ≡ c ∷ drop (g .nth + 1) counts
       = drop-cons counts (g .nth) 0 h ∙ ap (λ (k : ℕ). c ∷ drop k counts) (sym (add-one (g .nth))) in
       ap (λ (s : List (List ℕ)). filesFrom s (drop (g .nth) counts) (drop (g .first) lengths) (drop (g .byte) bytes)) es
-      ∙ ap (λ (s : List ℕ). filesFrom (take 46 (drop (46 * g .nth) files) ∷ inParts 46 (drop (46 * (g .nth + 1)) files)) s (drop (g .first) lengths) (drop (g .byte) bytes)) cs
-      ∙ ap (λ (s : List ℕ). record { fields = take 46 (drop (46 * g .nth) files); records = records } ∷ filesFrom (inParts 46 (drop (46 * (g .nth + 1)) files)) (drop (g .nth + 1) counts) s (drop (sum (take c (drop (g .first) lengths))) (drop (g .byte) bytes))) (drop-drop c (g .first) lengths)
-      ∙ ap (λ (s : List ℕ). record { fields = take 46 (drop (46 * g .nth) files); records = records } ∷ filesFrom (inParts 46 (drop (46 * (g .nth + 1)) files)) (drop (g .nth + 1) counts) (drop (g .first + c) lengths) s) (drop-drop (sum (take c (drop (g .first) lengths))) (g .byte) bytes)
+      ∙ ap (λ (s : List ℕ). filesFrom (take 46 (drop (46 * g .nth) files) ∷ inParts 46 (drop (46 * (g .nth + 1)) files)) s
+      (drop (g .first) lengths) (drop (g .byte) bytes)) cs
+      ∙ ap (λ (s : List ℕ). record { fields = take 46 (drop (46 * g .nth) files); records = records } ∷
+      filesFrom (inParts 46 (drop (46 * (g .nth + 1)) files)) (drop (g .nth + 1) counts) s
+      (drop (sum (take c (drop (g .first) lengths))) (drop (g .byte) bytes))) (drop-drop c (g .first) lengths)
+      ∙ ap (λ (s : List ℕ). record { fields = take 46 (drop (46 * g .nth) files); records = records } ∷
+      filesFrom (inParts 46 (drop (46 * (g .nth + 1)) files)) (drop (g .nth + 1) counts) (drop (g .first + c) lengths) s)
+      (drop-drop (sum (take c (drop (g .first) lengths))) (g .byte) bytes)
 
   placed-on : (on : Bool) → PlacedAmong (listed files counts) set lengths bytes (onward on)
   unfolding totalOf filesAt
@@ -106,7 +115,8 @@ module _ (files counts set lengths bytes rooms names : List ℕ) (g : Place) (y 
         legal = legal-others t g entry records _ y files-some;
       }
 
-  module _ (count stop : ℕ) (k : count ≡ c) (s : stop ≡ g .first + count) (d : Cursor) (n : d ≡ listedAt (g .byte) count stop) where
+  module _ (count stop : ℕ) (k : count ≡ c) (s : stop ≡ g .first + count) (d : Cursor)
+      (n : d ≡ listedAt (g .byte) count stop) where
     lengths-are : lengthsAt lengths d ≡ take c (drop (g .first) lengths)
     unfolding lengthsAt part
     lengths-are =
@@ -143,22 +153,27 @@ module _ (files counts set lengths bytes rooms names : List ℕ) (g : Place) (y 
           inside = omega (arith, ends, measured, y .stands .inside);
         }
 
-    pub entry-ready : (lay : Bool) (p : Pen) (o : List ℕ) → Fileable lay t g p o → FileReady lay (job set entry (g .nth + 1) rooms names) lengths bytes d p o
+    pub entry-ready : (lay : Bool) (p : Pen) (o : List ℕ) → Fileable lay t g p o
+        → FileReady lay (job set entry (g .nth + 1) rooms names) lengths bytes d p o
     entry-ready lay p o f = file-ready t g entry records _ y files-some lay d good begun p o f
 
     -- the place behind this file, unless a reel is lacking
-    place-is : (x : Body) (on : Bool) → (x .pen .short ≡ false → x .end ≡ endAt lengths bytes d) → x .pen .short ≡ false → onward on ≡ passed g stop (x .end) (g .file) on
+    place-is : (x : Body) (on : Bool) → (x .pen .short ≡ false → x .end ≡ endAt lengths bytes d) → x .pen .short ≡ false
+        → onward on ≡ passed g stop (x .end) (g .file) on
     place-is x on e z =
         let i : g .first + c ≡ stop = omega arith in
         ap (λ (r : ℕ). place (g .file) (g .nth + 1) r (g .byte + sum (take c (drop (g .first) lengths))) on) i
         ∙ ap (λ (r : ℕ). place (g .file) (g .nth + 1) stop r on) (sym (e z ∙ ends))
 
-    files-on : (on : Bool) → filesAt (listed files counts) lengths bytes (onward on) ≡ filesAt (listed files counts) lengths bytes (onward true)
+    files-on : (on : Bool)
+        → filesAt (listed files counts) lengths bytes (onward on) ≡ filesAt (listed files counts) lengths bytes (onward true)
     unfolding filesAt
     files-on on = refl
 
-    pub listed-filed : (lay : Bool) (p : Pen) (o q : List ℕ) (x : Body) (r : Place) → FilePut lay (job set entry (g .nth + 1) rooms names) lengths bytes d p o q x
-        → r ≡ passed g stop (x .end) (g .file) (ifB (x .pen .short) false (ltb (g .nth + 1) (length counts))) → OneFiled lay t g p o q (record { place = r; pen = x .pen })
+    pub listed-filed : (lay : Bool) (p : Pen) (o q : List ℕ) (x : Body) (r : Place)
+        → FilePut lay (job set entry (g .nth + 1) rooms names) lengths bytes d p o q x
+        → r ≡ passed g stop (x .end) (g .file) (ifB (x .pen .short) false (ltb (g .nth + 1) (length counts)))
+        → OneFiled lay t g p o q (record { place = r; pen = x .pen })
     unfolding totalOf
     listed-filed lay p o q x r m e =
         let on : Bool = ifB (x .pen .short) false (ltb (g .nth + 1) (length counts)) in
@@ -166,9 +181,11 @@ module _ (files counts set lengths bytes rooms names : List ℕ) (g : Place) (y 
         (one-filed t g entry records _ y files-some lay d good begun p o q x _ m refl refl
         (λ z. ap (filesAt (listed files counts) lengths bytes) (sym (place-is x on (m .end) z)) ∙ files-on on)
         (λ z. subst (PlacedAmong (listed files counts) set lengths bytes) (place-is x on (m .end) z) (placed-on on))
-        (λ z. by-test (x .pen .short) (λ w. absurd (false≢true (sym (if-true (x .pen .short) false (ltb (g .nth + 1) (length counts)) w) ∙ z))) (λ w. w))
+        (λ z. by-test (x .pen .short)
+        (λ w. absurd (false≢true (sym (if-true (x .pen .short) false (ltb (g .nth + 1) (length counts)) w) ∙ z))) (λ w. w))
         (λ z.
-        by-test (x .pen .short) (λ w. absurd (false≢true (sym (if-true (x .pen .short) false (ltb (g .nth + 1) (length counts)) w) ∙ z)))
+        by-test (x .pen .short)
+        (λ w. absurd (false≢true (sym (if-true (x .pen .short) false (ltb (g .nth + 1) (length counts)) w) ∙ z)))
         (λ w. ltb-true _ _ (sym (if-false (x .pen .short) false (ltb (g .nth + 1) (length counts)) w) ∙ z)))
         (λ z w. ltb-false _ _ (sym (if-false (x .pen .short) false (ltb (g .nth + 1) (length counts)) w) ∙ z)))
 
@@ -183,12 +200,14 @@ pub record SheetFacts (x : Flat) : Type 0 where
   pub legal : legalSheet (sheetOf x) ≡ true
 
 adds-facts : {A : Type 0} (x : Flat) → addsUp x ≡ true
-    → (length (x .files) ≡ 46 * length (x .counts) → sum (x .counts) ≡ length (x .lengths) → sum (x .lengths) ≡ length (x .bytes) → A) → A
+    → (length (x .files) ≡ 46 * length (x .counts) → sum (x .counts) ≡ length (x .lengths) → sum (x .lengths) ≡ length (x .bytes)
+    → A) → A
 unfolding addsUp
 adds-facts x h k =
     both (eqb (length (x .files)) (46 * length (x .counts))) _
     (λ a r. both (eqb (sum (x .counts)) (length (x .lengths))) _
-    (λ b r. both (eqb (sum (x .lengths)) (length (x .bytes))) _ (λ d r. k (eqb-true _ _ a) (eqb-true _ _ b) (eqb-true _ _ d)) r) r) h
+    (λ b r. both (eqb (sum (x .lengths)) (length (x .bytes))) _
+    (λ d r. k (eqb-true _ _ a) (eqb-true _ _ b) (eqb-true _ _ d)) r) r) h
 
 facts : (x : Flat) → sheetNumber x ≡ 0 → SheetFacts x
 unfolding sheetNumber
@@ -278,7 +297,9 @@ module _ (set files counts lengths bytes : List ℕ) (quota : ℕ) (names : List
         six = legal-set set (filesFrom (inParts 46 files) counts lengths bytes) (says .one) (says .files);
       })
 
-  pub sheet-answers : (out : List ℕ) (a : Answer) (p : List ℕ) → Answers (writeSheet (sheetAt (originOf false files counts) set lengths bytes start quota names) out) a p
+  pub sheet-answers : (out : List ℕ) (a : Answer) (p : List ℕ)
+      → Answers (writeSheet (sheetAt (originOf false files counts) set lengths bytes start quota names) out) a p
       → Answers (writeSheet (sheetOf (flat set files counts lengths bytes quota names)) out) a p
   unfolding sheetAt sheetOf filesAt
-  sheet-answers out a p m = subst (λ (o : Origin). Answers (writeSheet (sheetAt o set lengths bytes start quota names) out) a p) is-from m
+  sheet-answers out a p m =
+      subst (λ (o : Origin). Answers (writeSheet (sheetAt o set lengths bytes start quota names) out) a p) is-from m

@@ -1,4 +1,5 @@
--- What the labels of a file are made of, as bytes one behind the other: what is put there, and what is then read from there. Assumes nothing.
+-- What the labels of a file are made of, as bytes one behind the other: what is put there, and what is then read from there.
+-- Assumes nothing.
 use mathlib.Core.Path.{_≡_, sym, ap, ap₂, _∙_, subst}
 use mathlib.Core.Bool.{Bool, true, false}
 use mathlib.Core.List.{List, _++_, append-assoc}
@@ -26,12 +27,15 @@ label-long : (bytes l : List ℕ) (at : ℕ) → at + 80 ≤ length bytes → l 
 label-long bytes l at h e = ap length e ∙ length-part at 80 bytes h
 
 -- a field of a label has room among the label parts
-part-room : (bytes l s : List ℕ) (i at from w : ℕ) → i + 80 ≤ length bytes → l ≡ part i 80 bytes → from + w ≤ 80 → at + w ≤ 46 → s ≡ part from w l → at + length s ≤ 149
+part-room : (bytes l s : List ℕ) (i at from w : ℕ) → i + 80 ≤ length bytes → l ≡ part i 80 bytes → from + w ≤ 80 → at + w ≤ 46
+    → s ≡ part from w l → at + length s ≤ 149
 part-room bytes l s i at from w b h k m e =
     let n : length s ≡ w = ap length e ∙ length-part from w l (omega (arith, label-long bytes l i b h)) in omega arith
 
-fields-made : (labels bytes : List ℕ) (i j : ℕ) (f s a x b y c z : List ℕ) → length labels ≡ 149 → i + 80 ≤ length bytes → j + 80 ≤ length bytes
-    → f ≡ part i 80 bytes → s ≡ part j 80 bytes → a ≡ part 4 17 f → x ≡ putAt labels 0 a → b ≡ part 35 18 f → y ≡ putAt x 17 b → c ≡ part 4 11 s → z ≡ putAt y 35 c
+fields-made : (labels bytes : List ℕ) (i j : ℕ) (f s a x b y c z : List ℕ) → length labels ≡ 149 → i + 80 ≤ length bytes
+    → j + 80 ≤ length bytes
+    → f ≡ part i 80 bytes → s ≡ part j 80 bytes → a ≡ part 4 17 f → x ≡ putAt labels 0 a → b ≡ part 35 18 f → y ≡ putAt x 17 b
+    → c ≡ part 4 11 s → z ≡ putAt y 35 c
     → z ≡ putAt labels 0 (fieldsFrom (part i 80 bytes) (part j 80 bytes))
 unfolding fieldsFrom
 fields-made labels bytes i j f s a x b y c z l bi bj ef es ea ex eb ey ec ez =
@@ -49,11 +53,13 @@ fields-made labels bytes i j f s a x b y c z l bi bj ef es ea ex eb ey ec ez =
     ∙ put-put labels 0 (a ++ b) c (omega arith)
     ∙ ap (putAt labels 0) (append-assoc a b c)
     ∙ ap (putAt labels 0)
-    (ap₂ (λ (t u : List ℕ). t ++ u) (ea ∙ ap (part 4 17) ef) (ap₂ (λ (t u : List ℕ). t ++ u) (eb ∙ ap (part 35 18) ef) (ec ∙ ap (part 4 11) es)))
+    (ap₂ (λ (t u : List ℕ). t ++ u) (ea ∙ ap (part 4 17) ef)
+    (ap₂ (λ (t u : List ℕ). t ++ u) (eb ∙ ap (part 35 18) ef) (ec ∙ ap (part 4 11) es)))
 
 -- ---- the entry and the number of a file
 
-entered-by : (labels e : List ℕ) (n : ℕ) (r : List ℕ) → length labels ≡ 149 → length e ≡ 46 → r ≡ putAt (set labels 46 n) 0 e → LabelsEntered labels e n r
+entered-by : (labels e : List ℕ) (n : ℕ) (r : List ℕ) → length labels ≡ 149 → length e ≡ 46 → r ≡ putAt (set labels 46 n) 0 e
+    → LabelsEntered labels e n r
 entered-by labels e n r l k h =
     let old : List ℕ = set labels 46 n in
     let long : length old ≡ 149 = length-set labels 46 n ∙ l in
@@ -76,17 +82,20 @@ entered-by labels e n r l k h =
 
 module _ (image : Bool) (files bytes : List ℕ) (g : Place) (y : Enterable image (length files) (length bytes) g) where
   -- a field of the first label or the second has room among the label parts
-  pub first-room : (l s : List ℕ) (at from w : ℕ) → image ≡ true → l ≡ part (g .file .first) 80 bytes → from + w ≤ 80 → at + w ≤ 46 → s ≡ part from w l → at + length s ≤ 149
+  pub first-room : (l s : List ℕ) (at from w : ℕ) → image ≡ true → l ≡ part (g .file .first) 80 bytes → from + w ≤ 80
+      → at + w ≤ 46 → s ≡ part from w l → at + length s ≤ 149
   first-room l s at from w i h k m e = part-room bytes l s (g .file .first) at from w (y .first i) h k m e
 
-  pub second-room : (l s : List ℕ) (at from w : ℕ) → image ≡ true → l ≡ part (g .file .second) 80 bytes → from + w ≤ 80 → at + w ≤ 46 → s ≡ part from w l → at + length s ≤ 149
+  pub second-room : (l s : List ℕ) (at from w : ℕ) → image ≡ true → l ≡ part (g .file .second) 80 bytes → from + w ≤ 80
+      → at + w ≤ 46 → s ≡ part from w l → at + length s ≤ 149
   second-room l s at from w i h k m e = part-room bytes l s (g .file .second) at from w (y .second i) h k m e
 
   pub entry-few : g .nth < 64
   entry-few = y .few
 
   module _ (labels r : List ℕ) (l : length labels ≡ 149) where
-    pub entered-read : (f s a u b v d : List ℕ) → image ≡ true → f ≡ part (g .file .first) 80 bytes → s ≡ part (g .file .second) 80 bytes → a ≡ part 4 17 f
+    pub entered-read : (f s a u b v d : List ℕ) → image ≡ true → f ≡ part (g .file .first) 80 bytes
+        → s ≡ part (g .file .second) 80 bytes → a ≡ part 4 17 f
         → u ≡ putAt (set labels 46 (g .nth + 1)) 0 a → b ≡ part 35 18 f → v ≡ putAt u 17 b → d ≡ part 4 11 s → r ≡ putAt v 35 d
         → LabelsEntered labels (entryAt image files bytes g) (g .nth + 1) r
     unfolding entryAt
@@ -94,9 +103,11 @@ module _ (image : Bool) (files bytes : List ℕ) (g : Place) (y : Enterable imag
         let h = fields-made (set labels 46 (g .nth + 1)) bytes (g .file .first) (g .file .second) f s a u b v d r (length-set labels 46 (g .nth + 1) ∙ l) (y .first i) (y .second i) ef es ea eu eb ev ed er in
         subst (λ (e : List ℕ). LabelsEntered labels e (g .nth + 1) r) (sym (if-true _ _ _ i))
         (entered-by labels _ (g .nth + 1) r l
-        (length-entry _ _ (length-part (g .file .first) 80 bytes (y .first i)) (length-part (g .file .second) 80 bytes (y .second i))) h)
+        (length-entry _ _ (length-part (g .file .first) 80 bytes (y .first i))
+        (length-part (g .file .second) 80 bytes (y .second i))) h)
 
-    pub entered-listed : (e : List ℕ) → image ≡ false → e ≡ part (46 * g .nth) 46 files → r ≡ putAt (set labels 46 (g .nth + 1)) 0 e
+    pub entered-listed : (e : List ℕ) → image ≡ false → e ≡ part (46 * g .nth) 46 files
+        → r ≡ putAt (set labels 46 (g .nth + 1)) 0 e
         → LabelsEntered labels (entryAt image files bytes g) (g .nth + 1) r
     unfolding entryAt
     entered-listed e i k h =
@@ -116,10 +127,18 @@ module _ (labels e : List ℕ) (n : ℕ) (r rooms : List ℕ) (y : LabelsEntered
   job-is : jobOf r rooms ≡ job (setIn labels) e n rooms (namesIn (length rooms) labels)
   job-is =
       λ i.
-      record { set = same-part 0 6 i; entry = y .entry i; sequence = y .sequence i; rooms = rooms; names = same-part 6 (6 * length rooms) i }
+      record {
+        set = same-part 0 6 i;
+        entry = y .entry i;
+        sequence = y .sequence i;
+        rooms = rooms;
+        names = same-part 6
+            (6 * length rooms) i;
+      }
 
   module _ (lay : Bool) (lengths bytes : List ℕ) (d : Cursor) (p : Pen) (o : List ℕ) where
-    pub parts-ready : FileReady lay (job (setIn labels) e n rooms (namesIn (length rooms) labels)) lengths bytes d p o → FileReady lay (jobOf r rooms) lengths bytes d p o
+    pub parts-ready : FileReady lay (job (setIn labels) e n rooms (namesIn (length rooms) labels)) lengths bytes d p o
+        → FileReady lay (jobOf r rooms) lengths bytes d p o
     parts-ready k = subst (λ (j : Job). FileReady lay j lengths bytes d p o) (sym job-is) k
 
     pub parts-put : (q : List ℕ) (x : Body) → FilePut lay (jobOf r rooms) lengths bytes d p o q x
@@ -128,7 +147,8 @@ module _ (labels e : List ℕ) (n : ℕ) (r rooms : List ℕ) (y : LabelsEntered
 
 -- ---- the set entry and the names
 
-module _ (set names titled labels : List ℕ) (six : length set ≡ 6) (few : length names ≤ 96) (t : titled ≡ putAt (replicate 149 0) 47 set) (l : labels ≡ putAt titled 53 names) where
+module _ (set names titled labels : List ℕ) (six : length set ≡ 6) (few : length names ≤ 96)
+    (t : titled ≡ putAt (replicate 149 0) 47 set) (l : labels ≡ putAt titled 53 names) where
   blank-long : length {A = ℕ} (replicate 149 0) ≡ 149
   blank-long = cc
 

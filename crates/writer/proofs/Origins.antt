@@ -35,7 +35,8 @@ module _ (image : Bool) (counts : List ℕ) (n : ℕ) (g : Place) where
   unfolding cursorAt
   cursor-read i = sym (if-true _ _ _ i)
 
-  pub cursor-listed : (count : ℕ) → image ≡ false → count ≡ getD counts (g .nth) 0 → listedAt (g .byte) count (g .first + count) ≡ cursorAt image counts g
+  pub cursor-listed : (count : ℕ) → image ≡ false → count ≡ getD counts (g .nth) 0
+      → listedAt (g .byte) count (g .first + count) ≡ cursorAt image counts g
   unfolding cursorAt
   cursor-listed count i e = ap (λ (k : ℕ). listedAt (g .byte) k (g .first + k)) e ∙ sym (if-false _ _ _ i)
 
@@ -56,7 +57,8 @@ module _ (image : Bool) (counts bytes : List ℕ) (g : Place) (stop end : ℕ) (
   behind-short z = sym (if-true _ _ _ z)
 
   module _ (z : short ≡ false) where
-    pub behind-listed : image ≡ false → passed g stop end (g .file) (ltb (g .nth + 1) (length counts)) ≡ behindFile image counts bytes g stop end short
+    pub behind-listed : image ≡ false
+        → passed g stop end (g .file) (ltb (g .nth + 1) (length counts)) ≡ behindFile image counts bytes g stop end short
     unfolding behindFile
     behind-listed i = sym (if-false _ _ _ z ∙ if-false _ _ _ i)
 
@@ -126,7 +128,8 @@ module _ (lay image : Bool) (files counts lengths bytes labels rooms : List ℕ)
         second = λ i. second-within lay (setIn labels) lengths bytes rooms names g p o (from-image i);
       }
 
-  module _ (c : Cursor) (k : c ≡ cursorAt image counts g) (r : List ℕ) (e : LabelsEntered labels (entryAt image files bytes g) (g .nth + 1) r) where
+  module _ (c : Cursor) (k : c ≡ cursorAt image counts g) (r : List ℕ)
+      (e : LabelsEntered labels (entryAt image files bytes g) (g .nth + 1) r) where
     abbrev j : Job
     j = job (setIn labels) (entryAt image files bytes g) (g .nth + 1) rooms names
 
@@ -141,11 +144,14 @@ module _ (lay image : Bool) (files counts lengths bytes labels rooms : List ℕ)
     ready =
         by-test image
         (λ i.
-        subst (λ (d : List ℕ). FileReady lay (job (setIn labels) d (g .nth + 1) rooms names) lengths bytes c p o) (sym (if-true _ _ _ i))
+        subst (λ (d : List ℕ). FileReady lay (job (setIn labels) d (g .nth + 1) rooms names) lengths bytes c p o)
+        (sym (if-true _ _ _ i))
         (read-ready lay (setIn labels) lengths bytes rooms names g p o (from-image i) c (read-at i)))
         (λ i.
-        subst (λ (d : List ℕ). FileReady lay (job (setIn labels) d (g .nth + 1) rooms names) lengths bytes c p o) (sym (if-false _ _ _ i))
-        (entry-ready files counts (setIn labels) lengths bytes rooms names g (from-sheet i .placed) (nth-within i) _ _ refl refl c (listed-at i) lay p o (from-sheet i)))
+        subst (λ (d : List ℕ). FileReady lay (job (setIn labels) d (g .nth + 1) rooms names) lengths bytes c p o)
+        (sym (if-false _ _ _ i))
+        (entry-ready files counts (setIn labels) lengths bytes rooms names g (from-sheet i .placed) (nth-within i) _ _ refl refl c
+        (listed-at i) lay p o (from-sheet i)))
 
     place-ready : FileReady lay (jobOf r rooms) lengths bytes c p o
     place-ready = parts-ready labels (entryAt image files bytes g) (g .nth + 1) r rooms e lay lengths bytes c p o ready
@@ -163,7 +169,8 @@ module _ (lay image : Bool) (files counts lengths bytes labels rooms : List ℕ)
           let put′ = subst (λ (d : List ℕ). FilePut lay (job (setIn labels) d (g .nth + 1) rooms names) lengths bytes c p o q x) (if-true _ _ _ i) put in
           by-test (x .pen .short)
           (λ z.
-          subst (λ (h : Place). OneFiled lay (by read) g p o q (record { place = h; pen = x .pen })) (behind-short image counts bytes g (c .stop) (x .end) (x .pen .short) z)
+          subst (λ (h : Place). OneFiled lay (by read) g p o q (record { place = h; pen = x .pen }))
+          (behind-short image counts bytes g (c .stop) (x .end) (x .pen .short) z)
           (read-short lay (setIn labels) lengths bytes rooms names g p o (from-image i) c (read-at i) q x put′ (c .stop) z))
           (λ z.
           subst (λ (h : Place). OneFiled lay (by read) g p o q (record { place = h; pen = x .pen }))
@@ -174,25 +181,35 @@ module _ (lay image : Bool) (files counts lengths bytes labels rooms : List ℕ)
       unfolding entryAt
       filed-listed i =
           let put′ = subst (λ (d : List ℕ). FilePut lay (job (setIn labels) d (g .nth + 1) rooms names) lengths bytes c p o q x) (if-false _ _ _ i) put in
-          listed-filed files counts (setIn labels) lengths bytes rooms names g (from-sheet i .placed) (nth-within i) _ (c .stop) refl (ap (λ (d : Cursor). d .stop) (listed-at i))
-          c (listed-at i ∙ ap (λ (n : ℕ). listedAt (g .byte) (getD counts (g .nth) 0) n) (sym (ap (λ (d : Cursor). d .stop) (listed-at i)))) lay p o q x next put′ both
+          listed-filed files counts (setIn labels) lengths bytes rooms names g (from-sheet i .placed) (nth-within i) _
+          (c .stop) refl (ap (λ (d : Cursor). d .stop) (listed-at i))
+          c (listed-at i ∙ ap (λ (n : ℕ). listedAt (g .byte) (getD counts (g .nth) 0) n)
+          (sym (ap (λ (d : Cursor). d .stop) (listed-at i)))) lay p o q x next put′ both
         where
           both : next ≡ passed g (c .stop) (x .end) (g .file) (ifB (x .pen .short) false (ltb (g .nth + 1) (length counts)))
           both =
               by-test (x .pen .short)
-              (λ z. sym (behind-short image counts bytes g (c .stop) (x .end) (x .pen .short) z) ∙ ap (passed g (c .stop) (x .end) (g .file)) (sym (if-true _ _ _ z)))
-              (λ z. sym (behind-listed image counts bytes g (c .stop) (x .end) (x .pen .short) z i) ∙ ap (passed g (c .stop) (x .end) (g .file)) (sym (if-false _ _ _ z)))
+              (λ z. sym (behind-short image counts bytes g (c .stop) (x .end) (x .pen .short) z)
+              ∙ ap (passed g (c .stop) (x .end) (g .file)) (sym (if-true _ _ _ z)))
+              (λ z. sym (behind-listed image counts bytes g (c .stop) (x .end) (x .pen .short) z i)
+              ∙ ap (passed g (c .stop) (x .end) (g .file)) (sym (if-false _ _ _ z)))
 
-      place-filed : (r : Place) → r ≡ next → OneFiled lay (taskOf image files counts lengths bytes labels rooms) g p o q (record { place = r; pen = x .pen })
+      place-filed : (r : Place) → r ≡ next
+          → OneFiled lay (taskOf image files counts lengths bytes labels rooms) g p o q (record { place = r; pen = x .pen })
       place-filed r h =
-          subst (λ (d : Place). OneFiled lay (taskOf image files counts lengths bytes labels rooms) g p o q (record { place = d; pen = x .pen })) (sym h)
-          (by-test image (λ i. subst (λ (f : Origin). OneFiled lay (by f) g p o q (record { place = next; pen = x .pen })) (sym (is-read i)) (filed-read i))
-          (λ i. subst (λ (f : Origin). OneFiled lay (by f) g p o q (record { place = next; pen = x .pen })) (sym (is-listed i)) (filed-listed i)))
+          subst (λ (d : Place). OneFiled lay (taskOf image files counts lengths bytes labels rooms) g p o q
+          (record { place = d; pen = x .pen })) (sym h)
+          (by-test image (λ i. subst (λ (f : Origin). OneFiled lay (by f) g p o q (record { place = next; pen = x .pen }))
+          (sym (is-read i)) (filed-read i))
+          (λ i. subst (λ (f : Origin). OneFiled lay (by f) g p o q (record { place = next; pen = x .pen })) (sym (is-listed i))
+          (filed-listed i)))
 
 -- ---- the loop over files
 
-module _ (lay image : Bool) (files counts lengths bytes labels rooms : List ℕ) (first : Place) (begun : Pen) (out q : List ℕ) (g : Place) (p : Pen)
-    (m : Along lay (taskOf image files counts lengths bytes labels rooms) first begun out q (record { place = g; pen = p })) (on : g .on ≡ true) where
+module _ (lay image : Bool) (files counts lengths bytes labels rooms : List ℕ) (first : Place) (begun : Pen) (out q : List ℕ)
+    (g : Place) (p : Pen)
+    (m : Along lay (taskOf image files counts lengths bytes labels rooms) first begun out q (record { place = g; pen = p }))
+    (on : g .on ≡ true) where
   abbrev t : Task
   t = taskOf image files counts lengths bytes labels rooms
 
@@ -208,7 +225,8 @@ module _ (lay image : Bool) (files counts lengths bytes labels rooms : List ℕ)
   pub turn-enterable : Enterable image (length files) (length bytes) g
   turn-enterable = place-enterable lay image files counts lengths bytes labels rooms g p q here
 
-  module _ (c : Cursor) (k : c ≡ cursorAt image counts g) (r : List ℕ) (e : LabelsEntered labels (entryAt image files bytes g) (g .nth + 1) r) where
+  module _ (c : Cursor) (k : c ≡ cursorAt image counts g) (r : List ℕ)
+      (e : LabelsEntered labels (entryAt image files bytes g) (g .nth + 1) r) where
     pub turn-ready : FileReady lay (jobOf r rooms) lengths bytes c p q
     turn-ready = place-ready lay image files counts lengths bytes labels rooms g p q here c k r e
 
@@ -221,4 +239,5 @@ module _ (lay image : Bool) (files counts lengths bytes labels rooms : List ℕ)
       turn-more = along-more lay t first begun out q (record { place = g; pen = p }) m u (record { place = h; pen = x .pen }) one
 
       pub turn-falls : filesOn (originOf image files counts) bytes h < filesOn (originOf image files counts) bytes g
-      turn-falls = files-fall lay t first begun out q (record { place = g; pen = p }) m u (record { place = h; pen = x .pen }) one on
+      turn-falls =
+          files-fall lay t first begun out q (record { place = g; pen = p }) m u (record { place = h; pen = x .pen }) one on

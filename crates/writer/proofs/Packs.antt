@@ -28,7 +28,8 @@ use Rattle.writer.proofs.Steps.{goes-goes, flowing-on, left-length, flo
 
 -- ---- what is wanted
 
-pub flowing-wanting : (lay : Bool) (f b : ℕ) (j : Job) (piece : List ℕ) (s : Flow) (o : List ℕ) → Flowing lay f b j piece s o → s .inside ≡ false
+pub flowing-wanting : (lay : Bool) (f b : ℕ) (j : Job) (piece : List ℕ) (s : Flow) (o : List ℕ) → Flowing lay f b j piece s o
+    → s .inside ≡ false
     → Wanting lay f b j (s .left) (s .pen) o
 flowing-wanting lay f b j piece s o w h =
     record {
@@ -47,7 +48,8 @@ flowing-wanting lay f b j piece s o w h =
             size = left-length piece (a .bytes) (s .left) (s .from) (w .good .from) (a .size);
             room = a .room;
             fits =
-                subst (λ (u : PassEnd). EndsWithin u (length o)) (flowed-out true f b j s o (drop (s .from) piece ++ a .bytes) (a .later) (a .next) h) (a .fits);
+                subst (λ (u : PassEnd). EndsWithin u (length o))
+                (flowed-out true f b j s o (drop (s .from) piece ++ a .bytes) (a .later) (a .next) h) (a .fits);
           };
     }
 
@@ -59,12 +61,14 @@ unfolding turnsIn
 turns-in f b n s h = ap (λ (k : ℕ). 3 * (n - s .from) + k) (if-true _ _ _ h)
 
 -- one that begins a unit
-turns-begin : (f b n : ℕ) (s : Flow) → s .inside ≡ false → entersOn f b (s .pen .on) (s .pen .used) (s .left) ≡ true → turnsIn f b n s ≡ 3 * (n - s .from) + 1
+turns-begin : (f b n : ℕ) (s : Flow) → s .inside ≡ false → entersOn f b (s .pen .on) (s .pen .used) (s .left) ≡ true
+    → turnsIn f b n s ≡ 3 * (n - s .from) + 1
 unfolding turnsIn
 turns-begin f b n s h e = ap (λ (k : ℕ). 3 * (n - s .from) + k) (if-false _ _ _ h ∙ if-true _ _ _ e)
 
 -- one that opens a block
-turns-open : (f b n : ℕ) (s : Flow) → s .inside ≡ false → entersOn f b (s .pen .on) (s .pen .used) (s .left) ≡ false → turnsIn f b n s ≡ 3 * (n - s .from) + 2
+turns-open : (f b n : ℕ) (s : Flow) → s .inside ≡ false → entersOn f b (s .pen .on) (s .pen .used) (s .left) ≡ false
+    → turnsIn f b n s ≡ 3 * (n - s .from) + 2
 unfolding turnsIn
 turns-open f b n s h e = ap (λ (k : ℕ). 3 * (n - s .from) + k) (if-false _ _ _ h ∙ if-false _ _ _ e)
 
@@ -72,9 +76,11 @@ turns-most : (f b n : ℕ) (s : Flow) → turnsIn f b n s ≤ 3 * (n - s .from) 
 unfolding turnsIn
 turns-most f b n s =
     if-case (λ (k : ℕ). 3 * (n - s .from) + k ≤ 3 * (n - s .from) + 2) (s .inside) 0 _ (λ _. omega arith)
-    (λ _. if-case (λ (k : ℕ). 3 * (n - s .from) + k ≤ 3 * (n - s .from) + 2) (entersOn f b (s .pen .on) (s .pen .used) (s .left)) 1 2 (λ _. omega arith) (λ _. omega arith))
+    (λ _. if-case (λ (k : ℕ). 3 * (n - s .from) + k ≤ 3 * (n - s .from) + 2)
+    (entersOn f b (s .pen .on) (s .pen .used) (s .left)) 1 2 (λ _. omega arith) (λ _. omega arith))
 
-pub flowing-partable : (lay : Bool) (f b : ℕ) (j : Job) (piece : List ℕ) (s : Flow) (o : List ℕ) → Flowing lay f b j piece s o → s .inside ≡ true
+pub flowing-partable : (lay : Bool) (f b : ℕ) (j : Job) (piece : List ℕ) (s : Flow) (o : List ℕ) → Flowing lay f b j piece s o
+    → s .inside ≡ true
     → Partable lay (length piece) s (length o)
 flowing-partable lay f b j piece s o w h =
     let least : s .pen .used + s .seg ≤ b = w .good .fits h in
@@ -97,9 +103,11 @@ flowing-partable lay f b j piece s o w h =
           let few : m ≤ length x = omega (arith, seg) in
           let size : length (take m x) ≡ m = length-take-le m x few in
           let r : s .pen .at + 3 + s .pen .used + length (take m x) ≤ length o
-          = room-unit f b j (s .pen) o (take m x) (within (s .seg) x (a .later)) (within (s .seg - m) (drop m x) (a .later)) (a .next) (w .good .on h) (w .given)
+          = room-unit f b j (s .pen) o (take m x) (within (s .seg) x (a .later)) (within (s .seg - m) (drop m x) (a .later))
+          (a .next) (w .good .on h) (w .given)
           (some-fill f b true (s .pen .used) (s .seg) m x (a .later) (omega arith) (omega (arith, seg, left))
-          ∙ ap (λ (n : ℕ). take m x ++ fillDue f b true (s .pen .used + n) (within (s .seg - m) (drop m x) (a .later))) (sym size))
+          ∙ ap (λ (n : ℕ). take m x ++ fillDue f b true (s .pen .used + n) (within (s .seg - m) (drop m x) (a .later)))
+          (sym size))
           (subst (λ (u : PassEnd). EndsWithin u (length o)) (flowed-in true f b j s o x (a .later) (a .next) h) (a .fits)) in
           omega arith;
     }
@@ -167,7 +175,8 @@ module _ (lay : Bool) (f b : ℕ) (j : Job) (piece : List ℕ) (s : Flow) (o : L
           let m : ℕ = taken f b (p .used) (length (a .first)) in
           let c : length (controlWord f i m) ≡ wordOf f = length-control f i m in
           let r : p .at + 3 + p .used + length (controlWord f i m) ≤ length o
-          = room-unit f b j p o (controlWord f i m) (between (going (a .begun) (a .first) (a .later))) (within m (a .first) (a .later)) (a .next) is-on (wanting .given)
+          = room-unit f b j p o (controlWord f i m) (between (going (a .begun) (a .first) (a .later)))
+          (within m (a .first) (a .later)) (a .next) is-on (wanting .given)
           (enter-fill f b (p .used) (a .begun) (a .first) n (a .later) ∙ ap (λ (z : ℕ). controlWord f i m ++ fillDue f b true (p .used + z) (within m (a .first) (a .later))) (sym c)) (a .fits) in
           omega arith
 
@@ -176,14 +185,16 @@ module _ (lay : Bool) (f b : ℕ) (j : Job) (piece : List ℕ) (s : Flow) (o : L
           record {
             enters = goes-in;
             most = wanting .most;
-            place = omega (arith, wanting .sound .place, wanting .sound .within, wanting .sound .reels .few, wanting .sound .turn);
+            place =
+                omega (arith, wanting .sound .place, wanting .sound .within, wanting .sound .reels .few, wanting .sound .turn);
             room = word-free;
           }
 
       abbrev seg : ℕ
       seg = taken f b (p .used) (s .left)
 
-      head-same : (z x : List ℕ) (xs : List (List ℕ)) (next : Sequel) → z ≡ inkAt lay o (p .at + 3 + p .used) (controlWord f (indicatorOf (s .begun) seg (s .left)) seg)
+      head-same : (z x : List ℕ) (xs : List (List ℕ)) (next : Sequel)
+          → z ≡ inkAt lay o (p .at + 3 + p .used) (controlWord f (indicatorOf (s .begun) seg (s .left)) seg)
           → length x ≡ s .left → flowed lay f b j (headed f b s) z x xs next ≡ flowed lay f b j s o x xs next
       head-same z x xs next l size =
           let n : enters f b (p .used) (length x) ≡ true = ap (enters f b (p .used)) size ∙ goes-in in
@@ -195,9 +206,12 @@ module _ (lay : Bool) (f b : ℕ) (j : Job) (piece : List ℕ) (s : Flow) (o : L
           flowed-in lay f b j (headed f b s) z x xs next refl
           ∙ ap (λ (d : ℕ). penned lay f b j (more p (wordOf f)) z (within (taken f b (p .used) d) x xs) next) (sym size)
           ∙ ap (λ (d : List ℕ). penned lay f b j (more p (wordOf f)) d (within m x xs) next) v
-          ∙ ap (λ (d : ℕ). penned lay f b j (more p d) (inkAt lay o (p .at + 3 + p .used) (controlWord f i m)) (within m x xs) next) (sym c)
-          ∙ penned-unit f b j p o (controlWord f i m) (between (going (s .begun) x xs)) (within m x xs) next is-on (wanting .given)
-          (enter-fill f b (p .used) (s .begun) x n xs ∙ ap (λ (d : ℕ). controlWord f i m ++ fillDue f b true (p .used + d) (within m x xs)) (sym c))
+          ∙ ap (λ (d : ℕ). penned lay f b j (more p d) (inkAt lay o (p .at + 3 + p .used) (controlWord f i m))
+          (within m x xs) next) (sym c)
+          ∙ penned-unit f b j p o (controlWord f i m) (between (going (s .begun) x xs)) (within m x xs) next is-on
+          (wanting .given)
+          (enter-fill f b (p .used) (s .begun) x n xs
+          ∙ ap (λ (d : ℕ). controlWord f i m ++ fillDue f b true (p .used + d) (within m x xs)) (sym c))
           lay (λ w. let r = word-free w in omega arith)
           (enter-left f b (p .used) (s .begun) x n xs ∙ ap (λ (d : ℕ). leftDue f b true (p .used + d) (within m x xs)) (sym c))
           ∙ sym (flowed-out lay f b j s o x xs next out)
@@ -256,7 +270,17 @@ module _ (lay : Bool) (f b : ℕ) (j : Job) (piece : List ℕ) (s : Flow) (o : L
         turn-open-kept = y .kept
 
         abbrev next : Flow
-        next = record { pen = r; left = s .left; seg = s .seg; from = s .from; begun = s .begun; inside = false; on = not (r .short) }
+        next =
+            record {
+              pen = r;
+              left = s .left;
+              seg = s .seg;
+              from = s .from;
+              begun = s .begun;
+              inside = false;
+              on = not
+                  (r .short);
+            }
 
         blocked : Blocked lay f b j (s .left) (s .pen) o q r
         blocked = blocked-next lay f b j (s .left) (s .pen) o wanting t e h q r y
@@ -301,7 +325,13 @@ module _ (lay : Bool) (f b : ℕ) (j : Job) (piece : List ℕ) (s : Flow) (o : L
               falls =
                   λ w.
                   let n = is-given w in
-                  omega (arith, turns-begin f b (length piece) next refl (sym (enters-on f b (r .on) (r .used) (s .left) true (blocked .on n) (sym (blocked .room n)))), turns-open f b (length piece) s out (sym e ∙ h));
+                  omega (
+                    arith,
+                    turns-begin f b (length piece) next refl
+                        (sym (enters-on f b (r .on) (r .used) (s .left) true (blocked .on n) (sym (blocked .room n)))),
+                    turns-open f b
+                        (length piece) s out (sym e ∙ h),
+                  );
               over = λ w d. absurd (false≢true (sym d ∙ is-short w));
               out = λ w d. absurd (false≢true (sym d ∙ is-short w));
             }
@@ -317,7 +347,8 @@ pub record Packing (lay : Bool) (f b : ℕ) (j : Job) (piece : List ℕ) (s : Fl
   pub over : r .on ≡ false → r .pen .short ≡ false → r .from ≡ length piece
   pub out : r .on ≡ false → r .pen .short ≡ false → r .inside ≡ false → 0 < r .left
 
-pub packing-none : (lay : Bool) (f b : ℕ) (j : Job) (piece : List ℕ) (s : Flow) (o : List ℕ) → Packable lay f b j piece s o → s .on ≡ true → Packing lay f b j piece s o o s
+pub packing-none : (lay : Bool) (f b : ℕ) (j : Job) (piece : List ℕ) (s : Flow) (o : List ℕ) → Packable lay f b j piece s o
+    → s .on ≡ true → Packing lay f b j piece s o o s
 packing-none lay f b j piece s o k h =
     record {
       goes =
@@ -335,7 +366,8 @@ packing-none lay f b j piece s o k h =
       out = λ e. absurd (false≢true (sym e ∙ h));
     }
 
-module _ (lay : Bool) (f b : ℕ) (j : Job) (piece : List ℕ) (s : Flow) (o q : List ℕ) (r : Flow) (x : Packing lay f b j piece s o q r) where
+module _ (lay : Bool) (f b : ℕ) (j : Job) (piece : List ℕ) (s : Flow) (o q : List ℕ) (r : Flow)
+    (x : Packing lay f b j piece s o q r) where
   pub packing-packable : r .on ≡ true → Packable lay f b j piece r q
   packing-packable h = x .packable h
 
@@ -364,7 +396,8 @@ module _ (lay : Bool) (f b : ℕ) (j : Job) (piece : List ℕ) (s : Flow) (o q :
 unfoldable pub turnsLeft : ℕ → ℕ → ℕ → Flow → ℕ
 turnsLeft f b n s = ifB (s .on) (suc (turnsIn f b n s)) 0
 
-pub turns-fall : (lay : Bool) (f b : ℕ) (j : Job) (piece : List ℕ) (s : Flow) (o q : List ℕ) (r : Flow) → s .on ≡ true → Turns lay f b j piece s o q r
+pub turns-fall : (lay : Bool) (f b : ℕ) (j : Job) (piece : List ℕ) (s : Flow) (o q : List ℕ) (r : Flow) → s .on ≡ true
+    → Turns lay f b j piece s o q r
     → turnsLeft f b (length piece) r < turnsLeft f b (length piece) s
 unfolding turnsLeft
 turns-fall lay f b j piece s o q r h y =

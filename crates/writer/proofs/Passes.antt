@@ -1,4 +1,5 @@
--- How a pass ends, from before and behind a step of the pen: closing a block, opening one, items between blocks, and bytes into the open block.
+-- How a pass ends, from before and behind a step of the pen: closing a block, opening one, items between blocks, and bytes into
+-- the open block.
 -- Assumes nothing.
 use mathlib.Core.Path.{_≡_, refl, sym, ap, _∙_}
 use mathlib.Core.Bool.{Bool, true, false, false≢true}
@@ -30,7 +31,8 @@ put-same o a n h =
     front : (s : List ℕ) (i k : ℕ) → take i s ++ part i k s ≡ take (i + k) s
     front s i k = unfold part in sym (take-add i k s)
 
-pub put-apart : (o : List ℕ) (at i : ℕ) (xs ys : List ℕ) → at + length xs ≤ i → i ≤ length o → putAt (putAt o at xs) i ys ≡ putAt (putAt o i ys) at xs
+pub put-apart : (o : List ℕ) (at i : ℕ) (xs ys : List ℕ) → at + length xs ≤ i → i ≤ length o
+    → putAt (putAt o at xs) i ys ≡ putAt (putAt o i ys) at xs
 put-apart o at i xs ys h k =
     let m : List ℕ = part (at + length xs) (i - (at + length xs)) o in
     let size : length m ≡ i - (at + length xs) = length-part (at + length xs) (i - (at + length xs)) o (omega arith) in
@@ -45,7 +47,8 @@ put-apart o at i xs ys h k =
     ∙ put-put o at (xs ++ m) ys (omega arith)
     ∙ ap (putAt o at) (append-assoc xs m ys)
     ∙ sym (put-before o at xs (m ++ ys) room)
-    ∙ ap (λ (l : List ℕ). putAt l at xs) (sym (put-put o (at + length xs) m ys (omega arith)) ∙ ap (λ (l : List ℕ). putAt l (at + length xs + length m) ys) same)
+    ∙ ap (λ (l : List ℕ). putAt l at xs)
+    (sym (put-put o (at + length xs) m ys (omega arith)) ∙ ap (λ (l : List ℕ). putAt l (at + length xs + length m) ys) same)
     ∙ ap (λ (n : ℕ). putAt (putAt o n ys) at xs) (sym place)
 
 -- ---- what a pass that does not lay leaves, and how long the buffer is
@@ -54,7 +57,8 @@ pub ink-none : (lay : Bool) (o : List ℕ) (at : ℕ) (bs : List ℕ) → lay �
 unfolding inkAt
 ink-none lay o at bs e = if-false _ _ _ e
 
-pub ink-length : (lay : Bool) (o : List ℕ) (at : ℕ) (bs : List ℕ) → (lay ≡ true → at + length bs ≤ length o) → length (inkAt lay o at bs) ≡ length o
+pub ink-length : (lay : Bool) (o : List ℕ) (at : ℕ) (bs : List ℕ) → (lay ≡ true → at + length bs ≤ length o)
+    → length (inkAt lay o at bs) ≡ length o
 unfolding inkAt ifB
 ink-length true o at bs h = length-put o at bs (h refl)
 ink-length false o at bs h = refl
@@ -63,7 +67,8 @@ ink-length false o at bs h = refl
 
 -- bytes into the open block
 pub outcome-unit : (lay : Bool) (at u : ℕ) (o v cs : List ℕ) (l : Laid) → (lay ≡ true → at + 3 + u + length v ≤ length o)
-    → outcome lay true at (u + length v) (inkAt lay o (at + 3 + u) v) (inked (u + length v) cs l) ≡ outcome lay true at u o (inked u (v ++ cs) l)
+    → outcome lay true at (u + length v) (inkAt lay o (at + 3 + u) v) (inked (u + length v) cs l)
+    ≡ outcome lay true at u o (inked u (v ++ cs) l)
 unfolding outcome inked inkAt inkedAt behind ifB
 outcome-unit lay at u o v cs short h = refl
 outcome-unit true at u o v cs (laid xs) h =
@@ -71,7 +76,8 @@ outcome-unit true at u o v cs (laid xs) h =
     let place : at + 3 + (u + length v) ≡ at + 3 + u + length v = omega arith in
     let long : at + 3 + (u + length v) + length (cs ++ encode xs) ≡ at + 3 + u + length (v ++ cs ++ encode xs) = simp length-append (omega arith) in
     let bytes : putAt (putAt o (at + 3 + u) v) (at + 3 + (u + length v)) (cs ++ encode xs) ≡ putAt o (at + 3 + u) (v ++ cs ++ encode xs)
-    = ap (λ (k : ℕ). putAt (putAt o (at + 3 + u) v) k (cs ++ encode xs)) place ∙ put-put o (at + 3 + u) v (cs ++ encode xs) (h refl)
+    = ap (λ (k : ℕ). putAt (putAt o (at + 3 + u) v) k (cs ++ encode xs)) place
+    ∙ put-put o (at + 3 + u) v (cs ++ encode xs) (h refl)
     ∙ ap (putAt o (at + 3 + u)) (sym (append-assoc v cs (encode xs))) in
     let all : putAt (putAt (putAt o (at + 3 + u) v) (at + 3 + (u + length v)) (cs ++ encode xs)) at (three (u + length v + length cs))
     ≡ putAt (putAt o (at + 3 + u) (v ++ cs ++ encode xs)) at (three (u + length (v ++ cs)))
@@ -118,8 +124,10 @@ outcome-open false at n o y (laid xs) h =
     λ i. record { out = o; end = long i; short = false }
 
 -- items between blocks
-pub outcome-items : (lay : Bool) (at n m : ℕ) (o : List ℕ) (ys : List Item) (l : Laid) → (lay ≡ true → at + length (encode ys) ≤ length o)
-    → outcome lay false (at + length (encode ys)) n (inkAt lay o at (encode ys)) (inked n [] l) ≡ outcome lay false at m o (inked m [] (put ys l))
+pub outcome-items : (lay : Bool) (at n m : ℕ) (o : List ℕ) (ys : List Item) (l : Laid)
+    → (lay ≡ true → at + length (encode ys) ≤ length o)
+    → outcome lay false (at + length (encode ys)) n (inkAt lay o at (encode ys)) (inked n [] l)
+    ≡ outcome lay false at m o (inked m [] (put ys l))
 unfolding outcome inked inkAt inkedAt behind ifB put
 outcome-items lay at n m o ys short h = refl
 outcome-items true at n m o ys (laid xs) h =
@@ -135,7 +143,8 @@ outcome-items false at n m o ys (laid xs) h =
 
 -- ---- room: what is to be written has it
 
-pub fits-unit : (lay : Bool) (at u : ℕ) (o v cs : List ℕ) (l : Laid) (size : ℕ) → EndsWithin (outcome lay true at u o (inked u (v ++ cs) l)) size
+pub fits-unit : (lay : Bool) (at u : ℕ) (o v cs : List ℕ) (l : Laid) (size : ℕ)
+    → EndsWithin (outcome lay true at u o (inked u (v ++ cs) l)) size
     → (at + 3 + u + length v ≤ size) × (at + 3 + u + length v < overLong)
 unfolding outcome inked behind ifB
 fits-unit lay at u o v cs short size w = absurd (false≢true (sym (w .given)))
@@ -145,7 +154,8 @@ fits-unit lay at u o v cs (laid xs) size w =
     let most : at + 3 + u + length (v ++ cs ++ encode xs) < overLong = w .most in
     (omega arith, omega arith)
 
-pub fits-items : (lay : Bool) (at n : ℕ) (o : List ℕ) (ys : List Item) (l : Laid) (size : ℕ) → EndsWithin (outcome lay false at n o (inked n [] (put ys l))) size
+pub fits-items : (lay : Bool) (at n : ℕ) (o : List ℕ) (ys : List Item) (l : Laid) (size : ℕ)
+    → EndsWithin (outcome lay false at n o (inked n [] (put ys l))) size
     → (at + length (encode ys) ≤ size) × (at + length (encode ys) < overLong)
 unfolding outcome inked behind ifB put
 fits-items lay at n o ys short size w = absurd (false≢true (sym (w .given)))

@@ -29,7 +29,8 @@ use Rattle.writer.proofs.Passes.{ink-none, ink-length, outcome-close, o
 
 -- ---- how a pass ends from a pen that is not short
 
-pub ends-given : (lay : Bool) (j : Job) (p : Pen) (o cs : List ℕ) (bs : List (List ℕ)) (next : Sequel) (t : Bool) → p .short ≡ false → p .on ≡ t
+pub ends-given : (lay : Bool) (j : Job) (p : Pen) (o cs : List ℕ) (bs : List (List ℕ)) (next : Sequel) (t : Bool)
+    → p .short ≡ false → p .on ≡ t
     → ends lay j p o cs bs next ≡ outcome lay t (p .at) (p .used) o (inked (p .used) cs (restOf j p bs next))
 unfolding ends
 ends-given lay j p o cs bs next t e h =
@@ -81,7 +82,8 @@ module _ (lay : Bool) (p : Pen) (o : List ℕ) (c : Closable lay p (length o)) w
   closes-kept : (q : List ℕ) → p .on ≡ true → q ≡ inkAt lay o (p .at) (three (p .used)) → length q ≡ length o
   closes-kept q h e = ap length e ∙ ink-length lay o (p .at) (three (p .used)) (word-room h)
 
-  closes-same : (q : List ℕ) → p .on ≡ true → q ≡ inkAt lay o (p .at) (three (p .used)) → (j : Job) (bs : List (List ℕ)) (next : Sequel)
+  closes-same : (q : List ℕ) → p .on ≡ true → q ≡ inkAt lay o (p .at) (three (p .used))
+      → (j : Job) (bs : List (List ℕ)) (next : Sequel)
       → ends lay j (closed p) q [] bs next ≡ ends lay j p o [] bs next
   unfolding restOf
   closes-same q h e j bs next =
@@ -127,7 +129,8 @@ module _ (lay : Bool) (p : Pen) (o : List ℕ) (c : Closable lay p (length o)) w
   pub closes-measured : p .on ≡ true → lay ≡ false → Closes lay p o o (closed p)
   closes-measured h l = closes-on o h (sym (ink-none lay o (p .at) (three (p .used)) l))
 
-pub ruleset closing = (close-small, close-room, close-word-fits, close-fits, closes-none, closes-laid, closes-measured, puts-kept, needs)
+pub ruleset closing =
+    (close-small, close-room, close-word-fits, close-fits, closes-none, closes-laid, closes-measured, puts-kept, needs)
 
 -- ---- the reels that are left
 
@@ -147,9 +150,12 @@ reels-some rooms names i r h =
     let l : length (drop (6 * i) names) ≡ length names - 6 * i = length-drop (6 * i) names in
     let six : 6 * i + 6 ≡ 6 * (i + 1) = omega arith in
     ap (λ (qs : List ℕ). reelsFrom qs (inParts 6 (drop (6 * i) names))) (drop-cons rooms i 0 h)
-    ∙ ap (reelsFrom (getD rooms i 0 ∷ drop (suc i) rooms)) (parts-some 6 (drop (6 * i) names) (omega arith) (omega (arith, r .whole)))
-    ∙ ap (λ (k : ℕ). record { name = take 6 (drop (6 * i) names); room = getD rooms i 0 } ∷ reelsFrom (drop k rooms) (inParts 6 (drop 6 (drop (6 * i) names)))) (sym (add-one i))
-    ∙ ap (λ (s : List ℕ). record { name = take 6 (drop (6 * i) names); room = getD rooms i 0 } ∷ reelsFrom (drop (i + 1) rooms) (inParts 6 s))
+    ∙ ap (reelsFrom (getD rooms i 0 ∷ drop (suc i) rooms))
+    (parts-some 6 (drop (6 * i) names) (omega arith) (omega (arith, r .whole)))
+    ∙ ap (λ (k : ℕ). record { name = take 6 (drop (6 * i) names); room = getD rooms i 0 } ∷
+    reelsFrom (drop k rooms) (inParts 6 (drop 6 (drop (6 * i) names)))) (sym (add-one i))
+    ∙ ap (λ (s : List ℕ). record { name = take 6 (drop (6 * i) names); room = getD rooms i 0 } ∷
+    reelsFrom (drop (i + 1) rooms) (inParts 6 s))
     (drop-drop 6 (6 * i) names ∙ ap (λ (k : ℕ). drop k names) six)
 
 -- ---- the change of the reel
@@ -160,7 +166,8 @@ changed j p =
     ++ (block (madeVolume (part (6 * p .next) 6 (j .names))) ∷ headers (j .set) (j .entry) (suc (p .section)) (j .sequence))
 
 length-changed : (j : Job) (p : Pen) → length (encode (changed j p)) ≡ 430
-length-changed j p = length-change (j .set) (j .entry) (p .section) (j .sequence) (p .count) (suc (p .section)) (part (6 * p .next) 6 (j .names))
+length-changed j p =
+    length-change (j .set) (j .entry) (p .section) (j .sequence) (p .count) (suc (p .section)) (part (6 * p .next) 6 (j .names))
 
 -- with no room, and a reel left: the reel is changed, and then there is room
 abbrev roomNext : Job → Pen → ℕ
@@ -173,24 +180,31 @@ next-reel j p =
 abbrev resting : Job → Pen → ℕ → ℕ → List Reel → List (List ℕ) → Sequel → Laid
 resting j p count room reels bs next = rest (j .set) (j .entry) (j .sequence) (suc (p .section)) count room reels bs next
 
-rest-change : (j : Job) (p : Pen) (y : List ℕ) (ys : List (List ℕ)) (next : Sequel) → Reels (j .rooms) (j .names) → p .room ≡ 0 → p .next < length (j .rooms)
+rest-change : (j : Job) (p : Pen) (y : List ℕ) (ys : List (List ℕ)) (next : Sequel) → Reels (j .rooms) (j .names) → p .room ≡ 0
+    → p .next < length (j .rooms)
     → put (changed j p) (restOf j (next-reel j p) (y ∷ ys) next) ≡ restOf j p (y ∷ ys) next
 unfolding restOf rest
 rest-change j p y ys next r none n =
     let some : 1 ≤ roomNext j p = r .least (p .next) n in
     let more : roomNext j p ≡ suc (pred (roomNext j p)) = omega arith in
     let left : List Reel = reelsAt (j .rooms) (j .names) (p .next + 1) in
-    ap (λ (k : ℕ). put (changed j p) (rest (j .set) (j .entry) (j .sequence) k 0 (roomNext j p) left (y ∷ ys) next)) (add-one (p .section))
+    ap (λ (k : ℕ). put (changed j p) (rest (j .set) (j .entry) (j .sequence) k 0 (roomNext j p) left (y ∷ ys) next))
+    (add-one (p .section))
     ∙ ap (λ (k : ℕ). put (changed j p) (resting j p 0 k left (y ∷ ys) next)) more
     ∙ sym (put-append (changed j p) (block y ∷ []) (resting j p 1 (pred (roomNext j p)) left ys next))
-    ∙ ap (λ (rs : List Reel). rest (j .set) (j .entry) (j .sequence) (p .section) (p .count) 0 rs (y ∷ ys) next) (sym (reels-some (j .rooms) (j .names) (p .next) r n))
-    ∙ ap (λ (k : ℕ). rest (j .set) (j .entry) (j .sequence) (p .section) (p .count) k (reelsAt (j .rooms) (j .names) (p .next)) (y ∷ ys) next) (sym none)
+    ∙ ap (λ (rs : List Reel). rest (j .set) (j .entry) (j .sequence) (p .section) (p .count) 0 rs (y ∷ ys) next)
+    (sym (reels-some (j .rooms) (j .names) (p .next) r n))
+    ∙ ap (λ (k : ℕ). rest (j .set) (j .entry) (j .sequence) (p .section) (p .count) k (reelsAt (j .rooms) (j .names) (p .next))
+    (y ∷ ys) next) (sym none)
 
-rest-short : (j : Job) (p : Pen) (y : List ℕ) (ys : List (List ℕ)) (next : Sequel) → p .room ≡ 0 → length (j .rooms) ≤ p .next → restOf j p (y ∷ ys) next ≡ short
+rest-short : (j : Job) (p : Pen) (y : List ℕ) (ys : List (List ℕ)) (next : Sequel) → p .room ≡ 0 → length (j .rooms) ≤ p .next
+    → restOf j p (y ∷ ys) next ≡ short
 unfolding restOf rest
 rest-short j p y ys next none n =
-    ap (λ (k : ℕ). rest (j .set) (j .entry) (j .sequence) (p .section) (p .count) k (reelsAt (j .rooms) (j .names) (p .next)) (y ∷ ys) next) none
-    ∙ ap (λ (rs : List Reel). rest (j .set) (j .entry) (j .sequence) (p .section) (p .count) 0 rs (y ∷ ys) next) (reels-none (j .rooms) (j .names) (p .next) n)
+    ap (λ (k : ℕ). rest (j .set) (j .entry) (j .sequence) (p .section) (p .count) k (reelsAt (j .rooms) (j .names) (p .next))
+    (y ∷ ys) next) none
+    ∙ ap (λ (rs : List Reel). rest (j .set) (j .entry) (j .sequence) (p .section) (p .count) 0 rs (y ∷ ys) next)
+    (reels-none (j .rooms) (j .names) (p .next) n)
 
 module _ (lay : Bool) (j : Job) (p : Pen) (o : List ℕ) (ready : Ready lay j p o) (shut : p .on ≡ false) (none : p .room ≡ 0) where
   sound : Sound j p
@@ -200,7 +214,8 @@ module _ (lay : Bool) (j : Job) (p : Pen) (o : List ℕ) (ready : Ready lay j p 
   given = ready .given
 
   pub changes-short : length (j .rooms) ≤ p .next
-      → Changes lay j p o o (record { at = p .at; used = 0; room = p .room; next = p .next; section = p .section; count = p .count; on = false; short = true })
+      → Changes lay j p o o
+      (record { at = p .at; used = 0; room = p .room; next = p .next; section = p .section; count = p .count; on = false; short = true })
   unfolding outcome inked
   changes-short n =
       record {
@@ -229,13 +244,15 @@ module _ (lay : Bool) (j : Job) (p : Pen) (o : List ℕ) (ready : Ready lay j p 
       }
 
   module _ (n : p .next < length (j .rooms)) where
-    items-room : lay ≡ true → (p .at + length (encode (changed j p)) ≤ length o) × (p .at + length (encode (changed j p)) < overLong)
+    items-room : lay ≡ true
+        → (p .at + length (encode (changed j p)) ≤ length o) × (p .at + length (encode (changed j p)) < overLong)
     items-room l =
         let a = ready .ahead l in
         fits-items true (p .at) (p .used) o (changed j p) (restOf j (next-reel j p) (a .first ∷ a .later) (a .next)) (length o)
         (subst (λ (w : PassEnd). EndsWithin w (length o))
         (ends-given true j p o [] (a .first ∷ a .later) (a .next) false given shut
-        ∙ ap (λ (l : Laid). outcome true false (p .at) (p .used) o (inked (p .used) [] l)) (sym (rest-change j p (a .first) (a .later) (a .next) (sound .reels) none n)))
+        ∙ ap (λ (l : Laid). outcome true false (p .at) (p .used) o (inked (p .used) [] l))
+        (sym (rest-change j p (a .first) (a .later) (a .next) (sound .reels) none n)))
         (a .fits))
 
     some : 1 ≤ roomNext j p
@@ -270,9 +287,12 @@ module _ (lay : Bool) (j : Job) (p : Pen) (o : List ℕ) (ready : Ready lay j p 
               λ y ys next.
               ends-given lay j (next-reel j p) q [] (y ∷ ys) next false refl refl
               ∙ ap (λ (l : List ℕ). outcome lay false (p .at + 430) 0 l (inked 0 [] (restOf j (next-reel j p) (y ∷ ys) next))) e
-              ∙ ap (λ (k : ℕ). outcome lay false (p .at + k) 0 (inkAt lay o (p .at) (encode (changed j p))) (inked 0 [] (restOf j (next-reel j p) (y ∷ ys) next))) (sym (length-changed j p))
-              ∙ outcome-items lay (p .at) 0 (p .used) o (changed j p) (restOf j (next-reel j p) (y ∷ ys) next) (λ l. items-room l .0)
-              ∙ ap (λ (l : Laid). outcome lay false (p .at) (p .used) o (inked (p .used) [] l)) (rest-change j p y ys next (sound .reels) none n)
+              ∙ ap (λ (k : ℕ). outcome lay false (p .at + k) 0 (inkAt lay o (p .at) (encode (changed j p)))
+              (inked 0 [] (restOf j (next-reel j p) (y ∷ ys) next))) (sym (length-changed j p))
+              ∙ outcome-items lay (p .at) 0 (p .used) o (changed j p) (restOf j (next-reel j p) (y ∷ ys) next)
+              (λ l. items-room l .0)
+              ∙ ap (λ (l : Laid). outcome lay false (p .at) (p .used) o (inked (p .used) [] l))
+              (rest-change j p y ys next (sound .reels) none n)
               ∙ sym (ends-given lay j p o [] (y ∷ ys) next false given shut);
         }
 
@@ -280,7 +300,9 @@ module _ (lay : Bool) (j : Job) (p : Pen) (o : List ℕ) (ready : Ready lay j p 
     changes-measured l = changed-by o (sym (ink-none lay o (p .at) (encode (changed j p)) l))
 
     changes-puts : (q name : List ℕ) → lay ≡ true → name ≡ part (6 * p .next) 6 (j .names)
-        → Puts o (p .at) (encode (volumeEnd (j .set) (j .entry) (p .section) (j .sequence) (p .count) ++ (block (madeVolume name) ∷ headers (j .set) (j .entry) (suc (p .section)) (j .sequence)))) q
+        → Puts o (p .at) (encode
+        (volumeEnd (j .set) (j .entry) (p .section) (j .sequence) (p .count) ++
+        (block (madeVolume name) ∷ headers (j .set) (j .entry) (suc (p .section)) (j .sequence)))) q
         → Changes lay j p o q (next-reel j p)
     changes-puts q name l e w =
         let v : Puts o (p .at) (encode (changed j p)) q
@@ -300,20 +322,27 @@ module _ (lay : Bool) (j : Job) (p : Pen) (o : List ℕ) (ready : Ready lay j p 
   place-small = omega (arith, sound .place, sound .within, sound .reels .few, sound .turn)
 
 -- the name of the next reel, as the label parts have it
-pub changes-laid : (lay : Bool) (labels rooms : List ℕ) (p : Pen) (o : List ℕ) → Ready lay (jobOf labels rooms) p o → p .on ≡ false → p .room ≡ 0 → p .next < length rooms
+pub changes-laid : (lay : Bool) (labels rooms : List ℕ) (p : Pen) (o : List ℕ) → Ready lay (jobOf labels rooms) p o
+    → p .on ≡ false → p .room ≡ 0 → p .next < length rooms
     → (q name : List ℕ) → lay ≡ true → name ≡ part (53 + 6 * p .next) 6 labels
-    → Puts o (p .at) (encode (volumeEnd (setIn labels) (entryIn labels) (p .section) (sequenceIn labels) (p .count) ++ (block (madeVolume name) ∷ headers (setIn labels) (entryIn labels) (suc (p .section)) (sequenceIn labels)))) q
+    → Puts o (p .at) (encode
+    (volumeEnd (setIn labels) (entryIn labels) (p .section) (sequenceIn labels) (p .count) ++
+    (block (madeVolume name) ∷ headers (setIn labels) (entryIn labels) (suc (p .section)) (sequenceIn labels)))) q
     → Changes lay (jobOf labels rooms) p o q (next-reel (jobOf labels rooms) p)
 changes-laid lay labels rooms p o ready shut none n q name l e w =
-    changes-puts lay (jobOf labels rooms) p o ready shut none n q name l (e ∙ sym (part-part 53 (6 * p .next) 6 (6 * length rooms) labels (omega arith))) w
+    changes-puts lay (jobOf labels rooms) p o ready shut none n q name l
+    (e ∙ sym (part-part 53 (6 * p .next) 6 (6 * length rooms) labels (omega arith))) w
 
-pub ruleset changing = (changes-short, changes-measured, changes-laid, changes-room, puts-kept, section-small, next-small, place-small, needs)
+pub ruleset changing =
+    (changes-short, changes-measured, changes-laid, changes-room, puts-kept, section-small, next-small, place-small, needs)
 
 -- ---- the next block
 
 -- this reel has room
-changes-here : (lay : Bool) (j : Job) (p : Pen) (o : List ℕ) → Sound j p → p .on ≡ false → (p .room ≡ 0 → ⊥) → Changes lay j p o o p
-changes-here lay j p o s h n = record { sound = s; kept = refl; untouched = λ _. refl; shut = h; room = λ _. omega arith; same = λ y ys next. refl }
+changes-here : (lay : Bool) (j : Job) (p : Pen) (o : List ℕ) → Sound j p → p .on ≡ false → (p .room ≡ 0 → ⊥)
+    → Changes lay j p o o p
+changes-here lay j p o s h n =
+    record { sound = s; kept = refl; untouched = λ _. refl; shut = h; room = λ _. omega arith; same = λ y ys next. refl }
 
 module _ (lay : Bool) (j : Job) (p : Pen) (o : List ℕ) (ready : Ready lay j p o) where
   pub closable : Closable lay p (length o)
@@ -389,17 +418,22 @@ module _ (lay : Bool) (j : Job) (p : Pen) (o : List ℕ) (ready : Ready lay j p 
     opens-few : d .count < 1000000
     opens-few = omega (arith, y .sound .blocks)
 
-    rest-open : (b : List ℕ) (bs : List (List ℕ)) (next : Sequel) → d .short ≡ false → put (block b ∷ []) (restOf j (opened d) bs next) ≡ restOf j d (b ∷ bs) next
+    rest-open : (b : List ℕ) (bs : List (List ℕ)) (next : Sequel) → d .short ≡ false
+        → put (block b ∷ []) (restOf j (opened d) bs next) ≡ restOf j d (b ∷ bs) next
     unfolding restOf rest
     rest-open b bs next s =
         let some : 1 ≤ d .room = y .room s in
         let more : d .room ≡ suc (d .room - 1) = omega arith in
-        ap (λ (k : ℕ). put (block b ∷ []) (rest (j .set) (j .entry) (j .sequence) (d .section) k (d .room - 1) (reelsAt (j .rooms) (j .names) (d .next)) bs next)) (add-one (d .count))
-        ∙ ap (λ (k : ℕ). rest (j .set) (j .entry) (j .sequence) (d .section) (d .count) k (reelsAt (j .rooms) (j .names) (d .next)) (b ∷ bs) next) (sym more)
+        ap (λ (k : ℕ). put (block b ∷ [])
+        (rest (j .set) (j .entry) (j .sequence) (d .section) k (d .room - 1) (reelsAt (j .rooms) (j .names) (d .next)) bs next))
+        (add-one (d .count))
+        ∙ ap (λ (k : ℕ). rest (j .set) (j .entry) (j .sequence) (d .section) (d .count) k
+        (reelsAt (j .rooms) (j .names) (d .next)) (b ∷ bs) next) (sym more)
 
     -- how it ends before the block, from a reel with room
     ends-ahead : (b : List ℕ) (bs : List (List ℕ)) (next : Sequel) → d .short ≡ false
-        → outcome lay false (d .at) (d .used) z (inked (d .used) [] (put (block b ∷ []) (restOf j (opened d) bs next))) ≡ ends lay j p o [] (b ∷ bs) next
+        → outcome lay false (d .at) (d .used) z (inked (d .used) [] (put (block b ∷ []) (restOf j (opened d) bs next)))
+        ≡ ends lay j p o [] (b ∷ bs) next
     ends-ahead b bs next s =
         ap (λ (l : Laid). outcome lay false (d .at) (d .used) z (inked (d .used) [] l)) (rest-open b bs next s)
         ∙ sym (ends-given lay j d z [] (b ∷ bs) next false s (y .shut))
@@ -409,7 +443,9 @@ module _ (lay : Bool) (j : Job) (p : Pen) (o : List ℕ) (ready : Ready lay j p 
     word-free s l =
         let a = ready .ahead l in
         let e : outcome true false (d .at) (d .used) z (inked (d .used) [] (put (block (a .first) ∷ []) (restOf j (opened d) (a .later) (a .next)))) ≡ ends true j p o [] (a .first ∷ a .later) (a .next)
-        = subst (λ (t : Bool). outcome t false (d .at) (d .used) z (inked (d .used) [] (put (block (a .first) ∷ []) (restOf j (opened d) (a .later) (a .next)))) ≡ ends t j p o [] (a .first ∷ a .later) (a .next)) l
+        = subst (λ (t : Bool). outcome t false (d .at) (d .used) z
+        (inked (d .used) [] (put (block (a .first) ∷ []) (restOf j (opened d) (a .later) (a .next))))
+        ≡ ends t j p o [] (a .first ∷ a .later) (a .next)) l
         (ends-ahead (a .first) (a .later) (a .next) s) in
         let w = subst (λ (u : PassEnd). EndsWithin u (length o)) (sym e) (a .fits) in
         let r = fits-items true (d .at) (d .used) z (block (a .first) ∷ []) (restOf j (opened d) (a .later) (a .next)) (length o) w in
@@ -457,7 +493,8 @@ module _ (lay : Bool) (j : Job) (p : Pen) (o : List ℕ) (ready : Ready lay j p 
     -- the block is opened on this reel
     pub opens-here : (r : Pen) → (c .room ≡ 0 → ⊥) → r ≡ opened c → Opens lay j p o q r
     opens-here r n e =
-        opens-on q c (turned-by q c x q c (changes-here lay j c q (x .sound j (ready .sound)) (x .shut) n)) r (x .short ∙ ready .given) e
+        opens-on q c (turned-by q c x q c (changes-here lay j c q (x .sound j (ready .sound)) (x .shut) n)) r
+        (x .short ∙ ready .given) e
 
     module _ (z : List ℕ) (d : Pen) (y : Changes lay j c q z d) where
       pub next-kept : length z ≡ length o
@@ -476,4 +513,5 @@ module _ (lay : Bool) (j : Job) (p : Pen) (o : List ℕ) (ready : Ready lay j p 
       pub opens-next : (r : Pen) → d .short ≡ false → r ≡ opened d → Opens lay j p o z r
       opens-next r s e = opens-on z d (turned-by q c x z d y) r s e
 
-pub ruleset opening = (closable, closed-shut, closed-ready, here-kept, here-few, opens-here, next-kept, next-short, next-room, next-few, opens-next, needs)
+pub ruleset opening =
+    (closable, closed-shut, closed-ready, here-kept, here-few, opens-here, next-kept, next-short, next-room, next-few, opens-next, needs)

@@ -32,7 +32,8 @@ pub record PiecesLeft (lay : Bool) (f b : ℕ) (j : Job) (zs : List ℕ) (s : Fl
   pub settled : Settled s
   pub ahead : lay ≡ true → Following f b j zs s o
 
-module _ (lay : Bool) (f b : ℕ) (j : Job) (piece zs : List ℕ) (s : Flow) (o : List ℕ) (w : PiecesLeft lay f b j (piece ++ zs) s o) where
+module _ (lay : Bool) (f b : ℕ) (j : Job) (piece zs : List ℕ) (s : Flow) (o : List ℕ)
+    (w : PiecesLeft lay f b j (piece ++ zs) s o) where
   all : drop (s .from) piece ++ zs ≡ piece ++ zs
   all = ap (λ (n : ℕ). drop n piece ++ zs) (w .from)
 
@@ -65,7 +66,9 @@ module _ (lay : Bool) (f b : ℕ) (j : Job) (piece zs : List ℕ) (s : Flow) (o 
                     next = a .next;
                     size = omega (arith, w .from, w .size);
                     room = a .room;
-                    fits = subst (λ (x : List ℕ). EndsWithin (flowed true f b j s o x (a .later) (a .next)) (length o)) (sym all) (a .fits);
+                    fits =
+                        subst (λ (x : List ℕ). EndsWithin (flowed true f b j s o x (a .later) (a .next)) (length o)) (sym all)
+                        (a .fits);
                   };
             };
         settled = w .settled;
@@ -75,7 +78,8 @@ module _ (lay : Bool) (f b : ℕ) (j : Job) (piece zs : List ℕ) (s : Flow) (o 
     rest : drop (r .from) piece ++ zs ≡ zs
     rest = let e : length piece ≤ r .from = omega (arith, x .over h) in ap (λ (l : List ℕ). l ++ zs) (drop-of-length-le piece e)
 
-    pub pieces-same : (xs : List (List ℕ)) (next : Sequel) → RoomEach f b xs → flowed lay f b j (reset r) q zs xs next ≡ flowed lay f b j s o (piece ++ zs) xs next
+    pub pieces-same : (xs : List (List ℕ)) (next : Sequel) → RoomEach f b xs
+        → flowed lay f b j (reset r) q zs xs next ≡ flowed lay f b j s o (piece ++ zs) xs next
     unfolding flowed
     pieces-same xs next room =
         let long : length (piece ++ zs) ≡ length piece + length zs = length-append piece zs in
@@ -109,7 +113,8 @@ module _ (lay : Bool) (f b : ℕ) (j : Job) (piece zs : List ℕ) (s : Flow) (o 
               λ l.
               let a = w .ahead l in
               let e : flowed true f b j (reset r) q zs (a .later) (a .next) ≡ flowed true f b j s o (piece ++ zs) (a .later) (a .next)
-              = subst (λ (t : Bool). flowed t f b j (reset r) q zs (a .later) (a .next) ≡ flowed t f b j s o (piece ++ zs) (a .later) (a .next)) l
+              = subst (λ (t : Bool). flowed t f b j (reset r) q zs (a .later) (a .next)
+              ≡ flowed t f b j s o (piece ++ zs) (a .later) (a .next)) l
               (pieces-same (a .later) (a .next) (a .room)) in
               record {
                 later = a .later;

@@ -98,7 +98,8 @@ pub ruleset nexts = (next-fits, next-in, next-not, needs)
 
 -- ---- a whole record into the open block
 
-module _ (lay : Bool) (f w : ℕ) (bytes : List ℕ) (from n : ℕ) (p : Pen) (o : List ℕ) (word : w ≡ wordOf f) (y : Wholable lay f bytes from n p (length o)) where
+module _ (lay : Bool) (f w : ℕ) (bytes : List ℕ) (from n : ℕ) (p : Pen) (o : List ℕ) (word : w ≡ wordOf f)
+    (y : Wholable lay f bytes from n p (length o)) where
   pub whole-at-fits : FitsIn w64 (p .at + 3)
   whole-at-fits = record { fits = omega (arith, y .place) }
 
@@ -129,7 +130,8 @@ module _ (lay : Bool) (f w : ℕ) (bytes : List ℕ) (from n : ℕ) (p : Pen) (o
   pub whole-measured : (r : Pen) → r ≡ more p (w + n) → lay ≡ false → Wholed lay f bytes from n p o o r
   whole-measured r e l = record { is = whole-is r e; laid = ink-not lay o at (controlWord f 0 n ++ part from n bytes) l }
 
-  module _ (l : lay ≡ true) (d q z : List ℕ) (e : d ≡ digits 4 (min (w + n) 9999)) (x : q ≡ putAt o at (wordWith f 0 d)) (v : z ≡ putIn q (at + w) s) where
+  module _ (l : lay ≡ true) (d q z : List ℕ) (e : d ≡ digits 4 (min (w + n) 9999)) (x : q ≡ putAt o at (wordWith f 0 d))
+      (v : z ≡ putIn q (at + w) s) where
     room : at + wordOf f + n ≤ length o
     room = omega (arith, y .room l)
 
@@ -138,17 +140,24 @@ module _ (lay : Bool) (f w : ℕ) (bytes : List ℕ) (from n : ℕ) (p : Pen) (o
 
     pub whole-laid : (r : Pen) → r ≡ more p (w + n) → Wholed lay f bytes from n p o z r
     whole-laid r g =
-        record { is = whole-is r g; laid = ink-put lay o at (controlWord f 0 n ++ part from n bytes) z l (unit-put f 0 n o at w word bytes from (y .inside) (y .small) room d q e x z v) }
+        record {
+          is = whole-is r g;
+          laid = ink-put lay o at (controlWord f 0 n ++ part from n bytes) z l
+              (unit-put f 0 n o at w word bytes from (y .inside) (y .small) room d q e x z v);
+        }
 
 pub ruleset wholes = (whole-at-fits, whole-fits, whole-word-fits, whole-more, whole-inside, whole-word-room, needs)
 
 -- what a whole record leaves due
-module _ (f b u n : ℕ) (x : List ℕ) (size : length x ≡ n) (e : enters f b u n ≡ true) (t : taken f b u n ≡ n) (xs : List (List ℕ)) where
+module _ (f b u n : ℕ) (x : List ℕ) (size : length x ≡ n) (e : enters f b u n ≡ true) (t : taken f b u n ≡ n)
+    (xs : List (List ℕ)) where
   abbrev v : List ℕ
   v = controlWord f 0 n ++ x
 
   v-length : length v ≡ wordOf f + n
-  v-length = length-append (controlWord f 0 n) x ∙ ap (λ (k : ℕ). k + length x) (length-control f 0 n) ∙ ap (λ (k : ℕ). wordOf f + k) size
+  v-length =
+      length-append (controlWord f 0 n) x ∙ ap (λ (k : ℕ). k + length x) (length-control f 0 n)
+      ∙ ap (λ (k : ℕ). wordOf f + k) size
 
   enters-x : enters f b u (length x) ≡ true
   enters-x = ap (enters f b u) size ∙ e
@@ -175,13 +184,15 @@ module _ (f b u n : ℕ) (x : List ℕ) (size : length x ≡ n) (e : enters f b 
   whole-fill =
       enter-fill f b u 0 x enters-x xs
       ∙ ap (λ (k : ℕ). controlWord f (indicatorOf 0 k (length x)) k ++ fillDue f b true (u + wordOf f) (within k x xs)) taken-x
-      ∙ ap (λ (i : ℕ). controlWord f i (length x) ++ fillDue f b true (u + wordOf f) (within (length x) x xs)) (indicator-whole 0 (length x) (length x) refl refl)
+      ∙ ap (λ (i : ℕ). controlWord f i (length x) ++ fillDue f b true (u + wordOf f) (within (length x) x xs))
+      (indicator-whole 0 (length x) (length x) refl refl)
       ∙ ap (λ (k : ℕ). controlWord f 0 k ++ fillDue f b true (u + wordOf f) (within (length x) x xs)) size
       ∙ ap (λ (l : List ℕ). controlWord f 0 n ++ l)
       (some-fill f b true (u + wordOf f) (length x) (length x) x xs (omega arith) (omega arith)
       ∙ ap (λ (d : UnitDue). take (length x) x ++ fillDue f b true (u + wordOf f + length x) d) all-within
       ∙ ap (λ (l : List ℕ). l ++ fillDue f b true (u + wordOf f + length x) (within 0 [] xs)) take-x
-      ∙ ap (λ (l : List ℕ). x ++ l) (over-fill f b (u + wordOf f + length x) xs ∙ ap (λ (k : ℕ). fillDue f b true k (between (startOf xs))) place))
+      ∙ ap (λ (l : List ℕ). x ++ l)
+      (over-fill f b (u + wordOf f + length x) xs ∙ ap (λ (k : ℕ). fillDue f b true k (between (startOf xs))) place))
       ∙ sym (append-assoc (controlWord f 0 n) x _)
 
   pub whole-left : leftDue f b true u (between (going 0 x xs)) ≡ leftDue f b true (u + length v) (between (startOf xs))
@@ -195,7 +206,8 @@ module _ (f b u n : ℕ) (x : List ℕ) (size : length x ≡ n) (e : enters f b 
 
 -- ---- a record
 
-module _ (lay : Bool) (f b : ℕ) (j : Job) (bytes : List ℕ) (from n : ℕ) (p : Pen) (o : List ℕ) (k : Recordable lay f b j bytes from n p o) where
+module _ (lay : Bool) (f b : ℕ) (j : Job) (bytes : List ℕ) (from n : ℕ) (p : Pen) (o : List ℕ)
+    (k : Recordable lay f b j bytes from n p o) where
   abbrev x : List ℕ
   x = part from n bytes
 
@@ -221,12 +233,14 @@ module _ (lay : Bool) (f b : ℕ) (j : Job) (bytes : List ℕ) (from n : ℕ) (p
     whole-room-in l =
         let a = k .ahead l in
         let e : penned true f b j r q (between (going 0 x (a .later))) (a .next) ≡ penned true f b j p o (between (going 0 x (a .later))) (a .next)
-        = subst (λ (t : Bool). penned t f b j r q (between (going 0 x (a .later))) (a .next) ≡ penned t f b j p o (between (going 0 x (a .later))) (a .next)) l
+        = subst (λ (t : Bool). penned t f b j r q (between (going 0 x (a .later))) (a .next)
+        ≡ penned t f b j p o (between (going 0 x (a .later))) (a .next)) l
         (y .same 0 x (a .later) (a .next) size (a .room)) in
         let g : EndsWithin (penned true f b j r q (between (going 0 x (a .later))) (a .next)) (length q)
         = subst (EndsWithin (penned true f b j r q (between (going 0 x (a .later))) (a .next))) (sym (y .kept)) (subst (λ (u : PassEnd). EndsWithin u (length o)) (sym e) (a .fits)) in
         let c : r .at + 3 + r .used + length (controlWord f 0 n ++ x) ≤ length q
-        = room-unit f b j r q (controlWord f 0 n ++ x) (between (going 0 x (a .later))) (between (startOf (a .later))) (a .next) (y .on h) h
+        = room-unit f b j r q (controlWord f 0 n ++ x) (between (going 0 x (a .later))) (between (startOf (a .later))) (a .next)
+        (y .on h) h
         (whole-fill f b (r .used) n x size (y .room h) t (a .later)) g in
         omega (arith, v-length f b (r .used) n x size (y .room h) t (a .later))
 
@@ -261,7 +275,8 @@ module _ (lay : Bool) (f b : ℕ) (j : Job) (bytes : List ℕ) (from n : ℕ) (p
           same =
               λ xs next room.
               ap (λ (m : List ℕ). penned lay f b j (more r (wordOf f + n)) m (between (startOf xs)) next) (w .laid)
-              ∙ ap (λ (m : ℕ). penned lay f b j (more r m) (inkAt lay q (r .at + 3 + r .used) (controlWord f 0 n ++ x)) (between (startOf xs)) next) (sym long)
+              ∙ ap (λ (m : ℕ). penned lay f b j (more r m) (inkAt lay q (r .at + 3 + r .used) (controlWord f 0 n ++ x))
+              (between (startOf xs)) next) (sym long)
               ∙ penned-unit f b j r q (controlWord f 0 n ++ x) (between (going 0 x xs)) (between (startOf xs)) next (y .on h) h
               (whole-fill f b (r .used) n x size (y .room h) t xs) lay (λ l. let m = whole-room-in l in omega arith)
               (whole-left f b (r .used) n x size (y .room h) t xs)
@@ -343,19 +358,23 @@ pub ruleset quicks = (quick-used, quick-in, quick-closable, quick-room, quick-fe
 
 -- ---- through the packer
 
-penned-over : (lay : Bool) (f b : ℕ) (j : Job) (p : Pen) (o : List ℕ) (xs : List (List ℕ)) (next : Sequel) → p .on ≡ true → p .short ≡ false
+penned-over : (lay : Bool) (f b : ℕ) (j : Job) (p : Pen) (o : List ℕ) (xs : List (List ℕ)) (next : Sequel) → p .on ≡ true
+    → p .short ≡ false
     → penned lay f b j p o (between (startOf xs)) next ≡ penned lay f b j p o (within 0 [] xs) next
 penned-over lay f b j p o xs next h s =
     penned-on lay f b j p o (between (startOf xs)) next h s
-    ∙ ap (λ (cs : List ℕ). outcome lay true (p .at) (p .used) o (inked (p .used) cs (restOf j p (blocksLeft f b (leftDue f b true (p .used) (between (startOf xs)))) next)))
+    ∙ ap (λ (cs : List ℕ). outcome lay true (p .at) (p .used) o
+    (inked (p .used) cs (restOf j p (blocksLeft f b (leftDue f b true (p .used) (between (startOf xs)))) next)))
     (sym (over-fill f b (p .used) xs))
-    ∙ ap (λ (l : Left). outcome lay true (p .at) (p .used) o (inked (p .used) (fillDue f b true (p .used) (within 0 [] xs)) (restOf j p (blocksLeft f b l) next)))
+    ∙ ap (λ (l : Left). outcome lay true (p .at) (p .used) o
+    (inked (p .used) (fillDue f b true (p .used) (within 0 [] xs)) (restOf j p (blocksLeft f b l) next)))
     (sym (over-left f b (p .used) xs))
     ∙ sym (penned-on lay f b j p o (within 0 [] xs) next h s)
 
 -- a flow behind the last byte of its record
 module _ (lay : Bool) (f b : ℕ) (j : Job) (s : Flow) (o : List ℕ) where
-  pub flow-over : (xs : List (List ℕ)) (next : Sequel) (n : ℕ) → GoodFlow f b n s → s .pen .short ≡ false → s .left ≡ 0 → (s .inside ≡ false → 0 < s .left)
+  pub flow-over : (xs : List (List ℕ)) (next : Sequel) (n : ℕ) → GoodFlow f b n s → s .pen .short ≡ false → s .left ≡ 0
+      → (s .inside ≡ false → 0 < s .left)
       → penned lay f b j (s .pen) o (between (startOf xs)) next ≡ flowed lay f b j s o [] xs next
   flow-over xs next n good h left out =
       by-test (s .inside)
@@ -373,7 +392,8 @@ module _ (lay : Bool) (f b : ℕ) (j : Job) (s : Flow) (o : List ℕ) where
   unfolding flowed
   flow-short x xs next h = penned-short lay f b j (s .pen) o _ next h ∙ sym (penned-short lay f b j (s .pen) o _ next h)
 
-module _ (lay : Bool) (f b : ℕ) (j : Job) (bytes : List ℕ) (from n : ℕ) (p : Pen) (o : List ℕ) (k : Recordable lay f b j bytes from n p o) where
+module _ (lay : Bool) (f b : ℕ) (j : Job) (bytes : List ℕ) (from n : ℕ) (p : Pen) (o : List ℕ)
+    (k : Recordable lay f b j bytes from n p o) where
   abbrev piece : List ℕ
   piece = take (from + n - from) (drop from bytes)
 
@@ -389,7 +409,9 @@ module _ (lay : Bool) (f b : ℕ) (j : Job) (bytes : List ℕ) (from n : ℕ) (p
   all-first : drop 0 piece ++ [] ≡ part from n bytes
   all-first = append-nil piece ∙ is-part
 
-  flowed-first : (lay : Bool) (xs : List (List ℕ)) (next : Sequel) → flowed lay f b j first o (drop 0 piece ++ []) xs next ≡ penned lay f b j p o (between (going 0 (part from n bytes) xs)) next
+  flowed-first : (lay : Bool) (xs : List (List ℕ)) (next : Sequel)
+      → flowed lay f b j first o (drop 0 piece ++ []) xs next
+      ≡ penned lay f b j p o (between (going 0 (part from n bytes) xs)) next
   flowed-first lay xs next =
       flowed-out lay f b j first o (drop 0 piece ++ []) xs next refl
       ∙ ap (λ (l : List ℕ). penned lay f b j p o (between (going 0 l xs)) next) all-first
@@ -422,7 +444,8 @@ module _ (lay : Bool) (f b : ℕ) (j : Job) (bytes : List ℕ) (from n : ℕ) (p
                     next = a .next;
                     size = omega (arith, piece-length);
                     room = a .room;
-                    fits = subst (λ (u : PassEnd). EndsWithin u (length o)) (sym (flowed-first true (a .later) (a .next))) (a .fits);
+                    fits =
+                        subst (λ (u : PassEnd). EndsWithin u (length o)) (sym (flowed-first true (a .later) (a .next))) (a .fits);
                   };
             };
         settled = λ e. absurd (false≢true e);
@@ -441,7 +464,8 @@ module _ (lay : Bool) (f b : ℕ) (j : Job) (bytes : List ℕ) (from n : ℕ) (p
         let over : length piece ≤ s .from = omega (arith, y .over h) in
         let left : s .left ≡ 0 = omega (arith, y .goes .total, y .over h, piece-length) in
         let rest : [] ≡ drop (s .from) piece ++ [] = sym (append-nil (drop (s .from) piece) ∙ drop-of-length-le piece over) in
-        flow-over lay f b j s q xs next (length piece) (y .goes .good h) h left (y .out h) ∙ ap (λ (l : List ℕ). flowed lay f b j s q l xs next) rest
+        flow-over lay f b j s q xs next (length piece) (y .goes .good h) h left (y .out h)
+        ∙ ap (λ (l : List ℕ). flowed lay f b j s q l xs next) rest
 
     pub slow-recorded : Recorded lay f b j (part from n bytes) p o q (s .pen)
     slow-recorded =
@@ -460,7 +484,8 @@ pub ruleset slows = (slow-packable, slow-inside, slow-kept, slow-recorded, needs
 
 -- ---- any record
 
-module _ (lay : Bool) (f b : ℕ) (j : Job) (bytes : List ℕ) (from n : ℕ) (p : Pen) (o : List ℕ) (k : Recordable lay f b j bytes from n p o) where
+module _ (lay : Bool) (f b : ℕ) (j : Job) (bytes : List ℕ) (from n : ℕ) (p : Pen) (o : List ℕ)
+    (k : Recordable lay f b j bytes from n p o) where
   pub record-somewhere : Somewhere lay f b n p o
   record-somewhere = record { file = j; can = wanting lay f b j bytes from n p o k }
 
@@ -468,7 +493,8 @@ module _ (lay : Bool) (f b : ℕ) (j : Job) (bytes : List ℕ) (from n : ℕ) (p
     pub record-wholable : t .ok ≡ true → Wholable lay f bytes from n (t .pen) (length q)
     record-wholable h = let w = y .yes h j (wanting lay f b j bytes from n p o k) in blocked-wholable lay f b j bytes from n p o k q (t .pen) (w .blocked) (w .given) (w .whole) (y .small h)
 
-    pub record-whole : (z : List ℕ) (v : Pen) → t .ok ≡ true → Wholed lay f bytes from n (t .pen) q z v → Recorded lay f b j (part from n bytes) p o z v
+    pub record-whole : (z : List ℕ) (v : Pen) → t .ok ≡ true → Wholed lay f bytes from n (t .pen) q z v
+        → Recorded lay f b j (part from n bytes) p o z v
     record-whole z v h x = let w = y .yes h j (wanting lay f b j bytes from n p o k) in blocked-recorded lay f b j bytes from n p o k q (t .pen) (w .blocked) (w .given) (w .whole) z v x
 
     pub record-kept : (z : List ℕ) (v : Pen) → t .ok ≡ true → Wholed lay f bytes from n (t .pen) q z v → length z ≡ length o
@@ -477,5 +503,6 @@ module _ (lay : Bool) (f b : ℕ) (j : Job) (bytes : List ℕ) (from n : ℕ) (p
     pub record-again : t .ok ≡ false → Recordable lay f b j bytes from n p q
     record-again h = subst (Recordable lay f b j bytes from n p) (sym (y .no h)) k
 
-    pub record-slow : (z : List ℕ) (v : Pen) → t .ok ≡ false → Recorded lay f b j (part from n bytes) p q z v → Recorded lay f b j (part from n bytes) p o z v
+    pub record-slow : (z : List ℕ) (v : Pen) → t .ok ≡ false → Recorded lay f b j (part from n bytes) p q z v
+        → Recorded lay f b j (part from n bytes) p o z v
     record-slow z v h x = subst (λ (l : List ℕ). Recorded lay f b j (part from n bytes) p l z v) (y .no h) x

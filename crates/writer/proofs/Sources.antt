@@ -89,7 +89,8 @@ module _ (lengths bytes : List ℕ) (c : Cursor) (g : GoodCursor lengths bytes c
   module _ (r : Found) (k : r .kind ≡ 0 → ⊥) (l : c .image ≡ false → r .left ≤ c .left)
       (o : recordsOf lengths bytes c ≡ foundBytes bytes c r ∷ recordsOf lengths bytes (movedTo c (r .at) (r .left)))
       (e : endAt lengths bytes (movedTo c (r .at) (r .left)) ≡ endAt lengths bytes c) where
-    some-found : ((r .kind ≡ 2 → ⊥) → r .from + r .len ≤ length bytes) → (r .kind ≡ 2 → SplitHere bytes c (r .len)) → Finds lengths bytes c r
+    some-found : ((r .kind ≡ 2 → ⊥) → r .from + r .len ≤ length bytes) → (r .kind ≡ 2 → SplitHere bytes c (r .len))
+        → Finds lengths bytes c r
     some-found i s =
         record {
           none = λ z. absurd (k z);
@@ -114,7 +115,8 @@ unfolding foundBytes
 found-whole bytes c from len at left = if-false _ _ _ refl
 
 found-split : (bytes : List ℕ) (c : Cursor) (len at left : ℕ)
-    → foundBytes bytes c (record { from = 0; len = len; at = at; left = left; kind = 2 }) ≡ recordBytes (recordAt bytes (walkOf c))
+    → foundBytes bytes c (record { from = 0; len = len; at = at; left = left; kind = 2 })
+    ≡ recordBytes (recordAt bytes (walkOf c))
 unfolding foundBytes splitBytes
 found-split bytes c len at left = if-true _ _ _ refl
 
@@ -188,7 +190,8 @@ module _ (lengths bytes : List ℕ) (c : Cursor) (g : GoodCursor lengths bytes c
           some-found lengths bytes c g r (λ k. let x : _≡_ {A = ℕ} 1 0 = k in absurd (omega arith)) (λ _. omega arith)
           (sheet-records lengths bytes c s
           ∙ ap (λ (ns : List ℕ). cutBy ns (drop (c .at) bytes)) lengths-left
-          ∙ ap (λ (t : List ℕ). t ∷ cutBy (lengthsAt lengths d) (drop n (drop (c .at) bytes))) (cut-part (c .at) n bytes ∙ sym (found-whole bytes c (c .at) n (c .at + n) (c .left - 1)))
+          ∙ ap (λ (t : List ℕ). t ∷ cutBy (lengthsAt lengths d) (drop n (drop (c .at) bytes)))
+          (cut-part (c .at) n bytes ∙ sym (found-whole bytes c (c .at) n (c .at + n) (c .left - 1)))
           ∙ ap (λ (t : List ℕ). foundBytes bytes c r ∷ cutBy (lengthsAt lengths d) t) (drop-drop n (c .at) bytes)
           ∙ ap (λ (t : List (List ℕ)). foundBytes bytes c r ∷ t) (sym (sheet-records lengths bytes d s)))
           same-end (λ _. inside) (λ k. let x : _≡_ {A = ℕ} 1 2 = k in absurd (omega arith))
@@ -202,7 +205,8 @@ Same w (Whole start n v) = moved w (v .at) (v .left) ≡ v
 Same w (Split n v) = moved w (v .at) (v .left) ≡ v
 Same w None = None ≡ None
 
-same-by : (s : List ℕ) (w : Walk) (x : Record) → ((r : List ℕ) (v : Walk) → handed s x ≡ ends r v → moved w (v .at) (v .left) ≡ v) → Same w (measuredBy x)
+same-by : (s : List ℕ) (w : Walk) (x : Record) → ((r : List ℕ) (v : Walk) → handed s x ≡ ends r v → moved w (v .at) (v .left) ≡ v)
+    → Same w (measuredBy x)
 unfolding measuredBy handed
 same-by s w (whole start n v) h = h (part start n s) v refl
 same-by s w (split bs v) h = h bs v refl
@@ -218,7 +222,8 @@ same-file s w m e =
 
 -- ---- the next record of an image
 
-module _ (lengths bytes : List ℕ) (c : Cursor) (g : GoodCursor lengths bytes c) (s : c .image ≡ true) (w : Walk) (k : w ≡ walkOf c) (m : Measured) (e : m ≡ measuredBy (recordAt bytes w)) where
+module _ (lengths bytes : List ℕ) (c : Cursor) (g : GoodCursor lengths bytes c) (s : c .image ≡ true) (w : Walk)
+    (k : w ≡ walkOf c) (m : Measured) (e : m ≡ measuredBy (recordAt bytes w)) where
   measured-is : m ≡ measuredBy (recordAt bytes (walkOf c))
   measured-is = e ∙ ap (λ (v : Walk). measuredBy (recordAt bytes v)) k
 
@@ -229,7 +234,8 @@ module _ (lengths bytes : List ℕ) (c : Cursor) (g : GoodCursor lengths bytes c
       (image-stop c s ∙ sym (measured-end-nothing bytes (walkOf c) m measured-is q) ∙ sym (image-end lengths bytes c s)))
 
   -- a record x, and the walk behind it
-  module _ (r : Found) (x : List ℕ) (v : Walk) (same : moved (walkOf c) (r .at) (r .left) ≡ v) (is : foundBytes bytes c r ≡ x) where
+  module _ (r : Found) (x : List ℕ) (v : Walk) (same : moved (walkOf c) (r .at) (r .left) ≡ v)
+      (is : foundBytes bytes c r ≡ x) where
     records-on : recordsAt bytes (walkOf c) ≡ x ∷ recordsAt bytes v
         → recordsOf lengths bytes c ≡ foundBytes bytes c r ∷ recordsOf lengths bytes (movedTo c (r .at) (r .left))
     records-on o =
@@ -247,20 +253,25 @@ module _ (lengths bytes : List ℕ) (c : Cursor) (g : GoodCursor lengths bytes c
         ∙ sym (image-end lengths bytes c s)
 
     found-on : (r .kind ≡ 0 → ⊥) → recordsAt bytes (walkOf c) ≡ x ∷ recordsAt bytes v → endOf bytes (walkOf c) ≡ endOf bytes v
-        → ((r .kind ≡ 2 → ⊥) → r .from + r .len ≤ length bytes) → (r .kind ≡ 2 → SplitHere bytes c (r .len)) → Finds lengths bytes c r
+        → ((r .kind ≡ 2 → ⊥) → r .from + r .len ≤ length bytes) → (r .kind ≡ 2 → SplitHere bytes c (r .len))
+        → Finds lengths bytes c r
     found-on z o p i h = some-found lengths bytes c g r z (λ n. absurd (false≢true (sym n ∙ s))) (records-on o) (ends-on p) i h
 
   pub far-whole : (from len : ℕ) (v : Walk) → m ≡ Whole from len v
       → Finds lengths bytes c (record { from = from; len = len; at = v .at; left = v .left; kind = 1 })
   far-whole from len v q =
-      found-on (record { from = from; len = len; at = v .at; left = v .left; kind = 1 }) (part from len bytes) v (same-file bytes (walkOf c) (Whole from len v) (sym q ∙ measured-is))
+      found-on (record { from = from; len = len; at = v .at; left = v .left; kind = 1 }) (part from len bytes) v
+      (same-file bytes (walkOf c) (Whole from len v) (sym q ∙ measured-is))
       (found-whole bytes c from len (v .at) (v .left)) (λ z. let n : _≡_ {A = ℕ} 1 0 = z in absurd (omega arith))
-      (measured-whole bytes (walkOf c) from len v m measured-is q) (measured-end-whole bytes (walkOf c) from len v m measured-is q)
+      (measured-whole bytes (walkOf c) from len v m measured-is q)
+      (measured-end-whole bytes (walkOf c) from len v m measured-is q)
       (λ _. whole-within bytes (walkOf c) from len v m measured-is q) (λ z. let n : _≡_ {A = ℕ} 1 2 = z in absurd (omega arith))
 
-  pub far-split : (len : ℕ) (v : Walk) → m ≡ Split len v → Finds lengths bytes c (record { from = 0; len = len; at = v .at; left = v .left; kind = 2 })
+  pub far-split : (len : ℕ) (v : Walk) → m ≡ Split len v
+      → Finds lengths bytes c (record { from = 0; len = len; at = v .at; left = v .left; kind = 2 })
   far-split len v q =
-      found-on (record { from = 0; len = len; at = v .at; left = v .left; kind = 2 }) (recordBytes (recordAt bytes (walkOf c))) v (same-file bytes (walkOf c) (Split len v) (sym q ∙ measured-is))
+      found-on (record { from = 0; len = len; at = v .at; left = v .left; kind = 2 }) (recordBytes (recordAt bytes (walkOf c))) v
+      (same-file bytes (walkOf c) (Split len v) (sym q ∙ measured-is))
       (found-split bytes c len (v .at) (v .left)) (λ z. let n : _≡_ {A = ℕ} 2 0 = z in absurd (omega arith))
       (measured-split bytes (walkOf c) len v m measured-is q) (measured-end-split bytes (walkOf c) len v m measured-is q)
       (λ z. absurd (z refl)) (λ _. record { behind = v; is = sym q ∙ measured-is })
@@ -268,11 +279,13 @@ module _ (lengths bytes : List ℕ) (c : Cursor) (g : GoodCursor lengths bytes c
 pub ruleset far = (far-none, far-whole, far-split, needs)
 
 -- where it stands whole in a block
-pub read-whole : (lengths bytes : List ℕ) (c : Cursor) (w v : Walk) (k word : ℕ) → GoodCursor lengths bytes c → c .image ≡ true → w ≡ walkOf c → v ≡ atBlock bytes w
+pub read-whole : (lengths bytes : List ℕ) (c : Cursor) (w v : Walk) (k word : ℕ) → GoodCursor lengths bytes c → c .image ≡ true
+    → w ≡ walkOf c → v ≡ atBlock bytes w
     → k ≡ wholeAt bytes v → (k ≡ 0 → ⊥) → word ≡ wordOf (v .format)
     → Finds lengths bytes c (record { from = v .at + word; len = k - word; at = v .at + k; left = v .left - k; kind = 1 })
 read-whole lengths bytes c w v k word g s e h m z q =
-    far-whole lengths bytes c g s w e (Whole (v .at + word) (k - word) (moved v (v .at + k) (v .left - k))) (whole-measured bytes w v _ k word h m z q refl)
+    far-whole lengths bytes c g s w e (Whole (v .at + word) (k - word) (moved v (v .at + k) (v .left - k)))
+    (whole-measured bytes w v _ k word h m z q refl)
     (v .at + word) (k - word) (moved v (v .at + k) (v .left - k)) refl
 
 pub ruleset read = (read-whole, word-least, whole-left, whole-start, whole-end, needs)

@@ -45,7 +45,8 @@ use Rattle.writer.proofs.Records.{flow-over, flow-short}
 next-is : (s : List ℕ) (w : Walk) (i start n : ℕ) (v : Walk) → nextSegment s w ≡ One i start n v → UnitBehind s w start n v
 unfolding nextSegment
 next-is s w i start n v =
-    if-case (λ (t : Taken). t ≡ One i start n v → UnitBehind s w start n v) (isInside s w) (unitNext s w) Nothing (λ _ e. next-behind s w i start n v e)
+    if-case (λ (t : Taken). t ≡ One i start n v → UnitBehind s w start n v) (isInside s w) (unitNext s w) Nothing
+    (λ _ e. next-behind s w i start n v e)
     (λ _ e. let z : _≡_ {A = ℕ} 0 1 = cc in absurd (omega arith))
 
 first-is : (s : List ℕ) (w : Walk) (i start n : ℕ) (v : Walk) → firstSegment s w ≡ One i start n v → UnitBehind s w start n v
@@ -58,9 +59,11 @@ abbrev segment : ℕ → ℕ → Walk → Segment
 segment from len v = record { from = from; len = len; at = v .at; left = v .left }
 
 -- the walk behind a segment of the file of w is that of its numbers
-module _ (bytes : List ℕ) (c : Cursor) (w : Walk) (from len : ℕ) (v : Walk) (k : w .format ≡ c .format) (l : w .size ≡ c .size) (m : w .offset ≡ c .offset) (b : UnitBehind bytes w from len v) where
+module _ (bytes : List ℕ) (c : Cursor) (w : Walk) (from len : ℕ) (v : Walk) (k : w .format ≡ c .format) (l : w .size ≡ c .size)
+    (m : w .offset ≡ c .offset) (b : UnitBehind bytes w from len v) where
   same-walk : v ≡ behindOf c (segment from len v)
-  same-walk = λ i. record { format = (b .format ∙ k) i; size = (b .size ∙ l) i; offset = (b .offset ∙ m) i; at = v .at; left = v .left }
+  same-walk =
+      λ i. record { format = (b .format ∙ k) i; size = (b .size ∙ l) i; offset = (b .offset ∙ m) i; at = v .at; left = v .left }
 
   -- it is the last one, or the record goes on
   segmented-last : (x : List ℕ) → x ≡ part from len bytes → Segmented bytes c x (segment from len v)
@@ -74,7 +77,8 @@ module _ (bytes : List ℕ) (c : Cursor) (w : Walk) (from len : ℕ) (v : Walk) 
         same = λ h. absurd (omega arith);
       }
 
-  segmented-more : (x : List ℕ) → x ≡ part from len bytes ++ bytesBehind bytes v → isEnded (restAt bytes (v .size) v) ≡ true → Segmented bytes c x (segment from len v)
+  segmented-more : (x : List ℕ) → x ≡ part from len bytes ++ bytesBehind bytes v → isEnded (restAt bytes (v .size) v) ≡ true
+      → Segmented bytes c x (segment from len v)
   segmented-more x e h =
       record {
         rest = bytesBehind bytes v;
@@ -85,7 +89,8 @@ module _ (bytes : List ℕ) (c : Cursor) (w : Walk) (from len : ℕ) (v : Walk) 
         same = λ _. ap (bytesBehind bytes) same-walk;
       }
 
-module _ (bytes : List ℕ) (c : Cursor) (n : ℕ) (h : SplitHere bytes c n) (w : Walk) (k : w ≡ walkOf c) (t : Taken) (e : t ≡ firstSegment bytes w) where
+module _ (bytes : List ℕ) (c : Cursor) (n : ℕ) (h : SplitHere bytes c n) (w : Walk) (k : w ≡ walkOf c) (t : Taken)
+    (e : t ≡ firstSegment bytes w) where
   segment-first : t ≡ firstSegment bytes (walkOf c)
   segment-first = e ∙ ap (firstSegment bytes) k
 
@@ -97,11 +102,13 @@ module _ (bytes : List ℕ) (c : Cursor) (n : ℕ) (h : SplitHere bytes c n) (w 
   unfolding splitBytes
   first-one i from len v q =
       let p : First bytes (walkOf c) from len v = first-split bytes (walkOf c) n (h .behind) (Split n (h .behind)) i from len v t (h .is) refl segment-first q in
-      segmented-more bytes c (walkOf c) from len v refl refl refl (first-is bytes (walkOf c) i from len v (sym segment-first ∙ q)) _ (p .bytes) (p .ended)
+      segmented-more bytes c (walkOf c) from len v refl refl refl
+      (first-is bytes (walkOf c) i from len v (sym segment-first ∙ q)) _ (p .bytes) (p .ended)
 
 pub ruleset firsts = (first-none, first-one, needs)
 
-module _ (bytes : List ℕ) (c : Cursor) (g : Segment) (h : HasRest bytes (behindOf c g)) (t : Taken) (e : t ≡ nextSegment bytes (behindOf c g)) where
+module _ (bytes : List ℕ) (c : Cursor) (g : Segment) (h : HasRest bytes (behindOf c g)) (t : Taken)
+    (e : t ≡ nextSegment bytes (behindOf c g)) where
   pub next-none : (r : Segment) → t ≡ Nothing → Segmented bytes c (bytesBehind bytes (behindOf c g)) r
   next-none r q = absurd (next-some bytes (behindOf c g) t (h .inside) (h .ended) e q)
 
@@ -115,9 +122,11 @@ module _ (bytes : List ℕ) (c : Cursor) (g : Segment) (h : HasRest bytes (behin
     behind : UnitBehind bytes (behindOf c g) from len v
     behind = next-is bytes (behindOf c g) i from len v (sym e ∙ q)
 
-    pub next-one : Segmented bytes c (bytesBehind bytes (behindOf c g)) (record { from = from; len = len; at = v .at; left = v .left })
+    pub next-one : Segmented bytes c (bytesBehind bytes (behindOf c g))
+        (record { from = from; len = len; at = v .at; left = v .left })
     next-one =
-        by-test (eqb i 3) (λ z. segmented-last bytes c (behindOf c g) from len v refl refl refl behind _ (goes .last (eqb-true i 3 z)))
+        by-test (eqb i 3) (λ z. segmented-last bytes c (behindOf c g) from len v refl refl refl behind _
+        (goes .last (eqb-true i 3 z)))
         (λ z.
         let m = goes .more (eqb-false i 3 z) in
         segmented-more bytes c (behindOf c g) from len v refl refl refl behind _ (m .0) (m .1))
@@ -130,7 +139,8 @@ pub ruleset nexts = (next-none, next-none-on, next-one, next-one-on, needs)
 -- ---- segment after segment
 
 -- what is left of the record from a segment on, packed from here, ends as the whole record does
-pub record Splits (lay : Bool) (f b : ℕ) (j : Job) (bytes : List ℕ) (c : Cursor) (p : Pen) (o : List ℕ) (g : Segment) (s : Flow) (q : List ℕ) : Type 0 where
+pub record Splits (lay : Bool) (f b : ℕ) (j : Job) (bytes : List ℕ) (c : Cursor) (p : Pen) (o : List ℕ) (g : Segment) (s : Flow)
+    (q : List ℕ) : Type 0 where
   pub left : List ℕ
   pub segment : Segmented bytes c left g
   pub splitting : PiecesLeft lay f b j left s q
@@ -140,7 +150,8 @@ pub record Splits (lay : Bool) (f b : ℕ) (j : Job) (bytes : List ℕ) (c : Cur
   pub same : (xs : List (List ℕ)) (next : Sequel) → RoomEach f b xs
       → flowed lay f b j s q left xs next ≡ penned lay f b j p o (between (going 0 (splitBytes bytes c) xs)) next
 
-module _ (lay : Bool) (f b : ℕ) (j : Job) (bytes : List ℕ) (c : Cursor) (n : ℕ) (p : Pen) (o : List ℕ) (k : Splittable lay f b j bytes c n p o) where
+module _ (lay : Bool) (f b : ℕ) (j : Job) (bytes : List ℕ) (c : Cursor) (n : ℕ) (p : Pen) (o : List ℕ)
+    (k : Splittable lay f b j bytes c n p o) where
   pub splits-here : SplitHere bytes c n
   splits-here = k .split
 
@@ -152,7 +163,8 @@ module _ (lay : Bool) (f b : ℕ) (j : Job) (bytes : List ℕ) (c : Cursor) (n :
   size = sym (split-long bytes (walkOf c) n (k .split .behind) (Split n (k .split .behind)) (k .split .is) refl)
 
   flowed-first : (lay : Bool) (xs : List (List ℕ)) (next : Sequel)
-      → flowed lay f b j first o (splitBytes bytes c) xs next ≡ penned lay f b j p o (between (going 0 (splitBytes bytes c) xs)) next
+      → flowed lay f b j first o (splitBytes bytes c) xs next
+      ≡ penned lay f b j p o (between (going 0 (splitBytes bytes c) xs)) next
   flowed-first lay xs next = flowed-out lay f b j first o (splitBytes bytes c) xs next refl
 
   pub splits-none : (g : Segment) → Segmented bytes c (splitBytes bytes c) g → Splits lay f b j bytes c p o g first o
@@ -186,7 +198,8 @@ module _ (lay : Bool) (f b : ℕ) (j : Job) (bytes : List ℕ) (c : Cursor) (n :
                     later = a .later;
                     next = a .next;
                     room = a .room;
-                    fits = subst (λ (u : PassEnd). EndsWithin u (length o)) (sym (flowed-first true (a .later) (a .next))) (a .fits);
+                    fits =
+                        subst (λ (u : PassEnd). EndsWithin u (length o)) (sym (flowed-first true (a .later) (a .next))) (a .fits);
                   };
             };
         on = refl;
@@ -195,7 +208,8 @@ module _ (lay : Bool) (f b : ℕ) (j : Job) (bytes : List ℕ) (c : Cursor) (n :
         same = λ xs next room. flowed-first lay xs next;
       }
 
-module _ (lay : Bool) (f b : ℕ) (j : Job) (bytes : List ℕ) (c : Cursor) (p : Pen) (o : List ℕ) (g : Segment) (s : Flow) (q : List ℕ) (x : Splits lay f b j bytes c p o g s q) where
+module _ (lay : Bool) (f b : ℕ) (j : Job) (bytes : List ℕ) (c : Cursor) (p : Pen) (o : List ℕ) (g : Segment) (s : Flow)
+    (q : List ℕ) (x : Splits lay f b j bytes c p o g s q) where
   pub splits-within : g .from + g .len ≤ length bytes
   splits-within = x .segment .within
 
@@ -284,7 +298,8 @@ module _ (lay : Bool) (f b : ℕ) (j : Job) (bytes : List ℕ) (c : Cursor) (p :
         pub splits-goes : HasRest bytes (behindOf c g)
         splits-goes = x .segment .goes some
 
-        pub splits-more : (r : Segment) → Segmented bytes c (bytesBehind bytes (behindOf c g)) r → Splits lay f b j bytes c p o r (reset t) z
+        pub splits-more : (r : Segment) → Segmented bytes c (bytesBehind bytes (behindOf c g)) r
+            → Splits lay f b j bytes c p o r (reset t) z
         splits-more r k =
             let is : rest ≡ bytesBehind bytes (behindOf c g) = x .segment .same some in
             record {
@@ -297,7 +312,8 @@ module _ (lay : Bool) (f b : ℕ) (j : Job) (bytes : List ℕ) (c : Cursor) (p :
               same = λ xs next room. ap (λ (l : List ℕ). flowed lay f b j (reset t) z l xs next) (sym is) ∙ same-on xs next room;
             }
 
-        pub splits-fall : (r : Segment) → Segmented bytes c (bytesBehind bytes (behindOf c g)) r → g .at < r .at → length bytes - r .at < length bytes - g .at
+        pub splits-fall : (r : Segment) → Segmented bytes c (bytesBehind bytes (behindOf c g)) r → g .at < r .at
+            → length bytes - r .at < length bytes - g .at
         splits-fall r k l = omega (arith, k .inside)
 
 pub ruleset splits =

@@ -49,7 +49,8 @@ flowing-on lay f b j piece s o q r w x h =
           λ l.
           let a = w .ahead l in
           let e : flowed true f b j r q (drop (r .from) piece ++ a .bytes) (a .later) (a .next) ≡ flowed true f b j s o (drop (s .from) piece ++ a .bytes) (a .later) (a .next)
-          = subst (λ (t : Bool). flowed t f b j r q (drop (r .from) piece ++ a .bytes) (a .later) (a .next) ≡ flowed t f b j s o (drop (s .from) piece ++ a .bytes) (a .later) (a .next)) l
+          = subst (λ (t : Bool). flowed t f b j r q (drop (r .from) piece ++ a .bytes) (a .later) (a .next)
+          ≡ flowed t f b j s o (drop (s .from) piece ++ a .bytes) (a .later) (a .next)) l
           (x .same (a .bytes) (a .later) (a .next) (a .size) (a .room)) in
           let g : EndsWithin (flowed true f b j r q (drop (r .from) piece ++ a .bytes) (a .later) (a .next)) (length o) = subst (λ (u : PassEnd). EndsWithin u (length o)) (sym e) (a .fits) in
           record {
@@ -58,12 +59,15 @@ flowing-on lay f b j piece s o q r w x h =
             next = a .next;
             size = x .total ∙ a .size;
             room = a .room;
-            fits = subst (EndsWithin (flowed true f b j r q (drop (r .from) piece ++ a .bytes) (a .later) (a .next))) (sym (x .kept)) g;
+            fits =
+                subst (EndsWithin (flowed true f b j r q (drop (r .from) piece ++ a .bytes) (a .later) (a .next)))
+                (sym (x .kept)) g;
           };
     }
 
 -- the bytes that are left of a record: of the piece, and behind it
-pub left-length : (piece zs : List ℕ) (left from : ℕ) → from ≤ length piece → left + from ≡ length piece + length zs → length (drop from piece ++ zs) ≡ left
+pub left-length : (piece zs : List ℕ) (left from : ℕ) → from ≤ length piece → left + from ≡ length piece + length zs
+    → length (drop from piece ++ zs) ≡ left
 left-length piece zs left from h e = length-append (drop from piece) zs ∙ omega (arith, length-drop from piece)
 
 pub flowed-in : (lay : Bool) (f b : ℕ) (j : Job) (s : Flow) (o x : List ℕ) (xs : List (List ℕ)) (next : Sequel) → s .inside ≡ true
@@ -71,7 +75,8 @@ pub flowed-in : (lay : Bool) (f b : ℕ) (j : Job) (s : Flow) (o x : List ℕ) (
 unfolding flowed dueOf
 flowed-in lay f b j s o x xs next h = ap (λ (d : UnitDue). penned lay f b j (s .pen) o d next) (if-true _ _ _ h)
 
-pub flowed-out : (lay : Bool) (f b : ℕ) (j : Job) (s : Flow) (o x : List ℕ) (xs : List (List ℕ)) (next : Sequel) → s .inside ≡ false
+pub flowed-out : (lay : Bool) (f b : ℕ) (j : Job) (s : Flow) (o x : List ℕ) (xs : List (List ℕ)) (next : Sequel)
+    → s .inside ≡ false
     → flowed lay f b j s o x xs next ≡ penned lay f b j (s .pen) o (between (going (s .begun) x xs)) next
 unfolding flowed dueOf
 flowed-out lay f b j s o x xs next h = ap (λ (d : UnitDue). penned lay f b j (s .pen) o d next) (if-false _ _ _ h)
@@ -98,7 +103,17 @@ module _ (lay : Bool) (s : Flow) (o : List ℕ) (inside : s .inside ≡ true) wh
       record { sound = w .sound; kept = refl; untouched = λ _. refl; good = λ _. w .good; total = refl; same = λ zs xs next size room. refl }
 
   ended-over : s .left ≤ 0 → Ended lay s o o s
-  ended-over h = record { kept = refl; from = refl; on = refl; short = refl; settled = λ _ _. omega arith; out = λ e. absurd (false≢true (sym e ∙ inside)); goes = goes-none }
+  ended-over h =
+      record {
+        kept = refl;
+        from = refl;
+        on = refl;
+        short = refl;
+        settled = λ _ _. omega arith;
+        out = λ e. absurd
+            (false≢true (sym e ∙ inside));
+        goes = goes-none;
+      }
 
   ended-in : (s .seg ≡ 0 → ⊥) → Ended lay s o o s
   ended-in h = record { kept = refl; from = refl; on = refl; short = refl; settled = λ _ e. absurd (h e); out = λ e. absurd (false≢true (sym e ∙ inside)); goes = goes-none }
@@ -110,16 +125,21 @@ module _ (lay : Bool) (s : Flow) (o : List ℕ) (inside : s .inside ≡ true) wh
     part-same f b j x xs next size =
         let d : length x ≡ 0 → ⊥ = λ e. omega arith in
         flowed-out lay f b j (parted s p) q x xs next refl
-        ∙ ap (λ (t : Bool). ends lay j p q (fillDue f b t (p .used) (between (going 1 x xs))) (blocksLeft f b (leftDue f b t (p .used) (between (going 1 x xs)))) next) (c .shut)
+        ∙ ap (λ (t : Bool). ends lay j p q (fillDue f b t (p .used) (between (going 1 x xs)))
+        (blocksLeft f b (leftDue f b t (p .used) (between (going 1 x xs)))) next) (c .shut)
         ∙ shut-due f b j x xs next
         ∙ c .same j (blocksLeft f b (going 1 x xs)) next
-        ∙ ap (λ (l : Left). ends lay j (s .pen) o [] (blocksLeft f b l) next) (sym (broken-left f b (s .pen .on) (s .pen .used) x xs d))
-        ∙ ap (λ (cs : List ℕ). ends lay j (s .pen) o cs (blocksLeft f b (leftDue f b (s .pen .on) (s .pen .used) (within 0 x xs))) next) (sym (broken-fill f b (s .pen .on) (s .pen .used) x xs d))
+        ∙ ap (λ (l : Left). ends lay j (s .pen) o [] (blocksLeft f b l) next)
+        (sym (broken-left f b (s .pen .on) (s .pen .used) x xs d))
+        ∙ ap (λ (cs : List ℕ). ends lay j (s .pen) o cs
+        (blocksLeft f b (leftDue f b (s .pen .on) (s .pen .used) (within 0 x xs))) next)
+        (sym (broken-fill f b (s .pen .on) (s .pen .used) x xs d))
         ∙ ap (λ (k : ℕ). penned lay f b j (s .pen) o (within k x xs) next) (sym none)
         ∙ sym (flowed-in lay f b j s o x xs next (inside))
       where
         shut-due : (f b : ℕ) (j : Job) (x : List ℕ) (xs : List (List ℕ)) (next : Sequel)
-            → ends lay j p q (fillDue f b false (p .used) (between (going 1 x xs))) (blocksLeft f b (leftDue f b false (p .used) (between (going 1 x xs)))) next
+            → ends lay j p q (fillDue f b false (p .used) (between (going 1 x xs)))
+            (blocksLeft f b (leftDue f b false (p .used) (between (going 1 x xs)))) next
             ≡ ends lay j p q [] (blocksLeft f b (going 1 x xs)) next
         shut-due f b j x xs next = unfold fillDue in unfold leftDue in unfold ifB in refl
 
@@ -153,15 +173,20 @@ module _ (lay : Bool) (s : Flow) (o : List ℕ) (inside : s .inside ≡ true) wh
                       fits = λ e. absurd (false≢true e);
                     };
                 total = refl;
-                same = λ zs xs next size room. part-same f b j (drop (s .from) piece ++ zs) xs next (left-length piece zs (s .left) (s .from) (w .good .from) size);
+                same =
+                    λ zs xs next size room. part-same f b j (drop (s .from) piece ++ zs) xs next
+                    (left-length piece zs (s .left) (s .from) (w .good .from) size);
               };
         }
 
 -- ---- bytes of the piece
 
-spelled-same : (lay : Bool) (f b : ℕ) (j : Job) (p : Pen) (o piece : List ℕ) (from k m : ℕ) (zs : List ℕ) (xs : List (List ℕ)) (next : Sequel)
-    → p .on ≡ true → p .short ≡ false → m ≤ k → from + m ≤ length piece → k ≤ length (drop from piece ++ zs) → (lay ≡ true → p .at + 3 + p .used + m ≤ length o)
-    → penned lay f b j (more p m) (inkAt lay o (p .at + 3 + p .used) (part from m piece)) (within (k - m) (drop (from + m) piece ++ zs) xs) next
+spelled-same : (lay : Bool) (f b : ℕ) (j : Job) (p : Pen) (o piece : List ℕ) (from k m : ℕ) (zs : List ℕ) (xs : List (List ℕ))
+    (next : Sequel)
+    → p .on ≡ true → p .short ≡ false → m ≤ k → from + m ≤ length piece → k ≤ length (drop from piece ++ zs)
+    → (lay ≡ true → p .at + 3 + p .used + m ≤ length o)
+    → penned lay f b j (more p m) (inkAt lay o (p .at + 3 + p .used) (part from m piece))
+    (within (k - m) (drop (from + m) piece ++ zs) xs) next
     ≡ penned lay f b j p o (within k (drop from piece ++ zs) xs) next
 spelled-same lay f b j p o piece from k m zs xs next h s i e l r =
     let x : List ℕ = drop from piece ++ zs in
@@ -169,7 +194,8 @@ spelled-same lay f b j p o piece from k m zs xs next h s i e l r =
     let size : length v ≡ m = length-part from m piece e in
     let front : take m x ≡ v = take-front in
     let back : drop m x ≡ drop (from + m) piece ++ zs = drop-front in
-    ap (λ (n : ℕ). penned lay f b j (more p n) (inkAt lay o (p .at + 3 + p .used) v) (within (k - m) (drop (from + m) piece ++ zs) xs) next) (sym size)
+    ap (λ (n : ℕ). penned lay f b j (more p n) (inkAt lay o (p .at + 3 + p .used) v)
+    (within (k - m) (drop (from + m) piece ++ zs) xs) next) (sym size)
     ∙ penned-unit f b j p o v (within k x xs) (within (k - m) (drop (from + m) piece ++ zs) xs) next h s
     (some-fill f b true (p .used) k m x xs i l
     ∙ ap (λ (y : List ℕ). y ++ fillDue f b true (p .used + m) (within (k - m) (drop m x) xs)) front
@@ -235,8 +261,10 @@ module _ (lay : Bool) (piece : List ℕ) (s : Flow) (o : List ℕ) (y : Partable
               λ zs xs next size room.
               let left : length (drop (s .from) piece ++ zs) ≡ s .left = left-length piece zs (s .left) (s .from) (y .from) size in
               flowed-in lay f b j (spelled (length piece) s) q (drop (s .from + m) piece ++ zs) xs next refl
-              ∙ ap (λ (l : List ℕ). penned lay f b j (more (s .pen) m) l (within (s .seg - m) (drop (s .from + m) piece ++ zs) xs) next) (x .laid)
-              ∙ spelled-same lay f b j (s .pen) o piece (s .from) (s .seg) m zs xs next (y .on) (y .given) (omega arith) (omega (arith, y .from))
+              ∙ ap (λ (l : List ℕ). penned lay f b j (more (s .pen) m) l
+              (within (s .seg - m) (drop (s .from + m) piece ++ zs) xs) next) (x .laid)
+              ∙ spelled-same lay f b j (s .pen) o piece (s .from) (s .seg) m zs xs next (y .on) (y .given) (omega arith)
+              (omega (arith, y .from))
               (omega (arith, y .seg)) (y .room)
               ∙ sym (flowed-in lay f b j s o (drop (s .from) piece ++ zs) xs next (y .inside));
         })

@@ -56,7 +56,8 @@ module _ (lay : Bool) (f b : ℕ) (s : Flow) (size : ℕ) (y : Headable lay f b 
         let n : r ≡ more (s .pen) (wordOf f) = m ∙ ap (more (s .pen)) h in
         λ z. record { pen = n z; left = s .left; seg = e z; from = s .from; begun = s .begun; inside = true; on = true }
 
-    pub head-laid : (i : ℕ) (d o q : List ℕ) → (i ≡ indicatorOf (s .begun) k (s .left)) × (i ≤ 3) → lay ≡ true → d ≡ digits 4 (k + w)
+    pub head-laid : (i : ℕ) (d o q : List ℕ) → (i ≡ indicatorOf (s .begun) k (s .left)) × (i ≤ 3) → lay ≡ true
+        → d ≡ digits 4 (k + w)
         → q ≡ putAt o (s .pen .at + 3 + s .pen .used) (wordWith f i d) → Headed lay f b s o q headed-by
     head-laid i d o q g l v y =
         let c : controlWord f i k ≡ controlWord f (indicatorOf (s .begun) (taken f b (s .pen .used) (s .left)) (s .left)) (taken f b (s .pen .used) (s .left))
@@ -64,16 +65,21 @@ module _ (lay : Bool) (f b : ℕ) (s : Flow) (size : ℕ) (y : Headable lay f b 
         record {
           is = head-is;
           laid =
-              ink-put lay o (s .pen .at + 3 + s .pen .used) (controlWord f i k) q l (word-said f i k o (s .pen .at + 3 + s .pen .used) w h d q v y) ∙ ap (inkAt lay o (s .pen .at + 3 + s .pen .used)) c;
+              ink-put lay o (s .pen .at + 3 + s .pen .used) (controlWord f i k) q l
+              (word-said f i k o (s .pen .at + 3 + s .pen .used) w h d q v y)
+              ∙ ap (inkAt lay o (s .pen .at + 3 + s .pen .used)) c;
         }
 
     pub head-measured : (o : List ℕ) → lay ≡ false → Headed lay f b s o o headed-by
     head-measured o l = record { is = head-is; laid = ink-not lay o (s .pen .at + 3 + s .pen .used) _ l }
 
-pub word-laid-kept : (o : List ℕ) (at f i k w : ℕ) (d q : List ℕ) → w ≡ wordOf f → at + wordOf f ≤ length o → d ≡ digits 4 (k + w) → q ≡ putAt o at (wordWith f i d) → length q ≡ length o
-word-laid-kept o at f i k w d q h r v e = ap length (word-said f i k o at w h d q v e) ∙ length-put o at (controlWord f i k) (omega (arith, length-control f i k))
+pub word-laid-kept : (o : List ℕ) (at f i k w : ℕ) (d q : List ℕ) → w ≡ wordOf f → at + wordOf f ≤ length o → d ≡ digits 4 (k + w)
+    → q ≡ putAt o at (wordWith f i d) → length q ≡ length o
+word-laid-kept o at f i k w d q h r v e =
+    ap length (word-said f i k o at w h d q v e) ∙ length-put o at (controlWord f i k) (omega (arith, length-control f i k))
 
-pub ruleset heading = (word-fits, head-small, head-three, head-room, head-at-fits, head-fits, head-more, head-laid, head-measured, word-laid-kept, needs)
+pub ruleset heading =
+    (word-fits, head-small, head-three, head-room, head-at-fits, head-fits, head-more, head-laid, head-measured, word-laid-kept, needs)
 
 -- ---- bytes of the open unit
 
@@ -114,7 +120,16 @@ module _ (lay : Bool) (piece : List ℕ) (s : Flow) (o : List ℕ) (y : Partable
     module _ (r : Pen) (g : r ≡ more (s .pen) m) where
       abbrev spelled-by : Flow
       spelled-by =
-          record { pen = r; left = s .left - m; seg = s .seg - m; from = s .from + m; begun = s .begun; inside = true; on = ltb (s .from + m) (length piece) }
+          record {
+            pen = r;
+            left = s .left - m;
+            seg = s .seg - m;
+            from = s .from + m;
+            begun = s .begun;
+            inside = true;
+            on = ltb
+                (s .from + m) (length piece);
+          }
 
       spell-is : (q : List ℕ) → q ≡ inkAt lay o (s .pen .at + 3 + s .pen .used) bytes → Spelled lay piece s o q spelled-by
       spell-is q l =
@@ -131,10 +146,13 @@ module _ (lay : Bool) (piece : List ℕ) (s : Flow) (o : List ℕ) (y : Partable
                   inside = true;
                   on = ltb (s .from + e z) (length piece);
                 };
-            laid = l ∙ ap (inkAt lay o (s .pen .at + 3 + s .pen .used)) (part-within (s .from) m piece ∙ ap (λ (k : ℕ). part (s .from) k piece) e);
+            laid =
+                l ∙ ap (inkAt lay o (s .pen .at + 3 + s .pen .used))
+                (part-within (s .from) m piece ∙ ap (λ (k : ℕ). part (s .from) k piece) e);
           }
 
-      pub spell-laid : (q : List ℕ) → lay ≡ true → q ≡ putIn o (s .pen .at + 3 + s .pen .used) bytes → Spelled lay piece s o q spelled-by
+      pub spell-laid : (q : List ℕ) → lay ≡ true → q ≡ putIn o (s .pen .at + 3 + s .pen .used) bytes
+          → Spelled lay piece s o q spelled-by
       spell-laid q l h = spell-is q (ink-put-in lay o (s .pen .at + 3 + s .pen .used) bytes q spell-room l h)
 
       pub spell-measured : lay ≡ false → Spelled lay piece s o o spelled-by

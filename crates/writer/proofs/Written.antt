@@ -48,7 +48,9 @@ ink-puts lay o at bs q l p = p .is ∙ sym (if-true _ _ _ l)
 
 pub word-small : (f : ℕ) → wordOf f ≤ 5
 unfolding wordOf
-word-small f = if-case (λ (n : ℕ). n ≤ 5) (eqb f 70) 0 _ (λ _. omega arith) (λ _. if-case (λ (n : ℕ). n ≤ 5) (eqb f 68) 4 5 (λ _. omega arith) (λ _. omega arith))
+word-small f =
+    if-case (λ (n : ℕ). n ≤ 5) (eqb f 70) 0 _ (λ _. omega arith)
+    (λ _. if-case (λ (n : ℕ). n ≤ 5) (eqb f 68) 4 5 (λ _. omega arith) (λ _. omega arith))
 
 pub most-small : (f : ℕ) → mostOf f ≤ 99999
 unfolding mostOf
@@ -101,7 +103,8 @@ word-says f i k =
     (λ d. let w : wordOf f ≡ 4 = word-variable f (eqb-true f 68 d) in
     if-false _ _ _ e ∙ if-true _ _ _ d ∙ ap (λ (n : ℕ). digits 4 (k + n)) w ∙ sym (if-false _ _ _ e ∙ if-true _ _ _ d))
     (λ d. let w : wordOf f ≡ 5 = broken-word f (eqb-false f 70 e) (eqb-false f 68 d) in
-    if-false _ _ _ e ∙ if-false _ _ _ d ∙ ap (λ (n : ℕ). (48 + i) ∷ digits 4 (k + n)) w ∙ sym (if-false _ _ _ e ∙ if-false _ _ _ d)))
+    if-false _ _ _ e ∙ if-false _ _ _ d ∙ ap (λ (n : ℕ). (48 + i) ∷ digits 4 (k + n)) w
+    ∙ sym (if-false _ _ _ e ∙ if-false _ _ _ d)))
 
 -- and so do those of four figures, where the unit is not too long for them
 figures-say : (f i n : ℕ) → n ≤ mostOf f → wordWith f i (digits 4 (min (n + wordOf f) 9999)) ≡ controlWord f i n
@@ -125,7 +128,8 @@ module _ (f i k : ℕ) (o : List ℕ) (at w : ℕ) (v : w ≡ wordOf f) where
 
 -- ---- a unit
 
-module _ (f i n : ℕ) (o : List ℕ) (at w : ℕ) (word : w ≡ wordOf f) (bytes : List ℕ) (from : ℕ) (inside : from + n ≤ length bytes) (small : n ≤ mostOf f)
+module _ (f i n : ℕ) (o : List ℕ) (at w : ℕ) (word : w ≡ wordOf f) (bytes : List ℕ) (from : ℕ) (inside : from + n ≤ length bytes)
+    (small : n ≤ mostOf f)
     (r : at + wordOf f + n ≤ length o)
   where
     abbrev s : List ℕ

@@ -1,4 +1,5 @@
--- What a legal file's entry gives: good labels, lengths that suit each other, and the entry again from the labels made of it. Assumes nothing.
+-- What a legal file's entry gives: good labels, lengths that suit each other, and the entry again from the labels made of it.
+-- Assumes nothing.
 use mathlib.Core.Path.{_≡_, refl, sym, ap, ap₂, _∙_, subst}
 use mathlib.Core.Bool.{Bool, true, false, false≢true, _||_}
 use mathlib.Core.List.{List, [], _∷_, _++_}
@@ -32,7 +33,8 @@ use Rattle.writing.proofs.Labels.{GoodFirst, GoodSecond, good-first, go
 
 -- ---- legality
 
-sound-zero : (k : Rattle.order.specs.declared.Kind.Kind) (l : List ℕ) → isSound (labelFault k l) ≡ true → labelFault k l .number ≡ 0
+sound-zero : (k : Rattle.order.specs.declared.Kind.Kind) (l : List ℕ) → isSound (labelFault k l) ≡ true
+    → labelFault k l .number ≡ 0
 unfolding isSound
 sound-zero k l h = eqb-true _ 0 h
 
@@ -41,14 +43,16 @@ unfolding legalEntry
 legal-first set e =
     both (eqb (length set) 6) _
     (λ a. both (eqb (length e) 46) _
-    (λ b. both (isSound (labelFault (hdr 1) (madeFirst HDR1 set e 1 1 0))) _ (λ c d. good-first set e (eqb-true _ _ a) (eqb-true _ _ b) (sound-zero (hdr 1) _ c))))
+    (λ b. both (isSound (labelFault (hdr 1) (madeFirst HDR1 set e 1 1 0))) _
+    (λ c d. good-first set e (eqb-true _ _ a) (eqb-true _ _ b) (sound-zero (hdr 1) _ c))))
 
 pub legal-second : (set e : List ℕ) → legalEntry set e ≡ true → GoodSecond e
 unfolding legalEntry
 legal-second set e =
     both (eqb (length set) 6) _
     (λ a. both (eqb (length e) 46) _
-    (λ b. both (isSound (labelFault (hdr 1) (madeFirst HDR1 set e 1 1 0))) _ (λ c d. good-second e (eqb-true _ _ b) (sound-zero (hdr 2) _ d))))
+    (λ b. both (isSound (labelFault (hdr 1) (madeFirst HDR1 set e 1 1 0))) _
+    (λ c d. good-second e (eqb-true _ _ b) (sound-zero (hdr 2) _ d))))
 
 -- ---- the lengths
 
@@ -62,7 +66,8 @@ value-below (x ∷ s) n i h =
     let low : 48 ≤ x = digit-low x here in
     let high : x ≤ 57 = digit-high x here in
     let e : i + 1 + length s ≡ i + suc (length s) = omega arith in
-    subst (λ (k : ℕ). value (n * 10 + (x - 48)) s < 10 ^ k) e (value-below s (n * 10 + (x - 48)) (i + 1) (power-more n (x - 48) i h (omega arith)) rest))
+    subst (λ (k : ℕ). value (n * 10 + (x - 48)) s < 10 ^ k) e
+    (value-below s (n * 10 + (x - 48)) (i + 1) (power-more n (x - 48) i h (omega arith)) rest))
 
 five-digits : (s : List ℕ) → length s ≡ 5 → valueOf (numberIn s) ≤ 99999
 unfolding numberIn valueOf
@@ -76,7 +81,8 @@ five-digits s h =
     (λ d. omega arith))
     (λ a. omega arith)
 
-lengths-suit : (f : ℕ) (b r : Number) → isPositive b ≡ true → isRecordLength f b r (Value 0) ≡ true → suits f (valueOf b) (valueOf r) 0 ≡ true
+lengths-suit : (f : ℕ) (b r : Number) → isPositive b ≡ true → isRecordLength f b r (Value 0) ≡ true
+    → suits f (valueOf b) (valueOf r) 0 ≡ true
 unfolding isPositive isRecordLength isLength suitsBoth valueOf
 lengths-suit f Wrong r p h = absurd (false≢true p)
 lengths-suit f (Value b) Wrong p h = absurd (false≢true h)
@@ -103,7 +109,9 @@ suited e g =
     let long : length e ≡ 46 = g .long in
     record {
       format = format-one e (g .format);
-      lengths = lengths-suit (formatFrom e) (numberIn (blockLengthIn e)) (numberIn (recordLengthIn e)) (g .blockLength) (g .recordLength);
+      lengths =
+          lengths-suit (formatFrom e) (numberIn (blockLengthIn e)) (numberIn (recordLengthIn e)) (g .blockLength)
+          (g .recordLength);
       most = five-digits (blockLengthIn e) (length-part 36 5 e (omega arith));
     }
 
@@ -113,7 +121,8 @@ part-add : (a m n : ℕ) (l : List ℕ) → part a (m + n) l ≡ part a m l ++ p
 unfolding part
 part-add a m n l = take-add m n (drop a l) ∙ ap (λ (r : List ℕ). take m (drop a l) ++ take n r) (drop-drop m a l)
 
-parts : (a b m n : ℕ) (l k : List ℕ) → part a m l ≡ part b m k → part (a + m) n l ≡ part (b + m) n k → part a (m + n) l ≡ part b (m + n) k
+parts : (a b m n : ℕ) (l k : List ℕ) → part a m l ≡ part b m k → part (a + m) n l ≡ part (b + m) n k
+    → part a (m + n) l ≡ part b (m + n) k
 parts a b m n l k p q = part-add a m n l ∙ ap₂ _++_ p q ∙ sym (part-add b m n k)
 
 pub entry-back : (set e : List ℕ) (a q : ℕ) → length e ≡ 46 → fieldsFrom (madeFirst HDR1 set e a q 0) (madeSecond HDR2 e) ≡ e

@@ -1,5 +1,7 @@
--- The labels that the writer makes, as they are read: that they have no fault by themselves, that a trailer and a later section equal their header, and what
--- is read of them. A label differs from the one that the order sheet is judged by in few fields, and of each of these its row is asked. Assumes nothing.
+-- The labels that the writer makes, as they are read: that they have no fault by themselves, that a trailer and a later section
+-- equal their header, and what
+-- is read of them. A label differs from the one that the order sheet is judged by in few fields, and of each of these its row is
+-- asked. Assumes nothing.
 use mathlib.Core.Path.{_≡_, refl, sym, ap, _∙_}
 use mathlib.Core.Bool.{Bool, true, false, false≢true}
 use mathlib.Core.List.{List, [], _∷_}
@@ -37,7 +39,8 @@ pub record GoodFirst (set e : List ℕ) : Type 0 where
   pub long : length e ≡ 46
   pub fine : wrongIn (madeFirst HDR1 set e 1 1 0) hdr1 ≡ 0
 
-pub good-first : (set e : List ℕ) → length set ≡ 6 → length e ≡ 46 → labelFault (hdr 1) (madeFirst HDR1 set e 1 1 0) .number ≡ 0 → GoodFirst set e
+pub good-first : (set e : List ℕ) → length set ≡ 6 → length e ≡ 46 → labelFault (hdr 1) (madeFirst HDR1 set e 1 1 0) .number ≡ 0
+    → GoodFirst set e
 unfolding fieldsOf isKind ifB
 good-first set e s h z = record { six = s; long = h; fine = sound-fields (hdr 1) (madeFirst HDR1 set e 1 1 0) z }
 
@@ -61,7 +64,8 @@ first-fine name set e a q c rule plain g count =
     let counted : Suit (first rule) l (firstFields name set e a q c)
     = suit-with hdr1 l (firstFields name set e a q 0) countRow rule (digits 6 c) sequence (count l) in
     filled-fine (first rule) (firstFields name set e a q c)
-    (suit-other (first rule) l (laid (first rule) (firstFields name set e a q c)) (firstFields name set e a q c) (λ p. absurd (false≢true (sym p ∙ plain))) counted)
+    (suit-other (first rule) l (laid (first rule) (firstFields name set e a q c)) (firstFields name set e a q c)
+    (λ p. absurd (false≢true (sym p ∙ plain))) counted)
 
 zeros-good : (l : List ℕ) → good zeros l (fitted 6 (digits 6 0)) ≡ true
 unfolding good ifB fitted digits allAre
@@ -71,13 +75,16 @@ pub header-sound : (set e : List ℕ) (a q : ℕ) → GoodFirst set e → labelF
 unfolding fieldsOf accessOf isKind ifB
 header-sound set e a q g = sound (hdr 1) _ (first-fine HDR1 set e a q 0 zeros refl g zeros-good) (access-first HDR1 set e a q 0)
 
-pub volume-end-sound : (set e : List ℕ) (a q c : ℕ) → GoodFirst set e → labelFault (eov 1) (madeFirst EOV1 set e a q c) ≡ fault 0 0
+pub volume-end-sound : (set e : List ℕ) (a q c : ℕ) → GoodFirst set e
+    → labelFault (eov 1) (madeFirst EOV1 set e a q c) ≡ fault 0 0
 unfolding fieldsOf accessOf isKind ifB
-volume-end-sound set e a q c g = sound (eov 1) _ (first-fine EOV1 set e a q c digitsRule refl g (digits-good 6 c)) (access-first EOV1 set e a q c)
+volume-end-sound set e a q c g =
+    sound (eov 1) _ (first-fine EOV1 set e a q c digitsRule refl g (digits-good 6 c)) (access-first EOV1 set e a q c)
 
 pub file-end-sound : (set e : List ℕ) (a q c : ℕ) → GoodFirst set e → labelFault (eof 1) (madeFirst EOF1 set e a q c) ≡ fault 0 0
 unfolding fieldsOf accessOf isKind ifB
-file-end-sound set e a q c g = sound (eof 1) _ (first-fine EOF1 set e a q c digitsRule refl g (digits-good 6 c)) (access-first EOF1 set e a q c)
+file-end-sound set e a q c g =
+    sound (eof 1) _ (first-fine EOF1 set e a q c digitsRule refl g (digits-good 6 c)) (access-first EOF1 set e a q c)
 
 pub header-kind : (set e : List ℕ) (a q : ℕ) → kindOf (madeFirst HDR1 set e a q 0) ≡ hdr 1
 unfolding required same isKind ifB
@@ -128,19 +135,23 @@ module _ (name set e : List ℕ) (a q c : ℕ) where
 -- ---- two labels compared
 
 -- a trailer's first label and its header's
-pub trailer-agrees : (name set e : List ℕ) (a q c : ℕ) → unequalIn perSection (madeFirst HDR1 set e a q 0) (madeFirst name set e a q c) hdr1 ≡ 0
+pub trailer-agrees : (name set e : List ℕ) (a q c : ℕ)
+    → unequalIn perSection (madeFirst HDR1 set e a q 0) (madeFirst name set e a q c) hdr1 ≡ 0
 unfolding madeFirst
 trailer-agrees name set e a q c =
     let fs : List (List ℕ) = firstFields HDR1 set e a q 0 in
     filled-alike perSection hdr1 fs (firstFields name set e a q c)
-    (alike-with perSection hdr1 fs (firstFields HDR1 set e a q c) 0 name refl (alike-with perSection hdr1 fs fs countRow (digits 6 c) refl (λ k r t. refl)))
+    (alike-with perSection hdr1 fs (firstFields HDR1 set e a q c) 0 name refl
+    (alike-with perSection hdr1 fs fs countRow (digits 6 c) refl (λ k r t. refl)))
 
 -- the first labels of two sections
-pub section-agrees : (set e : List ℕ) (a d q : ℕ) → unequalIn perFile (madeFirst HDR1 set e a q 0) (madeFirst HDR1 set e d q 0) hdr1 ≡ 0
+pub section-agrees : (set e : List ℕ) (a d q : ℕ)
+    → unequalIn perFile (madeFirst HDR1 set e a q 0) (madeFirst HDR1 set e d q 0) hdr1 ≡ 0
 unfolding madeFirst
 section-agrees set e a d q =
     let fs : List (List ℕ) = firstFields HDR1 set e a q 0 in
-    filled-alike perFile hdr1 fs (firstFields HDR1 set e d q 0) (alike-with perFile hdr1 fs fs sectionRow (digits 4 d) refl (λ k r t. refl))
+    filled-alike perFile hdr1 fs (firstFields HDR1 set e d q 0)
+    (alike-with perFile hdr1 fs fs sectionRow (digits 4 d) refl (λ k r t. refl))
 
 -- the second labels
 pub second-agrees : (name e : List ℕ) → unequalIn perSection (madeSecond HDR2 e) (madeSecond name e) hdr2 ≡ 0
@@ -172,7 +183,8 @@ byte-of a l = getD-take 1 (drop a l) 0 0 (omega arith) ∙ getD-drop a l 0 0
 
 pub format-back : (name e : List ℕ) → length e ≡ 46 → formatOf (madeSecond name e) ≡ formatFrom e
 unfolding formatOf formatFrom
-format-back name e h = sym (byte-of 4 (madeSecond name e)) ∙ ap (λ (l : List ℕ). getD l 0 0) (second-format name e h) ∙ byte-of 35 e
+format-back name e h =
+    sym (byte-of 4 (madeSecond name e)) ∙ ap (λ (l : List ℕ). getD l 0 0) (second-format name e h) ∙ byte-of 35 e
 
 pub block-back : (name e : List ℕ) → length e ≡ 46 → blockLengthOf (madeSecond name e) ≡ numberIn (blockLengthIn e)
 unfolding blockLengthOf
@@ -184,10 +196,12 @@ record-back name e h = ap numberIn (second-record name e h)
 
 pub offset-back : (name e : List ℕ) → offsetOf (madeSecond name e) ≡ Value 0
 unfolding offsetOf
-offset-back name e = ap numberIn (second-field name e offsetRow (length-digits 2 0)) ∙ number-digits 2 0 (omega arith) (omega arith)
+offset-back name e =
+    ap numberIn (second-field name e offsetRow (length-digits 2 0)) ∙ number-digits 2 0 (omega arith) (omega arith)
 
 length-back : (name e : List ℕ) → length e ≡ 46
-    → hasRecordLength (madeSecond name e) ≡ isRecordLength (formatFrom e) (numberIn (blockLengthIn e)) (numberIn (recordLengthIn e)) (Value 0)
+    → hasRecordLength (madeSecond name e)
+    ≡ isRecordLength (formatFrom e) (numberIn (blockLengthIn e)) (numberIn (recordLengthIn e)) (Value 0)
 unfolding hasRecordLength
 length-back name e h = rw (format-back name e h, block-back name e h, record-back name e h, offset-back name e)
 

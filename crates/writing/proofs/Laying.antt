@@ -1,4 +1,5 @@
--- What the writer lays is read to its end: one law for each piece that is laid, one induction over the blocks of a file, one over the files.
+-- What the writer lays is read to its end: one law for each piece that is laid, one induction over the blocks of a file, one over
+-- the files.
 -- Assumes nothing.
 use mathlib.Core.Path.{_≡_, refl, sym, ap, ap₂, _∙_, subst}
 use mathlib.Core.Bool.{Bool, true, false, false≢true}
@@ -42,20 +43,23 @@ use Rattle.writing.proofs.Acts.{at, OneSet, act-mark, act-reel-end, act
 
 -- ---- read to the end
 
--- reading from s, with r reels ended, over these items ends and hands out these events; every item can stand in an image, and the framing is good
+-- reading from s, with r reels ended, over these items ends and hands out these events; every item can stand in an image, and the
+-- framing is good
 pub record ReadTo (s : State) (r : ℕ) (xs : List Item) (es : List Event) : Type 0 where
   pub ends : runs s xs ≡ ended es
   pub whole : allItems xs ≡ true
   pub framed : (n : ℕ) (closed : Bool) → framedFrom n r closed xs ≡ verdict 0 0 0
 
-run-on : (s t : State) (x : Item) (xs : List Item) (fs es : List Event) → step s x ≡ go t fs → runs t xs ≡ ended es → runs s (x ∷ xs) ≡ ended (fs ++ es)
+run-on : (s t : State) (x : Item) (xs : List Item) (fs es : List Event) → step s x ≡ go t fs → runs t xs ≡ ended es
+    → runs s (x ∷ xs) ≡ ended (fs ++ es)
 unfolding runs next further
 run-on s t x xs fs es e h = ap (λ (n : Next). next n (λ u. runs u xs)) e ∙ ap (further fs) h
 
 not-full : (r : ℕ) → r < 16 → eqb r 16 ≡ false
 not-full r h = let other : r ≡ 16 → ⊥ = λ q. omega arith in ne-eqb r 16 other
 
-read-block : (s t : State) (r : ℕ) (c : List ℕ) (xs : List Item) (fs es : List Event) → step s (block c) ≡ go t fs → isItem (block c) ≡ true → r < 16
+read-block : (s t : State) (r : ℕ) (c : List ℕ) (xs : List Item) (fs es : List Event) → step s (block c) ≡ go t fs
+    → isItem (block c) ≡ true → r < 16
     → ReadTo t r xs es → ReadTo s r (block c ∷ xs) (fs ++ es)
 unfolding allItems framedFrom
 read-block s t r c xs fs es e i h d =
@@ -65,7 +69,8 @@ read-block s t r c xs fs es e i h d =
       framed = λ n closed. if-false _ _ _ (not-full r h) ∙ d .framed (n + 1) false;
     }
 
-read-mark : (s t : State) (r : ℕ) (xs : List Item) (es : List Event) → step s mark ≡ go t [] → r < 16 → ReadTo t r xs es → ReadTo s r (mark ∷ xs) es
+read-mark : (s t : State) (r : ℕ) (xs : List Item) (es : List Event) → step s mark ≡ go t [] → r < 16 → ReadTo t r xs es
+    → ReadTo s r (mark ∷ xs) es
 unfolding allItems isItem framedFrom
 read-mark s t r xs es e h d =
     record {
@@ -74,7 +79,8 @@ read-mark s t r xs es e h d =
       framed = λ n closed. if-false _ _ _ (not-full r h) ∙ d .framed (n + 1) false;
     }
 
-read-end : (s t : State) (r : ℕ) (xs : List Item) (es : List Event) → step s reelEnd ≡ go t [] → r < 16 → ReadTo t (r + 1) xs es → ReadTo s r (reelEnd ∷ xs) es
+read-end : (s t : State) (r : ℕ) (xs : List Item) (es : List Event) → step s reelEnd ≡ go t [] → r < 16 → ReadTo t (r + 1) xs es
+    → ReadTo s r (reelEnd ∷ xs) es
 unfolding allItems isItem framedFrom
 read-end s t r xs es e h d =
     record {
@@ -88,7 +94,8 @@ unfolding isItem
 label-item l h = and-true _ _ (le-leb 1 (length l) (omega arith)) (le-leb (length l) 99999 (omega arith))
 
 -- a label hands out nothing, or what it says
-pub read-label : (s t : State) (r : ℕ) (l : List ℕ) (xs : List Item) (fs es : List Event) → step s (block l) ≡ go t fs → length l ≡ 80 → r < 16
+pub read-label : (s t : State) (r : ℕ) (l : List ℕ) (xs : List Item) (fs es : List Event) → step s (block l) ≡ go t fs
+    → length l ≡ 80 → r < 16
     → ReadTo t r xs es → ReadTo s r (block l ∷ xs) (fs ++ es)
 read-label s t r l xs fs es e h m d = read-block s t r l xs fs es e (label-item l h) m d
 
@@ -108,7 +115,8 @@ itemsOf short = []
 
 -- a piece before the rest, which hands out `more` of what the rest hands out
 pub ends-put : (s t : State) (r q : ℕ) (ys : List Item) (l : Laid) (P Q : List Event → Type 0) (more : List Event → List Event)
-    → ((zs : List Item) (es : List Event) → ReadTo t q zs es → ReadTo s r (ys ++ zs) (more es)) → ((es : List Event) → Q es → P (more es))
+    → ((zs : List Item) (es : List Event) → ReadTo t q zs es → ReadTo s r (ys ++ zs) (more es))
+    → ((es : List Event) → Q es → P (more es))
     → ReadToEnd t q l Q → ReadToEnd s r (put ys l) P
 unfolding put
 ends-put s t r q ys (laid zs) P Q more k m h xs e =
@@ -117,10 +125,13 @@ ends-put s t r q ys (laid zs) P Q more k m h xs e =
 ends-put s t r q ys short P Q more k m h xs e = absurd (subst IsLaid (sym e) tt)
 
 -- the headers of a file's first section
-read-headers : (p : Phase) (names : List (List ℕ)) (files : ℕ) (f s : List ℕ) (c r : ℕ) (set e : List ℕ) (xs : List Item) (es : List Event)
-    → isDue (dueAfter p dataBlock) ≡ false → dueAfter p (hdr 1) ≡ To FirstHeader → GoodFirst set e → GoodSecond e → OneSet files set f → files < 64 → r < 16
+read-headers : (p : Phase) (names : List (List ℕ)) (files : ℕ) (f s : List ℕ) (c r : ℕ) (set e : List ℕ) (xs : List Item)
+    (es : List Event)
+    → isDue (dueAfter p dataBlock) ≡ false → dueAfter p (hdr 1) ≡ To FirstHeader → GoodFirst set e → GoodSecond e
+    → OneSet files set f → files < 64 → r < 16
     → ReadTo (at Data names (suc files) false (madeFirst HDR1 set e 1 (suc files) 0) (madeSecond HDR2 e) 0 0) r xs es
-    → ReadTo (at p names files false f s c 0) r (headers set e 1 (suc files) ++ xs) (begins (madeFirst HDR1 set e 1 (suc files) 0) (madeSecond HDR2 e) ∷ es)
+    → ReadTo (at p names files false f s c 0) r (headers set e 1 (suc files) ++ xs)
+    (begins (madeFirst HDR1 set e 1 (suc files) 0) (madeSecond HDR2 e) ∷ es)
 unfolding headers dueAfter dues choose upToNine isKind ifB
 read-headers p names files f s c r set e xs es d h g k one few m z =
     let l : List ℕ = madeFirst HDR1 set e 1 (suc files) 0 in
@@ -144,12 +155,14 @@ read-file-end names files on set e a q c r xs es g k h m z =
     (read-mark _ _ r xs es (act-mark (Eof 2) FileEnd names files false f s c 0 refl) m z)))
 
 -- the change of reels within a file
-read-change : (names : List (List ℕ)) (files : ℕ) (on : Bool) (set e : List ℕ) (a q c o r : ℕ) (n : List ℕ) (xs : List Item) (es : List Event)
+read-change : (names : List (List ℕ)) (files : ℕ) (on : Bool) (set e : List ℕ) (a q c o r : ℕ) (n : List ℕ) (xs : List Item)
+    (es : List Event)
     → GoodFirst set e → GoodSecond e → c < 1000000 → a < 9999 → r + 1 < 16 → length names < 16
     → length n ≡ 6 → labelFault (vol 1) (madeVolume n) .number ≡ 0 → isAmong n names ≡ false
     → ReadTo (at Data (names ++ (n ∷ [])) files true (madeFirst HDR1 set e (suc a) q 0) (madeSecond HDR2 e) 0 o) (r + 1) xs es
     → ReadTo (at Data names files on (madeFirst HDR1 set e a q 0) (madeSecond HDR2 e) c o) r
-    (volumeEnd set e a q c ++ (block (madeVolume n) ∷ headers set e (suc a) q) ++ xs) (continues (madeFirst HDR1 set e (suc a) q 0) (madeSecond HDR2 e) ∷ es)
+    (volumeEnd set e a q c ++ (block (madeVolume n) ∷ headers set e (suc a) q) ++ xs)
+    (continues (madeFirst HDR1 set e (suc a) q 0) (madeSecond HDR2 e) ∷ es)
 unfolding volumeEnd headers dueAfter dues choose upToNine isKind ifB
 read-change names files on set e a q c o r n xs es g k h b m w i v u z =
     let f : List ℕ = madeFirst HDR1 set e a q 0 in
@@ -163,8 +176,10 @@ read-change names files on set e a q c o r n xs es g k h b m w i v u z =
     (read-mark _ _ r _ _ (act-mark VolumeEnd ReelClosed names files true f s c o refl) here
     (read-end _ _ r _ _ (act-reel-end ReelClosed ReelDue names files true f s c o refl) here
     (read-label _ _ (r + 1) _ _ [] _ (act-volume names files true f s c o n i v w u) (length-volume n) m
-    (read-label _ _ (r + 1) _ _ [] _ (act-header-later (names ++ (n ∷ [])) files s c o set e a q g b) (length-first HDR1 set e (suc a) q 0) m
-    (read-label _ _ (r + 1) _ _ (continues t s ∷ []) es (act-second-later (names ++ (n ∷ [])) files t 0 o e k) (length-second HDR2 e) m
+    (read-label _ _ (r + 1) _ _ [] _ (act-header-later (names ++ (n ∷ [])) files s c o set e a q g b)
+    (length-first HDR1 set e (suc a) q 0) m
+    (read-label _ _ (r + 1) _ _ (continues t s ∷ []) es (act-second-later (names ++ (n ∷ [])) files t 0 o e k)
+    (length-second HDR2 e) m
     (read-mark _ _ (r + 1) xs es (act-mark (Header 2) Data (names ++ (n ∷ [])) files true t s 0 o refl) m z)))))))))
 
 -- ---- the blocks of a file
@@ -193,7 +208,8 @@ reel-few r used left h = omega (arith, h .begun, h .left .few)
 
 -- a reel that is left
 pub usable-next : {A : Type 0} (used : List (List ℕ)) (t : Reel) (reels : List Reel) → Usable used (t ∷ reels)
-    → (length (t .name) ≡ 6 → labelFault (vol 1) (madeVolume (t .name)) .number ≡ 0 → isAmong (t .name) used ≡ false → 1 ≤ t .room → t .room ≤ 999999
+    → (length (t .name) ≡ 6 → labelFault (vol 1) (madeVolume (t .name)) .number ≡ 0 → isAmong (t .name) used ≡ false → 1 ≤ t .room
+    → t .room ≤ 999999
     → Usable (used ++ (t .name ∷ [])) reels → A) → A
 unfolding freshNames legalName isSound
 usable-next {A} used t reels h k =
@@ -204,10 +220,12 @@ usable-next {A} used t reels h k =
     both (ifB (eqb (length n) 6) (eqb (labelFault (vol 1) (madeVolume n) .number) 0) false) _
     (λ a b. both (eqb (length n) 6) _
     (λ c d. if-case (λ (z : Bool). z ≡ true → A) (isAmong n used) false others (λ _ q. absurd (false≢true q))
-    (λ u q. k (eqb-true _ _ c) (eqb-true _ _ d) u (h .rooms .0) (h .rooms .1) (record { few = omega arith; fresh = q; rooms = h .rooms .2 })) b) a) (h .fresh)
+    (λ u q. k (eqb-true _ _ c) (eqb-true _ _ d) u (h .rooms .0) (h .rooms .1)
+    (record { few = omega arith; fresh = q; rooms = h .rooms .2 })) b) a) (h .fresh)
 
 -- the change of reels with the block for which it is made
-read-change-block : (names : List (List ℕ)) (files : ℕ) (on : Bool) (set e : List ℕ) (a q c o p r : ℕ) (n b : List ℕ) (g : List Segment) (xs : List Item)
+read-change-block : (names : List (List ℕ)) (files : ℕ) (on : Bool) (set e : List ℕ) (a q c o p r : ℕ) (n b : List ℕ)
+    (g : List Segment) (xs : List Item)
     (es : List Event) → GoodFirst set e → GoodSecond e → c < 1000000 → a < 9999 → r + 1 < 16 → length names < 16
     → length n ≡ 6 → labelFault (vol 1) (madeVolume n) .number ≡ 0 → isAmong n names ≡ false
     → Block (formatFrom e) (blockLengthFrom e) (recordLengthFrom e) o p b g
@@ -218,7 +236,8 @@ read-change-block : (names : List (List ℕ)) (files : ℕ) (on : Bool) (set e :
 unfolding volumeEnd headers
 read-change-block names files on set e a q c o p r n b g xs es f k h i m w l v u x z =
     read-change names files on set e a q c o r n (block b ∷ xs) (holds b g ∷ es) f k h i m w l v u
-    (read-block _ _ (r + 1) b xs (holds b g ∷ []) es (act-block (names ++ (n ∷ [])) files true (madeFirst HDR1 set e (suc a) q 0) e b 0 o p g k x) (x .item) m z)
+    (read-block _ _ (r + 1) b xs (holds b g ∷ []) es
+    (act-block (names ++ (n ∷ [])) files true (madeFirst HDR1 set e (suc a) q 0) e b 0 o p g k x) (x .item) m z)
 
 -- what is handed out is folded to this
 abbrev Collects : Collected → List Event → Type 0
@@ -232,27 +251,36 @@ collects-block : (b : List ℕ) (g : List Segment) (gs : List (List Segment)) (c
     → Collects (onto (flat gs) c) es → Collects (onto (flat (g ∷ gs)) c) (holds b g ∷ es)
 unfolding collect flat
 collects-block b g gs c es h =
-    ap (onto g) h ∙ ap (λ (l : List Segment). record { segments = l; files = c .files }) (sym (append-assoc g (flat gs) (c .segments)))
+    ap (onto g) h ∙ ap (λ (l : List Segment). record { segments = l; files = c .files })
+    (sym (append-assoc g (flat gs) (c .segments)))
 
 module _ (set e : List ℕ) (q : ℕ) (later : ℕ → List Reel → Laid) (d : Collected) (g : GoodFirst set e) (k : GoodSecond e)
     (ends : (room r a c : ℕ) (used : List (List ℕ)) (left : List Reel) → ReelsRead r used left → room ≤ 999999
-    → ReadToEnd (at FileEnd used q false (madeFirst HDR1 set e a q 0) (madeSecond HDR2 e) c 0) r (later room left) (Collects d)) where
+    → ReadToEnd (at FileEnd used q false (madeFirst HDR1 set e a q 0) (madeSecond HDR2 e) c 0) r (later room left)
+    (Collects d)) where
   -- whatever is laid behind the file, its blocks are read to its end
-  rest-ends : (bs : List (List ℕ)) (gs : List (List Segment)) (a c room o r : ℕ) (on : Bool) (used : List (List ℕ)) (left : List Reel)
-      → Blocks (formatFrom e) (blockLengthFrom e) (recordLengthFrom e) o bs gs → ReelsRead r used left → a ≤ length used → c + room ≤ 999999
-      → ReadToEnd (at Data used q on (madeFirst HDR1 set e a q 0) (madeSecond HDR2 e) c o) r (rest set e q a c room left bs later) (Collects (onto (flat gs) d))
+  rest-ends : (bs : List (List ℕ)) (gs : List (List Segment)) (a c room o r : ℕ) (on : Bool) (used : List (List ℕ))
+      (left : List Reel)
+      → Blocks (formatFrom e) (blockLengthFrom e) (recordLengthFrom e) o bs gs → ReelsRead r used left → a ≤ length used
+      → c + room ≤ 999999
+      → ReadToEnd (at Data used q on (madeFirst HDR1 set e a q 0) (madeSecond HDR2 e) c o) r (rest set e q a c room left bs later)
+      (Collects (onto (flat gs) d))
   unfolding rest flat collect
   rest-ends [] [] a c room o r on used left h reels m w =
       let here : r < 16 = reel-few r used left reels in
-      subst (λ (n : ℕ). ReadToEnd (at Data used q on (madeFirst HDR1 set e a q 0) (madeSecond HDR2 e) c n) r (put (fileEnd set e a q c) (later room left)) (Collects d)) (sym h)
+      subst (λ (n : ℕ). ReadToEnd (at Data used q on (madeFirst HDR1 set e a q 0) (madeSecond HDR2 e) c n) r
+      (put (fileEnd set e a q c) (later room left)) (Collects d)) (sym h)
       (ends-put _ _ r r (fileEnd set e a q c) (later room left) (Collects d) (Collects d) (λ es. es)
-      (λ zs es z. read-file-end used q on set e a q c r zs es g k (omega arith) here z) (λ es z. z) (ends room r a c used left reels (omega arith)))
+      (λ zs es z. read-file-end used q on set e a q c r zs es g k (omega arith) here z) (λ es z. z)
+      (ends room r a c used left reels (omega arith)))
   rest-ends [] (x ∷ gs) a c room o r on used left h reels m w = absurd h
   rest-ends (b ∷ bs) [] a c room o r on used left h reels m w = absurd h
   rest-ends (b ∷ bs) (x ∷ gs) a c (suc room) o r on used left (p, h, i) reels m w =
       let here : r < 16 = reel-few r used left reels in
-      ends-put _ _ r r (block b ∷ []) (rest set e q a (suc c) room left bs later) (Collects (onto (flat (x ∷ gs)) d)) (Collects (onto (flat gs) d)) (λ es. holds b x ∷ es)
-      (λ zs es z. read-block _ _ r b zs (holds b x ∷ []) es (act-block used q on (madeFirst HDR1 set e a q 0) e b c o p x k h) (h .item) here z)
+      ends-put _ _ r r (block b ∷ []) (rest set e q a (suc c) room left bs later) (Collects (onto (flat (x ∷ gs)) d))
+      (Collects (onto (flat gs) d)) (λ es. holds b x ∷ es)
+      (λ zs es z. read-block _ _ r b zs (holds b x ∷ []) es (act-block used q on (madeFirst HDR1 set e a q 0) e b c o p x k h)
+      (h .item) here z)
       (collects-block b x gs d) (rest-ends bs gs a (suc c) room p r on used left i reels m (omega arith))
   rest-ends (b ∷ bs) (x ∷ gs) a c zero o r on used [] h reels m w = λ xs z. absurd (subst IsLaid (sym z) tt)
   rest-ends (b ∷ bs) (x ∷ gs) a c zero o r on used (t ∷ left) (p, h, i) reels m w =
@@ -262,11 +290,14 @@ module _ (set e : List ℕ) (q : ℕ) (later : ℕ → List Reel → Laid) (d : 
       let long : length (used ++ (n ∷ [])) ≡ length used + 1 = length-append used (n ∷ []) in
       usable-next used t left (reels .left)
       (λ six sound new some most usable.
-      ends-put _ _ r (r + 1) _ (rest set e q (suc a) 1 (pred (t .room)) left bs later) (Collects (onto (flat (x ∷ gs)) d)) (Collects (onto (flat gs) d))
+      ends-put _ _ r (r + 1) _ (rest set e q (suc a) 1 (pred (t .room)) left bs later) (Collects (onto (flat (x ∷ gs)) d))
+      (Collects (onto (flat gs) d))
       (λ es. continues (madeFirst HDR1 set e (suc a) q 0) (madeSecond HDR2 e) ∷ holds b x ∷ es)
-      (λ zs es z. read-change-block used q on set e a q c o p r n b x zs es g k (omega arith) (omega arith) (omega arith) (omega arith) six sound new h z)
+      (λ zs es z. read-change-block used q on set e a q c o p r n b x zs es g k (omega arith) (omega arith) (omega arith)
+      (omega arith) six sound new h z)
       (collects-block b x gs d)
-      (rest-ends bs gs (suc a) 1 (pred (t .room)) p (r + 1) true (used ++ (n ∷ [])) left i (record { begun = omega arith; left = usable }) (omega arith) (omega arith)))
+      (rest-ends bs gs (suc a) 1 (pred (t .room)) p (r + 1) true (used ++ (n ∷ [])) left i
+      (record { begun = omega arith; left = usable }) (omega arith) (omega arith)))
 
 -- ---- all files
 
@@ -275,11 +306,13 @@ abbrev pub Files : List File → List Event → Type 0
 Files ds = Collects (record { segments = []; files = ds })
 
 -- the second mark and the end of the last reel
-read-last : (names : List (List ℕ)) (files : ℕ) (f s : List ℕ) (c r : ℕ) → r < 16 → ReadTo (at FileEnd names files false f s c 0) r (mark ∷ reelEnd ∷ []) []
+read-last : (names : List (List ℕ)) (files : ℕ) (f s : List ℕ) (c r : ℕ) → r < 16
+    → ReadTo (at FileEnd names files false f s c 0) r (mark ∷ reelEnd ∷ []) []
 unfolding dueAfter dues choose upToNine isKind ifB
 read-last names files f s c r h =
     read-mark _ _ r (reelEnd ∷ []) [] (act-mark FileEnd SetClosed names files false f s c 0 refl) h
-    (closing (at SetClosed names files false f s c 0) (at Over names files false f s c 0) r refl (act-reel-end SetClosed Over names files false f s c 0 refl) h)
+    (closing (at SetClosed names files false f s c 0) (at Over names files false f s c 0) r refl
+    (act-reel-end SetClosed Over names files false f s c 0 refl) h)
   where
     over : (t : State) → t .phase ≡ Over → runs t [] ≡ ended []
     over t p = unfold runs isDue in if-true _ _ _ (ap (λ (z : Phase). isDue (dueAfter z endOfImage)) p)
@@ -292,11 +325,13 @@ read-last names files f s c r h =
     }
 
 pub legal-file : {A : Type 0} (set : List ℕ) (d : File) (ds : List File) → legalFiles set (d ∷ ds) ≡ true
-    → (legalEntry set (d .fields) ≡ true → legalRecords (formatFrom (d .fields)) (recordLengthFrom (d .fields)) (d .records) ≡ true
+    → (legalEntry set (d .fields) ≡ true
+    → legalRecords (formatFrom (d .fields)) (recordLengthFrom (d .fields)) (d .records) ≡ true
     → legalFiles set ds ≡ true → A) → A
 unfolding legalFiles legalFile
 legal-file set d ds h k =
-    both (ifB (legalEntry set (d .fields)) (legalRecords (formatFrom (d .fields)) (recordLengthFrom (d .fields)) (d .records)) false) _
+    both (ifB (legalEntry set (d .fields))
+    (legalRecords (formatFrom (d .fields)) (recordLengthFrom (d .fields)) (d .records)) false) _
     (λ a b. both (legalEntry set (d .fields)) _ (λ c r. k c r b) a) h
 
 pub one-set : (files : ℕ) (set e : List ℕ) (a q : ℕ) → GoodFirst set e → OneSet (suc files) set (madeFirst HDR1 set e a q 0)
@@ -305,9 +340,11 @@ one-set files set e a q g =
     if-false _ _ _ (ne-eqb (suc files) 0 other) ∙ ap (same set) (set-back HDR1 set e a q 0 (g .six)) ∙ same-refl set
 
 -- the labels of a legal file and the segments of its blocks are folded to this file
-file-collected : (set : List ℕ) (d : File) (ds : List File) (q : ℕ) (es : List Event) → GoodFirst set (d .fields) → GoodSecond (d .fields)
+file-collected : (set : List ℕ) (d : File) (ds : List File) (q : ℕ) (es : List Event) → GoodFirst set (d .fields)
+    → GoodSecond (d .fields)
     → legalRecords (formatFrom (d .fields)) (recordLengthFrom (d .fields)) (d .records) ≡ true
-    → Collects (onto (flat (held (formatFrom (d .fields)) (blockLengthFrom (d .fields)) (d .records))) (record { segments = []; files = ds })) es
+    → Collects (onto (flat (held (formatFrom (d .fields)) (blockLengthFrom (d .fields)) (d .records)))
+    (record { segments = []; files = ds })) es
     → Files (d ∷ ds) (begins (madeFirst HDR1 set (d .fields) 1 q 0) (madeSecond HDR2 (d .fields)) ∷ es)
 unfolding collect
 file-collected set d ds q es g k records h =
@@ -315,7 +352,8 @@ file-collected set d ds q es g k records h =
     let segments : List Segment = flat (held (formatFrom e) (blockLengthFrom e) (d .records)) in
     let again : joined (segments ++ []) ≡ d .records
     = ap joined (append-nil segments) ∙ file-records (formatFrom e) (blockLengthFrom e) (recordLengthFrom e) (d .records) (suited e k) records in
-    ap (λ (c : Collected). filed (fieldsFrom (madeFirst HDR1 set e 1 q 0) (madeSecond HDR2 e)) (joined (c .segments)) (c .files)) h
+    ap (λ (c : Collected). filed (fieldsFrom (madeFirst HDR1 set e 1 q 0) (madeSecond HDR2 e)) (joined (c .segments))
+    (c .files)) h
     ∙ ap₂ (λ (f : List ℕ) (xs : List (List ℕ)). filed f xs ds) (entry-back set e 1 q (g .long)) again
   where
     filed : List ℕ → List (List ℕ) → List File → Collected
@@ -323,14 +361,18 @@ file-collected set d ds q es g k records h =
 
 module _ (set : List ℕ) where
   -- one file, where what is laid behind it is read to its end
-  pub file-ends : (d : File) (ds : List File) (p : Phase) (files room r c : ℕ) (used : List (List ℕ)) (left : List Reel) (f s : List ℕ)
+  pub file-ends : (d : File) (ds : List File) (p : Phase) (files room r c : ℕ) (used : List (List ℕ)) (left : List Reel)
+      (f s : List ℕ)
       → isDue (dueAfter p dataBlock) ≡ false → dueAfter p (hdr 1) ≡ To FirstHeader → OneSet files set f → files < 64
-      → legalEntry set (d .fields) ≡ true → legalRecords (formatFrom (d .fields)) (recordLengthFrom (d .fields)) (d .records) ≡ true
+      → legalEntry set (d .fields) ≡ true
+      → legalRecords (formatFrom (d .fields)) (recordLengthFrom (d .fields)) (d .records) ≡ true
       → ReelsRead r used left → room ≤ 999999
       → ((room r a c : ℕ) (used : List (List ℕ)) (left : List Reel) → ReelsRead r used left → room ≤ 999999
-      → ReadToEnd (at FileEnd used (suc files) false (madeFirst HDR1 set (d .fields) a (suc files) 0) (madeSecond HDR2 (d .fields)) c 0) r
+      → ReadToEnd (at FileEnd used (suc files) false (madeFirst HDR1 set (d .fields) a (suc files) 0)
+      (madeSecond HDR2 (d .fields)) c 0) r
       (layFiles set (suc (suc files)) room left ds) (Files ds))
-      → ReadToEnd (at p used files false f s c 0) r (layFiles set (suc files) room left (d ∷ ds)) (λ es. Files (d ∷ ds) es × (setFrom es ≡ set))
+      → ReadToEnd (at p used files false f s c 0) r (layFiles set (suc files) room left (d ∷ ds))
+      (λ es. Files (d ∷ ds) es × (setFrom es ≡ set))
   unfolding layFiles setFrom
   file-ends d ds p files room r c used left f s due first one few legal records reels h later =
       let e : List ℕ = d .fields in
@@ -339,22 +381,26 @@ module _ (set : List ℕ) where
       let begun : suc r ≡ length used = reels .begun in
       let gs : List (List Segment) = held (formatFrom e) (blockLengthFrom e) (d .records) in
       let behind : Collected = record { segments = []; files = ds } in
-      ends-put _ _ r r (headers set e 1 (suc files)) _ (λ es. Files (d ∷ ds) es × (setFrom es ≡ set)) (Collects (onto (flat gs) behind))
+      ends-put _ _ r r (headers set e 1 (suc files)) _ (λ es. Files (d ∷ ds) es × (setFrom es ≡ set))
+      (Collects (onto (flat gs) behind))
       (λ es. begins (madeFirst HDR1 set e 1 (suc files) 0) (madeSecond HDR2 e) ∷ es)
       (λ zs es z. read-headers p used files f s c r set e zs es due first g k one few (reel-few r used left reels) z)
       (λ es z. (file-collected set d ds (suc files) es g k records z, set-back HDR1 set e 1 (suc files) 0 (g .six)))
       (rest-ends set e (suc files) (λ rooms others. layFiles set (suc (suc files)) rooms others ds) behind g k later
       (blocksOf (formatFrom e) (blockLengthFrom e) (d .records)) gs 1 0 room 0 r false used left
-      (file-blocks (formatFrom e) (blockLengthFrom e) (recordLengthFrom e) (d .records) (suited e k) records) reels (omega arith) (omega arith))
+      (file-blocks (formatFrom e) (blockLengthFrom e) (recordLengthFrom e) (d .records) (suited e k) records) reels (omega arith)
+      (omega arith))
 
   -- the files behind one that is ended
-  pub files-end : (ds : List File) (files room r c : ℕ) (used : List (List ℕ)) (left : List Reel) (f s : List ℕ) → OneSet files set f → files + length ds ≤ 64
+  pub files-end : (ds : List File) (files room r c : ℕ) (used : List (List ℕ)) (left : List Reel) (f s : List ℕ)
+      → OneSet files set f → files + length ds ≤ 64
       → legalFiles set ds ≡ true → ReelsRead r used left → room ≤ 999999
       → ReadToEnd (at FileEnd used files false f s c 0) r (layFiles set (suc files) room left ds) (Files ds)
   unfolding layFiles collect dueAfter dues choose isDue isKind ifB
   files-end [] files room r c used left f s one few legal reels h = λ xs z. (
     [],
-    subst (λ (l : List Item). ReadTo (at FileEnd used files false f s c 0) r l []) (ap itemsOf z) (read-last used files f s c r (reel-few r used left reels)),
+    subst (λ (l : List Item). ReadTo (at FileEnd used files false f s c 0) r l []) (ap itemsOf z)
+        (read-last used files f s c r (reel-few r used left reels)),
     refl,
   )
   files-end (d ∷ ds) files room r c used left f s one few legal reels h =

@@ -107,7 +107,8 @@ Open f r o finished = o ≡ 0
 Open f r o (going t x xs) = UnitReady f r t o true x × (legalRecords f r xs ≡ true)
 
 -- a record that goes on in the next block
-goes-on : (f r t o k : ℕ) (head : Bool) (x : List ℕ) → Format f → UnitReady f r t o head x → f ≡ 83 → k ≤ length x → (k ≡ length x → ⊥)
+goes-on : (f r t o k : ℕ) (head : Bool) (x : List ℕ) → Format f → UnitReady f r t o head x → f ≡ 83 → k ≤ length x
+    → (k ≡ length x → ⊥)
     → (p : ℕ) × Turned r o p head (indicatorOf t k (length x)) k × UnitReady f r 1 p true (drop k x)
 goes-on f r t o k head x form (fresh z q h) e m d =
     let most : length x ≤ r = legal-most f r x form h in
@@ -146,7 +147,8 @@ record Filled (f b r u o : ℕ) (head : Bool) (c : List ℕ) (l : Left) (g : Lis
   left : Open f r opens l
 
 abbrev Fills : ℕ → ℕ → ℕ → UnitSaid
-Fills f b r u t x xs c l g = (o : ℕ) (head : Bool) → UnitReady f r t o head x → legalRecords f r xs ≡ true → u ≤ b → Filled f b r u o head c l g
+Fills f b r u t x xs c l g =
+    (o : ℕ) (head : Bool) → UnitReady f r t o head x → legalRecords f r xs ≡ true → u ≤ b → Filled f b r u o head c l g
 
 -- the one segment of a unit that closes the block
 cut-one : (f b r u t o : ℕ) (head : Bool) (x : List ℕ) → Format f → UnitReady f r t o head x → enters f b u (length x) ≡ true
@@ -165,7 +167,8 @@ unfolding turnsFrom
 fill-full f b r u t x xs o head ready legal h =
     record { cuts = cut-nothing f r; within = omega arith; opens = o; turns = refl; left = (ready-first f r t o head x ready, legal) }
 
-fill-broken : (f b r u t : ℕ) (x : List ℕ) (xs : List (List ℕ)) → Format f → enters f b u (length x) ≡ true → (taken f b u (length x) ≡ length x → ⊥)
+fill-broken : (f b r u t : ℕ) (x : List ℕ) (xs : List (List ℕ)) → Format f → enters f b u (length x) ≡ true
+    → (taken f b u (length x) ≡ length x → ⊥)
     → Fills f b r u t x xs (unitIn f b u t x) (going 1 (drop (taken f b u (length x)) x) xs) (segmentIn f b u t x ∷ [])
 unfolding turnsFrom
 fill-broken f b r u t x xs form e d o head ready legal h =
@@ -198,7 +201,8 @@ unfolding legalRecords
 legal-next f r y ys h k = both (legalRecord f r y) (legalRecords f r ys) k h
 
 fill-more : (f b r u t : ℕ) (x y : List ℕ) (ys : List (List ℕ)) (c : List ℕ) (l : Left) (g : List Segment) → Format f
-    → enters f b u (length x) ≡ true → taken f b u (length x) ≡ length x → Fills f b r (u + length (unitIn f b u t x)) 0 y ys c l g
+    → enters f b u (length x) ≡ true → taken f b u (length x) ≡ length x
+    → Fills f b r (u + length (unitIn f b u t x)) 0 y ys c l g
     → Fills f b r u t x (y ∷ ys) (unitIn f b u t x ++ c) l (segmentIn f b u t x ∷ g)
 unfolding onto
 fill-more f b r u t x y ys c l g form e k again o head ready legal h =
@@ -232,19 +236,23 @@ remaining finished = []
 remaining (going t x xs) = x ∷ xs
 
 -- a segment that ends its record, and one that does not
-joined-end : (t k n : ℕ) (bs : List ℕ) (more : List Segment) → k ≡ n → joined (segmentOf (indicatorOf t k n) bs ∷ more) ≡ bs ∷ joined more
+joined-end : (t k n : ℕ) (bs : List ℕ) (more : List Segment) → k ≡ n
+    → joined (segmentOf (indicatorOf t k n) bs ∷ more) ≡ bs ∷ joined more
 unfolding indicatorOf joined ifB
 joined-end t k n bs more e =
     let i : indicatorOf t k n ≡ ifB (eqb t 0) 0 3 = if-true _ _ _ (eq-eqb k n e) in
     ap (λ (j : ℕ). joined (segmentOf j bs ∷ more)) i
-    ∙ by-test (eqb t 0) (λ z. ap (λ (j : ℕ). joined (segmentOf j bs ∷ more)) (if-true _ _ _ z)) (λ z. ap (λ (j : ℕ). joined (segmentOf j bs ∷ more)) (if-false _ _ _ z))
+    ∙ by-test (eqb t 0) (λ z. ap (λ (j : ℕ). joined (segmentOf j bs ∷ more)) (if-true _ _ _ z))
+    (λ z. ap (λ (j : ℕ). joined (segmentOf j bs ∷ more)) (if-false _ _ _ z))
 
-joined-on : (t k n : ℕ) (bs : List ℕ) (more : List Segment) → (k ≡ n → ⊥) → joined (segmentOf (indicatorOf t k n) bs ∷ more) ≡ onFirst bs (joined more)
+joined-on : (t k n : ℕ) (bs : List ℕ) (more : List Segment) → (k ≡ n → ⊥)
+    → joined (segmentOf (indicatorOf t k n) bs ∷ more) ≡ onFirst bs (joined more)
 unfolding indicatorOf joined ifB
 joined-on t k n bs more d =
     let i : indicatorOf t k n ≡ ifB (eqb t 0) 1 2 = if-false _ _ _ (ne-eqb k n d) in
     ap (λ (j : ℕ). joined (segmentOf j bs ∷ more)) i
-    ∙ by-test (eqb t 0) (λ z. ap (λ (j : ℕ). joined (segmentOf j bs ∷ more)) (if-true _ _ _ z)) (λ z. ap (λ (j : ℕ). joined (segmentOf j bs ∷ more)) (if-false _ _ _ z))
+    ∙ by-test (eqb t 0) (λ z. ap (λ (j : ℕ). joined (segmentOf j bs ∷ more)) (if-true _ _ _ z))
+    (λ z. ap (λ (j : ℕ). joined (segmentOf j bs ∷ more)) (if-false _ _ _ z))
 
 abbrev Joins : UnitSaid
 Joins u t x xs c l g = (more : List Segment) → joined more ≡ remaining l → joined (g ++ more) ≡ x ∷ xs
@@ -297,7 +305,8 @@ suited-whole : (f b r : ℕ) → eqb f 83 ≡ false → suits f b r 0 ≡ true �
 unfolding suits
 suited-whole f b r e h = let k : r + 0 ≤ b = leb-true _ _ (sym (if-false _ _ _ e) ∙ h) in omega arith
 
-legal-enters : (f b r : ℕ) (x : List ℕ) → Format f → suits f b r 0 ≡ true → legalRecord f r x ≡ true → enters f b 0 (length x) ≡ true
+legal-enters : (f b r : ℕ) (x : List ℕ) → Format f → suits f b r 0 ≡ true → legalRecord f r x ≡ true
+    → enters f b 0 (length x) ≡ true
 legal-enters f b r x (isF e) s h =
     let other : f ≡ 83 → ⊥ = λ q. omega arith in
     let same : length x ≡ r = legal-F f r x e h .0 in
@@ -310,7 +319,8 @@ legal-enters f b r x (isD e) s h =
     whole-enters f b (length x) (ne-eqb f 83 other) (omega (arith, word-variable f e))
 legal-enters f b r x (isS e) s h = segment-enters f b (length x) e (suited-S f b r e s)
 
-ready-enters : (f b r t o : ℕ) (head : Bool) (x : List ℕ) → Suited f b r → UnitReady f r t o head x → enters f b 0 (length x) ≡ true
+ready-enters : (f b r t o : ℕ) (head : Bool) (x : List ℕ) → Suited f b r → UnitReady f r t o head x
+    → enters f b 0 (length x) ≡ true
 ready-enters f b r t o head x s (fresh _ _ h) = legal-enters f b r x (s .format) (s .lengths) h
 ready-enters f b r t o head x s (begun _ e _ _ _) = segment-enters f b (length x) e (suited-S f b r e (s .lengths))
 
@@ -349,7 +359,8 @@ Absent (some g) = ⊥
 unequal : (g : List Segment) → none ≡ some g → ⊥
 unequal g e = subst Absent e tt
 
-first-block : (f b r t o : ℕ) (x : List ℕ) (xs : List (List ℕ)) → Suited f b r → UnitReady f r t o true x → legalRecords f r xs ≡ true
+first-block : (f b r t o : ℕ) (x : List ℕ) (xs : List (List ℕ)) → Suited f b r → UnitReady f r t o true x
+    → legalRecords f r xs ≡ true
     → (p : ℕ) × Block f b r o p (fill f b 0 t x xs) (segmentsFrom f b 0 t x xs) × Open f r p (after f b 0 t x xs)
 unfolding units isItem
 first-block f b r t o x xs s ready legal =
@@ -361,7 +372,9 @@ first-block f b r t o x xs s ready legal =
     let most : b ≤ 99999 = s .most in (
       a .opens,
       record {
-        cuts = if-true _ _ _ (le-leb (length c) b (omega arith)) ∙ if-true _ _ _ (le-leb 0 (length c) (omega arith)) ∙ ap someUnits (a .cuts) ∙ one;
+        cuts =
+            if-true _ _ _ (le-leb (length c) b (omega arith)) ∙ if-true _ _ _ (le-leb 0 (length c) (omega arith))
+            ∙ ap someUnits (a .cuts) ∙ one;
         turns = a .turns;
         item = and-true _ _ (le-leb 1 (length c) (some-bytes f r c g (a .cuts) one)) (le-leb (length c) 99999 (omega arith));
       },
@@ -379,7 +392,8 @@ open-room : (f b r o : ℕ) (l : Left) → Suited f b r → Open f r o l → Roo
 open-room f b r o finished s h = tt
 open-room f b r o (going t x xs) s h = (ready-enters f b r t o true x s (h .0), legal-room f b r xs s (h .1))
 
-blocks-read : (k f b r o : ℕ) (l : Left) → Suited f b r → Open f r o l → weight l ≤ k → Blocks f b r o (blocksF k f b l) (heldF k f b l)
+blocks-read : (k f b r o : ℕ) (l : Left) → Suited f b r → Open f r o l → weight l ≤ k
+    → Blocks f b r o (blocksF k f b l) (heldF k f b l)
 unfolding blocksF heldF weight weights
 blocks-read zero f b r o finished s h m = h
 blocks-read zero f b r o (going t x xs) s h m = absurd (omega arith)
@@ -394,7 +408,8 @@ unfoldable pub flat : List (List Segment) → List Segment
 flat [] = []
 flat (g ∷ gs) = g ++ flat gs
 
-records-back : (k f b r o : ℕ) (l : Left) → Suited f b r → Open f r o l → weight l ≤ k → joined (flat (heldF k f b l)) ≡ remaining l
+records-back : (k f b r o : ℕ) (l : Left) → Suited f b r → Open f r o l → weight l ≤ k
+    → joined (flat (heldF k f b l)) ≡ remaining l
 unfolding heldF flat weight weights remaining joined
 records-back zero f b r o finished s h m = refl
 records-back zero f b r o (going t x xs) s h m = absurd (omega arith)
@@ -413,7 +428,8 @@ open-start f r [] h = refl
 open-start f r (x ∷ xs) h = legal-next f r x xs h (λ here rest. (fresh refl refl here, rest))
 
 -- the blocks of a legal file are read as its segments, with nothing open behind the last
-pub file-blocks : (f b r : ℕ) (xs : List (List ℕ)) → Suited f b r → legalRecords f r xs ≡ true → Blocks f b r 0 (blocksOf f b xs) (held f b xs)
+pub file-blocks : (f b r : ℕ) (xs : List (List ℕ)) → Suited f b r → legalRecords f r xs ≡ true
+    → Blocks f b r 0 (blocksOf f b xs) (held f b xs)
 unfolding blocksOf blocksLeft held
 file-blocks f b r xs s h = blocks-read (weight (startOf xs)) f b r 0 (startOf xs) s (open-start f r xs h) (omega arith)
 

@@ -1,4 +1,5 @@
--- The packing of a file: the numbers of a unit, one induction over the records of a block for whatever is said of it, and the equation of
+-- The packing of a file: the numbers of a unit, one induction over the records of a block for whatever is said of it, and the
+-- equation of
 -- `blocksLeft` without the number that it counts down. Assumes nothing.
 use mathlib.Core.Path.{_≡_, refl, sym, ap, _∙_, subst}
 use mathlib.Core.Bool.{Bool, true, false}
@@ -106,7 +107,8 @@ unfoldable pub segmentsFrom : ℕ → ℕ → ℕ → ℕ → List ℕ → List 
 segmentsFrom f b u t x [] = ifB (enters f b u (length x)) (segmentIn f b u t x ∷ []) []
 segmentsFrom f b u t x (y ∷ ys) =
     ifB (enters f b u (length x))
-    (ifB (eqb (taken f b u (length x)) (length x)) (segmentIn f b u t x ∷ segmentsFrom f b (u + length (unitIn f b u t x)) 0 y ys) (segmentIn f b u t x ∷ []))
+    (ifB (eqb (taken f b u (length x)) (length x)) (segmentIn f b u t x ∷ segmentsFrom f b (u + length (unitIn f b u t x)) 0 y ys)
+    (segmentIn f b u t x ∷ []))
     []
 
 -- what is said of the bytes that the open block still gets, of what is left behind it, and of its segments
@@ -116,7 +118,8 @@ UnitSaid = ℕ → ℕ → List ℕ → List (List ℕ) → List ℕ → Left �
 -- the four ways: the record does not enter; its segment closes the block; it was the last; the next record follows
 pub record Ways (f b : ℕ) (P : UnitSaid) : Type 0 where
   pub full : (u t : ℕ) (x : List ℕ) (xs : List (List ℕ)) → enters f b u (length x) ≡ false → P u t x xs [] (going t x xs) []
-  pub broken : (u t : ℕ) (x : List ℕ) (xs : List (List ℕ)) → enters f b u (length x) ≡ true → (taken f b u (length x) ≡ length x → ⊥)
+  pub broken : (u t : ℕ) (x : List ℕ) (xs : List (List ℕ)) → enters f b u (length x) ≡ true
+      → (taken f b u (length x) ≡ length x → ⊥)
       → P u t x xs (unitIn f b u t x) (going 1 (drop (taken f b u (length x)) x) xs) (segmentIn f b u t x ∷ [])
   pub last : (u t : ℕ) (x : List ℕ) → enters f b u (length x) ≡ true → taken f b u (length x) ≡ length x
       → P u t x [] (unitIn f b u t x) finished (segmentIn f b u t x ∷ [])
@@ -128,7 +131,8 @@ pub record Ways (f b : ℕ) (P : UnitSaid) : Type 0 where
 over : (P : UnitSaid) (u t : ℕ) (x : List ℕ) (xs : List (List ℕ)) {c d : List ℕ} {l m : Left} {g h : List Segment}
     → c ≡ d → l ≡ m → g ≡ h → P u t x xs d m h → P u t x xs c l g
 over P u t x xs {c} {d} {l} {m} {g} {h} p q r z =
-    subst (λ (e : List ℕ). P u t x xs e l g) (sym p) (subst (λ (e : Left). P u t x xs d e g) (sym q) (subst (P u t x xs d m) (sym r) z))
+    subst (λ (e : List ℕ). P u t x xs e l g) (sym p)
+    (subst (λ (e : Left). P u t x xs d e g) (sym q) (subst (P u t x xs d m) (sym r) z))
 
 pub by-ways : (f b : ℕ) (P : UnitSaid) → Ways f b P → (u t : ℕ) (x : List ℕ) (xs : List (List ℕ))
     → P u t x xs (fill f b u t x xs) (after f b u t x xs) (segmentsFrom f b u t x xs)
@@ -136,15 +140,19 @@ unfolding fill after segmentsFrom
 by-ways f b P w u t x [] =
     by-test (enters f b u (length x))
     (λ e. by-test (eqb (taken f b u (length x)) (length x))
-    (λ k. over P u t x [] (if-true _ _ _ e) (if-true _ _ _ e ∙ if-true _ _ _ k) (if-true _ _ _ e) (w .last u t x e (eqb-true _ _ k)))
-    (λ k. over P u t x [] (if-true _ _ _ e) (if-true _ _ _ e ∙ if-false _ _ _ k) (if-true _ _ _ e) (w .broken u t x [] e (eqb-false _ _ k))))
+    (λ k. over P u t x [] (if-true _ _ _ e) (if-true _ _ _ e ∙ if-true _ _ _ k) (if-true _ _ _ e)
+    (w .last u t x e (eqb-true _ _ k)))
+    (λ k. over P u t x [] (if-true _ _ _ e) (if-true _ _ _ e ∙ if-false _ _ _ k) (if-true _ _ _ e)
+    (w .broken u t x [] e (eqb-false _ _ k))))
     (λ e. over P u t x [] (if-false _ _ _ e) (if-false _ _ _ e) (if-false _ _ _ e) (w .full u t x [] e))
 by-ways f b P w u t x (y ∷ ys) =
     by-test (enters f b u (length x))
     (λ e. by-test (eqb (taken f b u (length x)) (length x))
-    (λ k. over P u t x (y ∷ ys) (if-true _ _ _ e ∙ if-true _ _ _ k) (if-true _ _ _ e ∙ if-true _ _ _ k) (if-true _ _ _ e ∙ if-true _ _ _ k)
+    (λ k. over P u t x (y ∷ ys) (if-true _ _ _ e ∙ if-true _ _ _ k) (if-true _ _ _ e ∙ if-true _ _ _ k)
+    (if-true _ _ _ e ∙ if-true _ _ _ k)
     (w .more u t x y ys _ _ _ e (eqb-true _ _ k) (by-ways f b P w (u + length (unitIn f b u t x)) 0 y ys)))
-    (λ k. over P u t x (y ∷ ys) (if-true _ _ _ e ∙ if-false _ _ _ k) (if-true _ _ _ e ∙ if-false _ _ _ k) (if-true _ _ _ e ∙ if-false _ _ _ k)
+    (λ k. over P u t x (y ∷ ys) (if-true _ _ _ e ∙ if-false _ _ _ k) (if-true _ _ _ e ∙ if-false _ _ _ k)
+    (if-true _ _ _ e ∙ if-false _ _ _ k)
     (w .broken u t x (y ∷ ys) e (eqb-false _ _ k))))
     (λ e. over P u t x (y ∷ ys) (if-false _ _ _ e) (if-false _ _ _ e) (if-false _ _ _ e) (w .full u t x (y ∷ ys) e))
 
@@ -153,7 +161,8 @@ by-ways f b P w u t x (y ∷ ys) =
 -- less is left behind a block that a unit enters, and it has room again
 abbrev Lighter : ℕ → ℕ → UnitSaid
 Lighter f b u t x xs c l g =
-    (weight l ≤ weights (x ∷ xs)) × (enters f b u (length x) ≡ true → weight l < weights (x ∷ xs)) × (RoomEach f b (x ∷ xs) → RoomEachLeft f b l)
+    (weight l ≤ weights (x ∷ xs)) × (enters f b u (length x) ≡ true → weight l < weights (x ∷ xs))
+    × (RoomEach f b (x ∷ xs) → RoomEachLeft f b l)
 
 lighter : (f b : ℕ) → Ways f b (Lighter f b)
 unfolding weight weights
@@ -170,7 +179,8 @@ lighter f b =
       more = λ u t x y ys c l g e k (w, s, r). (omega arith, (λ _. omega arith), (λ q. r (q .1)));
     }
 
-pub after-lighter : (f b t : ℕ) (x : List ℕ) (xs : List (List ℕ)) → RoomEach f b (x ∷ xs) → weight (after f b 0 t x xs) < weights (x ∷ xs)
+pub after-lighter : (f b t : ℕ) (x : List ℕ) (xs : List (List ℕ)) → RoomEach f b (x ∷ xs)
+    → weight (after f b 0 t x xs) < weights (x ∷ xs)
 after-lighter f b t x xs r = by-ways f b (Lighter f b) (lighter f b) 0 t x xs .1 (r .0)
 
 pub after-room : (f b t : ℕ) (x : List ℕ) (xs : List (List ℕ)) → RoomEach f b (x ∷ xs) → RoomEachLeft f b (after f b 0 t x xs)
@@ -189,7 +199,8 @@ enough (suc k) zero f b (going t x xs) r h m = absurd (omega arith)
 enough (suc k) (suc j) f b finished r h m = refl
 enough (suc k) (suc j) f b (going t x xs) r h m =
     let less : weight (after f b 0 t x xs) < weights (x ∷ xs) = after-lighter f b t x xs r in
-    ap (λ (l : List (List ℕ)). fill f b 0 t x xs ∷ l) (enough k j f b (after f b 0 t x xs) (after-room f b t x xs r) (omega arith) (omega arith))
+    ap (λ (l : List (List ℕ)). fill f b 0 t x xs ∷ l)
+    (enough k j f b (after f b 0 t x xs) (after-room f b t x xs r) (omega arith) (omega arith))
 
 pub blocks-finished : (f b : ℕ) → blocksLeft f b finished ≡ []
 unfolding blocksLeft blocksF weight
@@ -203,4 +214,5 @@ blocks-going f b t x xs r =
     let one : suc (length x) + weights xs ≡ suc (length x + weights xs) = omega arith in
     ap (λ (k : ℕ). blocksF k f b (going t x xs)) one
     ∙ ap (λ (l : List (List ℕ)). fill f b 0 t x xs ∷ l)
-    (enough (length x + weights xs) (weight (after f b 0 t x xs)) f b (after f b 0 t x xs) (after-room f b t x xs r) (omega arith) (omega arith))
+    (enough (length x + weights xs) (weight (after f b 0 t x xs)) f b (after f b 0 t x xs) (after-room f b t x xs r) (omega arith)
+    (omega arith))

@@ -24,7 +24,8 @@ reels-legal quota names =
     if-case Legal _ _ _ (λ _ h. absurd (nine h))
     (λ few. if-case Legal _ _ _
     (λ _. if-case Legal (legalQuota quota) _ _
-    (λ q. if-case Legal (legalNames (inParts 6 names)) _ _ (λ n _. record { few = ltb-false _ _ few; room = q; named = n }) (λ _ h. absurd (eleven h)))
+    (λ q. if-case Legal (legalNames (inParts 6 names)) _ _ (λ n _. record { few = ltb-false _ _ few; room = q; named = n })
+    (λ _ h. absurd (eleven h)))
     (λ _ h. absurd (eleven h)))
     (λ _ h. absurd (eleven h)))
   where
@@ -37,6 +38,7 @@ reels-legal quota names =
     eleven : _≡_ {A = ℕ} 11 0 → ⊥
     eleven h = omega arith
 
-pub image-legal : (s : List ℕ) (quota : ℕ) (names : List ℕ) → imageVerdict s .number ≡ 0 → reelsNumber quota names ≡ 0 → legalSheet (sheetFrom s quota names) ≡ true
+pub image-legal : (s : List ℕ) (quota : ℕ) (names : List ℕ) → imageVerdict s .number ≡ 0 → reelsNumber quota names ≡ 0
+    → legalSheet (sheetFrom s quota names) ≡ true
 unfolding sheetFrom
 image-legal s quota names h k = let l = reels-legal quota names k in accepted-sheet s quota (inParts 6 names) h (l .room) (l .named)

@@ -1,4 +1,5 @@
--- The round trip: what the writer makes of a legal order sheet is an accepted set, and reading it gives the sheet's meaning again. It holds for a legal
+-- The round trip: what the writer makes of a legal order sheet is an accepted set, and reading it gives the sheet's meaning
+-- again. It holds for a legal
 -- meaning on any reels that can be written (`set-means`, `set-reads`), and a sheet's are such. Assumes nothing.
 use mathlib.Core.Path.{_≡_, refl, sym, ap, ap₂, _∙_, subst}
 use mathlib.Core.Bool.{true, false}
@@ -51,7 +52,8 @@ pub record LegalSheet (s : Sheet) : Type 0 where
 legal-parts : {A : Type 0} (s : Sheet) → legalSheet s ≡ true
     → (legalQuota (s .quota) ≡ true → legalNames (s .names) ≡ true → legalMeaning (s .meaning) ≡ true → A) → A
 unfolding legalSheet
-legal-parts s h k = both (legalQuota (s .quota)) _ (λ quota b. both (legalNames (s .names)) _ (λ names meaning. k quota names meaning) b) h
+legal-parts s h k =
+    both (legalQuota (s .quota)) _ (λ quota b. both (legalNames (s .names)) _ (λ names meaning. k quota names meaning) b) h
 
 legal-meaning : {A : Type 0} (m : Meaning) → legalMeaning m ≡ true
     → (1 ≤ length (m .files) → length (m .files) ≤ 64 → legalFiles (m .set) (m .files) ≡ true → A) → A
@@ -113,7 +115,8 @@ sheet-reels s h =
 
 first-files : (set : List ℕ) (ds : List File) (n : List ℕ) (room : ℕ) (left : List Reel) → 1 ≤ length ds → length ds ≤ 64
     → legalFiles set ds ≡ true → ReelsRead 0 (n ∷ []) left → room ≤ 999999
-    → ReadToEnd (at (Volume 1) (n ∷ []) 0 false [] [] 0 0) 0 (layFiles set 1 room left ds) (λ es. Files ds es × (setFrom es ≡ set))
+    → ReadToEnd (at (Volume 1) (n ∷ []) 0 false [] [] 0 0) 0 (layFiles set 1 room left ds)
+    (λ es. Files ds es × (setFrom es ≡ set))
 unfolding dueAfter dues choose upToNine isDue isKind ifB
 first-files set [] n room left one few legal reels h = absurd (omega arith)
 first-files set (d ∷ ds) n room left one few legal reels h =
@@ -121,10 +124,12 @@ first-files set (d ∷ ds) n room left one few legal reels h =
     (λ entry records others.
     file-ends set d ds (Volume 1) 0 room 0 0 (n ∷ []) left [] [] refl refl refl (omega arith) entry records reels h
     (λ room r a c used left reels h.
-    files-end set ds 1 room r c used left _ _ (one-set 0 set (d .fields) a 1 (legal-first set (d .fields) entry)) (omega arith) others reels h))
+    files-end set ds 1 room r c used left _ _ (one-set 0 set (d .fields) a 1 (legal-first set (d .fields) entry))
+    (omega arith) others reels h))
 
 -- a legal meaning on reels that can be written: what is laid is read to its end, and has this meaning
-pub set-ends : (m : Meaning) (reels : List Reel) → legalMeaning m ≡ true → Usable [] reels → ReadToEnd start 0 (layOn m reels) (λ es. meaningOf es ≡ m)
+pub set-ends : (m : Meaning) (reels : List Reel) → legalMeaning m ≡ true → Usable [] reels
+    → ReadToEnd start 0 (layOn m reels) (λ es. meaningOf es ≡ m)
 unfolding layOn start meaningOf
 set-ends m [] legal h = λ xs z. absurd (subst IsLaid (sym z) tt)
 set-ends m (t ∷ reels) legal h =
@@ -132,9 +137,11 @@ set-ends m (t ∷ reels) legal h =
     legal-meaning m legal
     (λ one few files. usable-next [] t reels h
     (λ six sound new some most left.
-    ends-put start (at (Volume 1) (n ∷ []) 0 false [] [] 0 0) 0 0 (block (madeVolume n) ∷ []) (layFiles (m .set) 1 (t .room) reels (m .files))
+    ends-put start (at (Volume 1) (n ∷ []) 0 false [] [] 0 0) 0 0 (block (madeVolume n) ∷ [])
+    (layFiles (m .set) 1 (t .room) reels (m .files))
     (λ es. meaningOf es ≡ m) (λ es. Files (m .files) es × (setFrom es ≡ m .set)) (λ es. es)
-    (λ zs es d. read-label start _ 0 (madeVolume n) zs [] es (act-volume [] 0 false [] [] 0 0 n six sound (omega arith) new) (length-volume n) (omega arith) d)
+    (λ zs es d. read-label start _ 0 (madeVolume n) zs [] es (act-volume [] 0 false [] [] 0 0 n six sound (omega arith) new)
+    (length-volume n) (omega arith) d)
     (λ es d. ap₂ (λ (x : List ℕ) (c : Collected). record { set = x; files = c .files }) (d .1) (d .0))
     (first-files (m .set) (m .files) n (t .room) reels one few files (record { begun = refl; left = left }) most)))
 
@@ -149,7 +156,8 @@ written-accepted s xs h e =
     (es, read .ends, means)
 
 -- The image of a legal meaning on reels that can be written is an accepted set with this meaning, where it is not too long.
-pub set-means : (m : Meaning) (reels : List Reel) (xs : List Item) → legalMeaning m ≡ true → Usable [] reels → layOn m reels ≡ laid xs
+pub set-means : (m : Meaning) (reels : List Reel) (xs : List Item) → legalMeaning m ≡ true → Usable [] reels
+    → layOn m reels ≡ laid xs
     → length (head ++ encode xs) ≤ mostImage → Means (head ++ encode xs) m
 unfolding imageVerdict content answerOf handedOut verdict
 set-means m reels xs legal h e small =
@@ -159,7 +167,9 @@ set-means m reels xs legal h e small =
     let run : runs start (items image) ≡ ended es = ap (runs start) same ∙ d .ends in
     let framed : framing image ≡ verdict 0 0 0 = framing-image xs (d .whole) small ∙ d .framed 0 false in
     record {
-      accepted = done-accepted image (if-true _ _ _ (eq-eqb (framing image .number) 0 (ap (λ (v : Verdict). v .number) framed)) ∙ ap (answerOf 0) run);
+      accepted =
+          done-accepted image (if-true _ _ _ (eq-eqb (framing image .number) 0 (ap (λ (v : Verdict). v .number) framed))
+          ∙ ap (answerOf 0) run);
       meaning = ap (λ (r : Run). meaningOf (handedOut r)) run ∙ means;
     }
 
@@ -167,7 +177,8 @@ set-means m reels xs legal h e small =
 pub image-means : (s : Sheet) (xs : List Item) → legalSheet s ≡ true → lay s ≡ laid xs → length (head ++ encode xs) ≤ mostImage
     → Means (head ++ encode xs) (s .meaning)
 unfolding lay
-image-means s xs h e small = set-means (s .meaning) (reelsOf (s .quota) (s .names)) xs (sheet-meaning s h) (sheet-reels s h) e small
+image-means s xs h e small =
+    set-means (s .meaning) (reelsOf (s .quota) (s .names)) xs (sheet-meaning s h) (sheet-reels s h) e small
 
 -- ---- writing a flat sheet
 
@@ -189,7 +200,8 @@ stored-reads m image out h =
     (λ a. refused-reads m 14 out (λ q. omega arith))
 
 -- a legal meaning laid on reels that can be written
-pub set-reads : (m : Meaning) (reels : List Reel) (out : List ℕ) → legalMeaning m ≡ true → Usable [] reels → Reads m (storedLaid (layOn m reels) out)
+pub set-reads : (m : Meaning) (reels : List Reel) (out : List ℕ) → legalMeaning m ≡ true → Usable [] reels
+    → Reads m (storedLaid (layOn m reels) out)
 unfolding storedLaid
 set-reads m reels out legal h = by-laid (layOn m reels) refl
   where
@@ -207,13 +219,17 @@ number-legal x =
     if-case (λ (n : ℕ). n ≡ 0 → legalSheet (sheetOf x) ≡ true) _ 9 _ (λ _ q. absurd (omega arith))
     (λ _. if-case (λ (n : ℕ). n ≡ 0 → legalSheet (sheetOf x) ≡ true) _ 9 _ (λ _ q. absurd (omega arith))
     (λ _. if-case (λ (n : ℕ). n ≡ 0 → legalSheet (sheetOf x) ≡ true) (addsUp x) _ 11
-    (λ _. if-case (λ (n : ℕ). n ≡ 0 → legalSheet (sheetOf x) ≡ true) (legalSheet (sheetOf x)) 0 11 (λ e _. e) (λ _ q. absurd (omega arith)))
+    (λ _. if-case (λ (n : ℕ). n ≡ 0 → legalSheet (sheetOf x) ≡ true) (legalSheet (sheetOf x)) 0 11 (λ e _. e)
+    (λ _ q. absurd (omega arith)))
     (λ _ q. absurd (omega arith))))
 
--- Where writing an order sheet gives number 0, the first `len` bytes of the lent buffer are an accepted set, and its meaning is the sheet's:
+-- Where writing an order sheet gives number 0, the first `len` bytes of the lent buffer are an accepted set, and its meaning is
+-- the sheet's:
 -- the same set identifier, and the same files in order with their fields and records.
-pub write-reads-back : (x : Flat) (out : List ℕ) → write x out .number ≡ 0 → Means (take (write x out .len) (write x out .out)) (sheetOf x .meaning)
+pub write-reads-back : (x : Flat) (out : List ℕ) → write x out .number ≡ 0
+    → Means (take (write x out .len) (write x out .out)) (sheetOf x .meaning)
 unfolding write
 write-reads-back x out =
-    if-case (Reads (sheetOf x .meaning)) (eqb (sheetNumber x) 0) _ _ (λ e. sheet-reads (sheetOf x) out (number-legal x (eqb-true _ 0 e)))
+    if-case (Reads (sheetOf x .meaning)) (eqb (sheetNumber x) 0) _ _
+    (λ e. sheet-reads (sheetOf x) out (number-legal x (eqb-true _ 0 e)))
     (λ e. refused-reads (sheetOf x .meaning) (sheetNumber x) out (eqb-false _ 0 e))

@@ -46,7 +46,8 @@ measured-back : (i w m l n : ℕ) → w ≤ n → n ≤ m → n ≤ l → measur
 unfolding measured
 measured-back i w m l n a b c = if-true _ _ _ (le-leb w n a) ∙ if-true _ _ _ (le-leb n m b) ∙ if-true _ _ _ (le-leb n l c)
 
-variable-back : (r k : ℕ) (x s : List ℕ) → length x ≡ k → k + 4 ≤ r → k + 4 ≤ 9999 → variable r (digits 4 (k + 4) ++ x ++ s) ≡ Of 0 4 k
+variable-back : (r k : ℕ) (x s : List ℕ) → length x ≡ k → k + 4 ≤ r → k + 4 ≤ 9999
+    → variable r (digits 4 (k + 4) ++ x ++ s) ≡ Of 0 4 k
 unfolding variable part
 variable-back r k x s h most small =
     let word : length (digits 4 (k + 4)) ≡ 4 = length-digits 4 (k + 4) in
@@ -59,7 +60,8 @@ variable-back r k x s h most small =
     ∙ measured-back 0 4 r _ (k + 4) (omega arith) most long
     ∙ ap (Of 0 4) back
 
-segment-back : (i k : ℕ) (x s : List ℕ) → i ≤ 3 → length x ≡ k → k ≤ 9994 → segment ((48 + i) ∷ digits 4 (k + 5) ++ x ++ s) ≡ Of i 5 k
+segment-back : (i k : ℕ) (x s : List ℕ) → i ≤ 3 → length x ≡ k → k ≤ 9994
+    → segment ((48 + i) ∷ digits 4 (k + 5) ++ x ++ s) ≡ Of i 5 k
 unfolding segment part
 segment-back i k x s j h small =
     let word : length (digits 4 (k + 5)) ≡ 4 = length-digits 4 (k + 5) in
@@ -71,7 +73,8 @@ segment-back i k x s j h small =
     if-true _ _ _ (le-leb 48 (48 + i) (omega arith))
     ∙ if-true _ _ _ (le-leb (48 + i) 51 (omega arith))
     ∙ ap (λ (l : List ℕ). measured (48 + i - 48) 5 9999 (suc (length (digits 4 (k + 5) ++ x ++ s))) (numberIn l)) front
-    ∙ ap (measured (48 + i - 48) 5 9999 (suc (length (digits 4 (k + 5) ++ x ++ s)))) (number-digits 4 (k + 5) (omega arith) (omega arith))
+    ∙ ap (measured (48 + i - 48) 5 9999 (suc (length (digits 4 (k + 5) ++ x ++ s))))
+    (number-digits 4 (k + 5) (omega arith) (omega arith))
     ∙ measured-back (48 + i - 48) 5 9999 _ (k + 5) (omega arith) (omega arith) long
     ∙ ap (λ (j : ℕ). Of j 5 (k + 5 - 5)) same
     ∙ ap (Of i 5) back
@@ -84,7 +87,8 @@ pub data Format (f : ℕ) : Type 0 where
   isD : f ≡ 68 → Format f
   isS : f ≡ 83 → Format f
 
--- what may be written next, with o open: a legal record from its beginning (t 0), or at the head of a block what remains of one (t 1)
+-- what may be written next, with o open: a legal record from its beginning (t 0), or at the head of a block what remains of one
+-- (t 1)
 pub data UnitReady (f r t o : ℕ) (head : Bool) (x : List ℕ) : Type 0 where
   fresh : t ≡ 0 → o ≡ 0 → legalRecord f r x ≡ true → UnitReady f r t o head x
   begun : t ≡ 1 → f ≡ 83 → 1 ≤ o → o - 1 + length x ≤ r → head ≡ true → UnitReady f r t o head x
@@ -138,7 +142,8 @@ length-control f i k =
     by-test (eqb f 70) (λ p. ap length (if-true _ _ _ p) ∙ sym (if-true _ _ _ p))
     (λ p. by-test (eqb f 68)
     (λ q. ap length (if-false _ _ _ p ∙ if-true _ _ _ q) ∙ length-digits 4 (k + 4) ∙ sym (if-false _ _ _ p ∙ if-true _ _ _ q))
-    (λ q. ap length (if-false _ _ _ p ∙ if-false _ _ _ q) ∙ ap suc (length-digits 4 (k + 5)) ∙ sym (if-false _ _ _ p ∙ if-false _ _ _ q)))
+    (λ q. ap length (if-false _ _ _ p ∙ if-false _ _ _ q) ∙ ap suc (length-digits 4 (k + 5))
+    ∙ sym (if-false _ _ _ p ∙ if-false _ _ _ q)))
 
 indicator-small : (t k n : ℕ) → indicatorOf t k n ≤ 3
 unfolding indicatorOf
@@ -153,10 +158,12 @@ indicator-whole t k n e h = if-true _ _ _ (eq-eqb k n h) ∙ if-true _ _ _ (eq-e
 
 -- ---- read back
 
-pub length-taken : (f b u : ℕ) (x : List ℕ) → enters f b u (length x) ≡ true → length (take (taken f b u (length x)) x) ≡ taken f b u (length x)
+pub length-taken : (f b u : ℕ) (x : List ℕ) → enters f b u (length x) ≡ true
+    → length (take (taken f b u (length x)) x) ≡ taken f b u (length x)
 length-taken f b u x h = length-take-le _ x (entered f b u (length x) h .most)
 
-pub length-unit : (f b u t : ℕ) (x : List ℕ) → enters f b u (length x) ≡ true → length (unitIn f b u t x) ≡ wordOf f + taken f b u (length x)
+pub length-unit : (f b u t : ℕ) (x : List ℕ) → enters f b u (length x) ≡ true
+    → length (unitIn f b u t x) ≡ wordOf f + taken f b u (length x)
 unfolding unitIn
 length-unit f b u t x h =
     length-append (controlWord f _ (taken f b u (length x))) (take (taken f b u (length x)) x)
@@ -167,7 +174,8 @@ of : {i j w v k l : ℕ} → i ≡ j → w ≡ v → k ≡ l → Of i w k ≡ Of
 of {i} {j} {w} {v} {k} {l} p q e = ap (λ (a : ℕ). Of a w k) p ∙ ap (λ (a : ℕ). Of j a k) q ∙ ap (Of j v) e
 
 unit-F : (f b r u t : ℕ) (x s : List ℕ) → f ≡ 70 → t ≡ 0 → legalRecord f r x ≡ true
-    → unitOf f r (unitIn f b u t x ++ s) ≡ Of (indicatorOf t (taken f b u (length x)) (length x)) (wordOf f) (taken f b u (length x))
+    → unitOf f r (unitIn f b u t x ++ s)
+    ≡ Of (indicatorOf t (taken f b u (length x)) (length x)) (wordOf f) (taken f b u (length x))
 unfolding unitOf unitIn
 unit-F f b r u t x s e z h =
     let other : f ≡ 83 → ⊥ = λ q. omega arith in
@@ -182,7 +190,8 @@ unit-F f b r u t x s e z h =
     ∙ of (sym (indicator-whole t _ _ z all)) (sym (word-fixed f e)) (sym (all ∙ legal .0))
 
 unit-D : (f b r u t : ℕ) (x s : List ℕ) → f ≡ 68 → t ≡ 0 → legalRecord f r x ≡ true
-    → unitOf f r (unitIn f b u t x ++ s) ≡ Of (indicatorOf t (taken f b u (length x)) (length x)) (wordOf f) (taken f b u (length x))
+    → unitOf f r (unitIn f b u t x ++ s)
+    ≡ Of (indicatorOf t (taken f b u (length x)) (length x)) (wordOf f) (taken f b u (length x))
 unfolding unitOf unitIn
 unit-D f b r u t x s e z h =
     let k : ℕ = taken f b u (length x) in
@@ -198,7 +207,8 @@ unit-D f b r u t x s e z h =
     ∙ of (sym (indicator-whole t k (length x) z all)) (sym (word-variable f e)) refl
 
 unit-S : (f b r u t : ℕ) (x s : List ℕ) → f ≡ 83 → enters f b u (length x) ≡ true
-    → unitOf f r (unitIn f b u t x ++ s) ≡ Of (indicatorOf t (taken f b u (length x)) (length x)) (wordOf f) (taken f b u (length x))
+    → unitOf f r (unitIn f b u t x ++ s)
+    ≡ Of (indicatorOf t (taken f b u (length x)) (length x)) (wordOf f) (taken f b u (length x))
 unfolding unitOf unitIn
 unit-S f b r u t x s e h =
     let k : ℕ = taken f b u (length x) in
@@ -214,7 +224,8 @@ unit-S f b r u t x s e h =
     ∙ of {i = i} refl (sym (word-segmented f e)) refl
 
 unit-back : (f b r u t o : ℕ) (head : Bool) (x s : List ℕ) → Format f → UnitReady f r t o head x → enters f b u (length x) ≡ true
-    → unitOf f r (unitIn f b u t x ++ s) ≡ Of (indicatorOf t (taken f b u (length x)) (length x)) (wordOf f) (taken f b u (length x))
+    → unitOf f r (unitIn f b u t x ++ s)
+    ≡ Of (indicatorOf t (taken f b u (length x)) (length x)) (wordOf f) (taken f b u (length x))
 unit-back f b r u t o head x s (isF e) (fresh z _ h) _ = unit-F f b r u t x s e z h
 unit-back f b r u t o head x s (isF e) (begun _ q _ _ _) _ = absurd (omega arith)
 unit-back f b r u t o head x s (isD e) (fresh z _ h) _ = unit-D f b r u t x s e z h
@@ -223,7 +234,8 @@ unit-back f b r u t o head x s (isS e) (fresh _ _ _) m = unit-S f b r u t x s e 
 unit-back f b r u t o head x s (isS e) (begun _ _ _ _ _) m = unit-S f b r u t x s e m
 
 -- the unit is cut off as its segment, and what follows it is cut on
-pub cut-back : (f b r u t o : ℕ) (head : Bool) (x s : List ℕ) → Format f → UnitReady f r t o head x → enters f b u (length x) ≡ true
+pub cut-back : (f b r u t o : ℕ) (head : Bool) (x s : List ℕ) → Format f → UnitReady f r t o head x
+    → enters f b u (length x) ≡ true
     → cut f r (unitIn f b u t x ++ s) ≡ onto (segmentIn f b u t x) (cut f r s)
 unfolding segmentIn unitIn part
 cut-back f b r u t o head x s form ready h =

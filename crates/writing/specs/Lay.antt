@@ -1,5 +1,7 @@
--- Laying a meaning down on reels as items. Document 01: the writer makes no optional labels. When a block must be opened and the reel has no room for
--- it, the section ends with EOV and the next named reel is begun. The room of a reel counts its data blocks, over all its files; a quota is the same
+-- Laying a meaning down on reels as items. Document 01: the writer makes no optional labels. When a block must be opened and the
+-- reel has no room for
+-- it, the section ends with EOV and the next named reel is begun. The room of a reel counts its data blocks, over all its files;
+-- a quota is the same
 -- room for every reel.
 --
 -- One pass with what follows as a continuation: `short` where a reel is needed and none is left (number 12).
@@ -39,11 +41,13 @@ headers set e section sequence = block (madeFirst HDR1 set e section sequence 0)
 
 -- a mark, EOF1, EOF2 and a mark behind the last section of a file with its block count
 unfoldable pub fileEnd : List ℕ → List ℕ → ℕ → ℕ → ℕ → List Item
-fileEnd set e section sequence count = mark ∷ block (madeFirst EOF1 set e section sequence count) ∷ block (madeSecond EOF2 e) ∷ mark ∷ []
+fileEnd set e section sequence count =
+    mark ∷ block (madeFirst EOF1 set e section sequence count) ∷ block (madeSecond EOF2 e) ∷ mark ∷ []
 
 -- a mark, EOV1, EOV2, two marks and the end of the reel behind a section that goes on
 unfoldable pub volumeEnd : List ℕ → List ℕ → ℕ → ℕ → ℕ → List Item
-volumeEnd set e section sequence count = mark ∷ block (madeFirst EOV1 set e section sequence count) ∷ block (madeSecond EOV2 e) ∷ mark ∷ mark ∷ reelEnd ∷ []
+volumeEnd set e section sequence count =
+    mark ∷ block (madeFirst EOV1 set e section sequence count) ∷ block (madeSecond EOV2 e) ∷ mark ∷ mark ∷ reelEnd ∷ []
 
 -- ---- the blocks of a file, from a section with `count` blocks on, on a reel with room for `room` more
 
@@ -58,7 +62,8 @@ rest set e sequence section count (suc room) reels (b ∷ bs) next =
     put (block b ∷ []) (rest set e sequence section (suc count) room reels bs next)
 rest set e sequence section count zero [] (b ∷ bs) next = short
 rest set e sequence section count zero (r ∷ reels) (b ∷ bs) next =
-    put (volumeEnd set e section sequence count ++ (block (madeVolume (r .name)) ∷ headers set e (suc section) sequence) ++ (block b ∷ []))
+    put (volumeEnd set e section sequence count ++ (block (madeVolume (r .name)) ∷ headers set e (suc section) sequence) ++
+    (block b ∷ []))
     (rest set e sequence (suc section) 1 (pred (r .room)) reels bs next)
 
 -- ---- all files

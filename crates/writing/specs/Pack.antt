@@ -1,9 +1,14 @@
--- Packing the records of a file into data blocks. Document 01, "Meaning, and the one way to write it": offset 00, no padding. An F or D unit goes
--- into the open block if it fits, else into a new one. In S, with r bytes left: a record without bytes needs r of 5 or more, any other 6 or more,
--- else a new block is opened; a segment takes the smallest of what remains, r less 5, and 9,994. An unfinished record closes its block.
+-- Packing the records of a file into data blocks. Document 01, "Meaning, and the one way to write it": offset 00, no padding. An
+-- F or D unit goes
+-- into the open block if it fits, else into a new one. In S, with r bytes left: a record without bytes needs r of 5 or more, any
+-- other 6 or more,
+-- else a new block is opened; a segment takes the smallest of what remains, r less 5, and 9,994. An unfinished record closes its
+-- block.
 --
--- The three formats differ in three numbers: the bytes of a control word, whether a unit enters the open block, and how many bytes it takes.
--- `fill` is the open block from here on, `after` is what is left behind it; `blocks-going` (proofs/Packing.antt) is the equation of `blocksLeft`.
+-- The three formats differ in three numbers: the bytes of a control word, whether a unit enters the open block, and how many
+-- bytes it takes.
+-- `fill` is the open block from here on, `after` is what is left behind it; `blocks-going` (proofs/Packing.antt) is the equation
+-- of `blocksLeft`.
 use mathlib.Core.Bool.{Bool}
 use mathlib.Core.List.{List, [], _∷_, _++_}
 use Prim.Native.Nat.{ℕ, zero, suc, _+_, _-_, min}
@@ -49,7 +54,8 @@ unfoldable pub fill : ℕ → ℕ → ℕ → ℕ → List ℕ → List (List �
 fill f b u t x [] = ifB (enters f b u (length x)) (unitIn f b u t x) []
 fill f b u t x (y ∷ ys) =
     ifB (enters f b u (length x))
-    (ifB (eqb (taken f b u (length x)) (length x)) (unitIn f b u t x ++ fill f b (u + length (unitIn f b u t x)) 0 y ys) (unitIn f b u t x))
+    (ifB (eqb (taken f b u (length x)) (length x)) (unitIn f b u t x ++ fill f b (u + length (unitIn f b u t x)) 0 y ys)
+    (unitIn f b u t x))
     []
 
 -- what is left behind it
@@ -60,7 +66,8 @@ after f b u t x [] =
     (going t x [])
 after f b u t x (y ∷ ys) =
     ifB (enters f b u (length x))
-    (ifB (eqb (taken f b u (length x)) (length x)) (after f b (u + length (unitIn f b u t x)) 0 y ys) (going 1 (drop (taken f b u (length x)) x) (y ∷ ys)))
+    (ifB (eqb (taken f b u (length x)) (length x)) (after f b (u + length (unitIn f b u t x)) 0 y ys)
+    (going 1 (drop (taken f b u (length x)) x) (y ∷ ys)))
     (going t x (y ∷ ys))
 
 -- a number that falls with each block: the bytes and the records that are left

@@ -1,4 +1,5 @@
--- Rewriting. Document 01, "Meaning, and the one way to write it": rewriting an accepted set is the writer on the sheet with its meaning and the given
+-- Rewriting. Document 01, "Meaning, and the one way to write it": rewriting an accepted set is the writer on the sheet with its
+-- meaning and the given
 -- quota and names; the reading numbers go first, then 9, 11, 12, 14, 10 with place 0.
 use mathlib.Core.List.{List}
 use Prim.Native.Nat.{ℕ}
@@ -19,5 +20,6 @@ sheetFrom s quota names = record { meaning = content s; quota = quota; names = i
 unfoldable pub rewrite : List ℕ → ℕ → List ℕ → List ℕ → Result
 rewrite s quota names out =
     ifB (eqb (imageVerdict s .number) 0)
-    (ifB (eqb (reelsNumber quota names) 0) (placed (writeSheet (sheetFrom s quota names) out)) (refusedWith (verdict (reelsNumber quota names) 0 0) out))
+    (ifB (eqb (reelsNumber quota names) 0) (placed (writeSheet (sheetFrom s quota names) out))
+    (refusedWith (verdict (reelsNumber quota names) 0 0) out))
     (refusedWith (imageVerdict s) out)

@@ -22,9 +22,11 @@ dueAt head c = ifB head (someUnits c) c
 unfoldable pub heldUpTo : List ℕ → ℕ → ℕ → ℕ → ℕ → ℕ → Held
 heldUpTo s o at w u n = ifB (eqb u 0) empty (ifB (allAre pad (drop at s)) (holding w o (length s) u n (at - o - u * w)) empty)
 
--- begun at `from` with q open, it is at `at` with o open: what is left from there can be cut where all can, and has the answer on all
+-- begun at `from` with q open, it is at `at` with o open: what is left from there can be cut where all can, and has the answer on
+-- all
 pub record Turning (r : ℕ) (s : List ℕ) (q from o at : ℕ) : Type 0 where
   pub room : length s < 18446744073709551616
   pub past : from ≤ at
   pub cuts : isCut (dueAt (eqb at from) (cut 83 r (drop at s))) ≡ isCut (someUnits (cut 83 r (drop from s)))
-  pub left : turned r o (eqb at from) (dueAt (eqb at from) (cut 83 r (drop at s))) ≡ turned r q true (someUnits (cut 83 r (drop from s)))
+  pub left : turned r o (eqb at from) (dueAt (eqb at from) (cut 83 r (drop at s)))
+      ≡ turned r q true (someUnits (cut 83 r (drop from s)))

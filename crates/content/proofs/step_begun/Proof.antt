@@ -38,7 +38,8 @@ returns c = search begins-two
 
 step-two-requires : tie.Need-step-two-requires
 step-two-requires c κs =
-    two-at _ _ _ _ _ _ (search needs) (c .before .before .before .before .moved .ensures) (c .before .before .before .at-block .ensures)
+    two-at _ _ _ _ _ _ (search needs) (c .before .before .before .before .moved .ensures)
+    (c .before .before .before .at-block .ensures)
     (c .before .before .turn-in .ensures) (c .before .if1 .left)
 
 same-length-2 : tie.Need-same-length-2

@@ -7,7 +7,8 @@ use Rattle.image.proofs.framed.Statement.{statement}
 use Rattle.image.proofs.framed.Tie as tie
 
 abbrev Inv-loop : tie.InvT-loop
-Inv-loop s at₀ item₀ reels₀ closed₀ at item reels closed = FramedUpTo s (framedFrom item₀ reels₀ closed₀ (decode (drop at₀ s))) at item reels closed
+Inv-loop s at₀ item₀ reels₀ closed₀ at item reels closed =
+    FramedUpTo s (framedFrom item₀ reels₀ closed₀ (decode (drop at₀ s))) at item reels closed
 
 abbrev μ-loop : tie.MeasureT-loop
 μ-loop s at₀ item₀ reels₀ closed₀ at item reels closed = length s - at

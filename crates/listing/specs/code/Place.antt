@@ -9,7 +9,9 @@ use Rattle.content.specs.declared.FileAt.{FileAt}
 use Rattle.listing.specs.Text.{named, counted}
 
 unfoldable pub describedAt : List ℕ → FileAt → Held → List ℕ
-describedAt s f x = named (field hdr1 identifierRow (part (f .first) 80 s)) (field hdr2 formatRow (part (f .second) 80 s)) ++ counted (x .records) (x .bytes)
+describedAt s f x =
+    named (field hdr1 identifierRow (part (f .first) 80 s)) (field hdr2 formatRow (part (f .second) 80 s)) ++
+    counted (x .records) (x .bytes)
 
 unfoldable pub lineAt : List ℕ → ℕ → FileAt → Held → List ℕ
 lineAt s n f x = digits 4 n ++ describedAt s f x

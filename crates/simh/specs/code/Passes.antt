@@ -1,4 +1,5 @@
--- What the passes over files and over an image find, and what they ask for before they write: contracts of functions that no caller sees.
+-- What the passes over files and over an image find, and what they ask for before they write: contracts of functions that no
+-- caller sees.
 use mathlib.Core.Path.{_≡_}
 use mathlib.Core.Bool.{true, false}
 use mathlib.Core.List.{List, [], _∷_, flatten as endToEnd}

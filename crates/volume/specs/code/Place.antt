@@ -1,4 +1,5 @@
--- How the places that the code keeps stand for contents: a label is the 80 bytes at its place, and no label yet is a place past the end.
+-- How the places that the code keeps stand for contents: a label is the 80 bytes at its place, and no label yet is a place past
+-- the end.
 use mathlib.Core.List.{List, [], _∷_}
 use Prim.Native.Nat.{ℕ}
 use Rattle.base.specs.Part.{part}

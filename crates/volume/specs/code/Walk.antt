@@ -1,4 +1,5 @@
--- The walk of the code over an image: what is left from a spot, behind the volume labels at some places, and what a turn of the walk owes.
+-- The walk of the code over an image: what is left from a spot, behind the volume labels at some places, and what a turn of the
+-- walk owes.
 use mathlib.Core.Path.{_≡_}
 use mathlib.Core.Bool.{Bool, true, false}
 use mathlib.Core.List.{List, [], _∷_, _++_}
@@ -33,7 +34,8 @@ toldAt s names x = toldFrom (x .item) (contents s names (x .state)) (decode (dro
 -- the verdict by the step of the item that stands there, behind which place `behind` follows
 unfoldable pub toldStep : List ℕ → List ℕ → Spot → ℕ → Next → Verdict
 toldStep s names x behind r =
-    toldNext (x .item) (contents s names (x .state)) (decode (drop (x .at) s)) r (λ u. toldFrom (x .item + 1) u (decode (drop behind s)))
+    toldNext (x .item) (contents s names (x .state)) (decode (drop (x .at) s)) r
+    (λ u. toldFrom (x .item + 1) u (decode (drop behind s)))
 
 -- the same where it is of kind k and contents l
 unfoldable pub toldBy : List ℕ → List ℕ → Spot → Kind → List ℕ → ℕ → Verdict
@@ -56,7 +58,8 @@ framedAt s at item p reels = framedFrom item (endedIn p reels) (closedIn p reels
 abbrev pub framedElse : List ℕ → ℕ → ℕ → Phase → ℕ → Verdict → Verdict
 framedElse s at item p reels v = ifB (eqb (framedAt s at item p reels .number) 0) v (framedAt s at item p reels)
 
--- the verdict where reading ends at a spot: with no fault, or with a fault of the item that stands there, before which the framing from it on goes
+-- the verdict where reading ends at a spot: with no fault, or with a fault of the item that stands there, before which the
+-- framing from it on goes
 unfoldable pub toldEnd : List ℕ → List ℕ → Spot → Fault → Verdict
 toldEnd s names x f =
     ifB (eqb (f .number) 0) (verdict 0 0 0)
@@ -96,16 +99,19 @@ pub record LabelSized (k : Kind) (len : ℕ) : Type 0 where
   pub first : isKind k (hdr 1) ≡ true → len ≡ 80
   pub second : isKind k (hdr 2) ≡ true → len ≡ 80
 
--- a reading behind an item of kind k at `start`, whatever volume labels were read before it, and its counts, each of at most one more
+-- a reading behind an item of kind k at `start`, whatever volume labels were read before it, and its counts, each of at most one
+-- more
 pub record ReadingBehind (s : List ℕ) (x : Reading) (p : Phase) (k : Kind) (start len : ℕ) (r : Reading) : Type 0 where
   pub same : (names : List ℕ)
-      → contents s (ifB (isKind k (vol 1)) (names ++ (start ∷ [])) names) r ≡ stateAfter (contents s names x) p k (part start len s)
+      → contents s (ifB (isKind k (vol 1)) (names ++ (start ∷ [])) names) r
+      ≡ stateAfter (contents s names x) p k (part start len s)
   pub files : r .files ≤ x .files + 1
   pub blocks : r .count ≤ x .count + 1
 
 -- a turn that ends the walk with a fault, and one that goes on
 abbrev pub lastTurn : Spot → ℕ → ℕ → Turn
-lastTurn x number byte = record { spot = x; fault = record { number = number; byte = byte }; label = 0; on = false; named = false }
+lastTurn x number byte =
+    record { spot = x; fault = record { number = number; byte = byte }; label = 0; on = false; named = false }
 
 abbrev pub onTurn : ℕ → ℕ → Reading → Bool → ℕ → Turn
 onTurn at item state named label =
@@ -165,7 +171,8 @@ pub record Bare (t : State) (p : Phase) (k : Kind) : Type 0 where
 pub record BareHere (s : List ℕ) (x : Spot) (family : ℕ) : Type 0 where
   pub bounded : Bounded s (x .at) (x .item) (x .state)
   pub within : x .at + 3 ≤ length s
-  pub here : (y : Item) × (decode (drop (x .at) s) ≡ y ∷ decode (drop (x .at + 3) s)) × (kindIn (x .state .phase) y ≡ kind family 0) × (bytesIn y ≡ [])
+  pub here : (y : Item) × (decode (drop (x .at) s) ≡ y ∷ decode (drop (x .at + 3) s))
+      × (kindIn (x .state .phase) y ≡ kind family 0) × (bytesIn y ≡ [])
   pub bare : (t : State) (p : Phase) → Bare t p (kind family 0)
 
 -- a turn from `at` on owes the verdict v; where it goes on, it went on by a byte or more; and it passes no 17th volume label

@@ -15,18 +15,22 @@ array-share-prefix-rooms c = search quotas
 
 slice-aggregate-write-set : tie.Need-slice-aggregate-write-set
 slice-aggregate-write-set c =
-    counted _ _ (quota-within _ _ _ _ _ _ _ _ _ (c .before .before .before .before .before .before .before .before .before .before .pre) _ refl)
+    counted _ _ (quota-within _ _ _ _ _ _ _ _ _
+    (c .before .before .before .before .before .before .before .before .before .before .pre) _ refl)
 
 write-set-requires : tie.Need-write-set-requires
 write-set-requires c κs =
-    parts-writable _ _ _ _ _ _ _ _ _ (c .before .before .before .before .before .before .before .before .before .before .before .pre) _ refl _ _ _ refl (c .before .before .before .with-part .ensures) (c .before .before .with-part2 .ensures)
+    parts-writable _ _ _ _ _ _ _ _ _
+    (c .before .before .before .before .before .before .before .before .before .before .before .pre) _ refl _ _ _ refl
+    (c .before .before .before .with-part .ensures) (c .before .before .with-part2 .ensures)
 
 same-length : tie.Need-same-length
 same-length c = search quotas
 
 returns : tie.Need-returns
 returns c =
-    parts-answers _ _ _ _ _ _ _ _ _ (c .before .before .before .before .before .before .before .before .before .before .before .before .before .before .pre) _ refl _ _ _ refl (c .before .before .before .before .before .before .with-part .ensures) (c .before .before .before .before .before .with-part2 .ensures) _ _ _ (c .before .before .write-set .ensures)
+    parts-answers _ _ _ _ _ _ _ _ _
+    (c .before .before .before .before .before .before .before .before .before .before .before .before .before .before .pre) _ refl _ _ _ refl (c .before .before .before .before .before .before .with-part .ensures) (c .before .before .before .before .before .with-part2 .ensures) _ _ _ (c .before .before .write-set .ensures)
 
 pub write-quota-spec : {M : Type 1} → statement M
 write-quota-spec =

@@ -15,7 +15,8 @@ same-length c =
 
 returns : tie.Need-returns
 returns c =
-    answers-lacking _ _ _ _ _ (c .before .before .before .before .lay-set .ensures) _ (c .before .if1 .taken) (c .refusal .ensures)
+    answers-lacking _ _ _ _ _ (c .before .before .before .before .lay-set .ensures) _ (c .before .if1 .taken)
+    (c .refusal .ensures)
 
 refusal-requires-2 : tie.Need-refusal-requires-2
 refusal-requires-2 c κs = search needs
@@ -26,7 +27,8 @@ same-length-2 c =
 
 returns-2 : tie.Need-returns-2
 returns-2 c =
-    answers-over _ _ _ _ _ (c .before .before .before .before .before .lay-set .ensures) (c .before .before .if1 .left) _ (c .before .if2 .taken) (c .refusal2 .ensures)
+    answers-over _ _ _ _ _ (c .before .before .before .before .before .lay-set .ensures) (c .before .before .if1 .left) _
+    (c .before .if2 .taken) (c .refusal2 .ensures)
 
 refusal-requires-3 : tie.Need-refusal-requires-3
 refusal-requires-3 c κs = search needs
@@ -37,11 +39,14 @@ same-length-3 c =
 
 returns-3 : tie.Need-returns-3
 returns-3 c =
-    search (answers-short _ _ _ _ _ (c .before .before .before .before .before .before .lay-set .ensures) (c .before .before .before .if1 .left) (c .before .before .if2 .left))
+    search (answers-short _ _ _ _ _ (c .before .before .before .before .before .before .lay-set .ensures)
+    (c .before .before .before .if1 .left) (c .before .before .if2 .left))
 
 lay-set-requires-2 : tie.Need-lay-set-requires-2
 lay-set-requires-2 c κs =
-    measured-ready _ _ _ _ _ (c .before .before .before .before .before .before .lay-set .ensures) (c .before .before .before .if1 .left) (c .before .before .if2 .left) (search needs) (c .before .before .before .before .before .before .before .before .before .before .before .before .before .before .pre)
+    measured-ready _ _ _ _ _ (c .before .before .before .before .before .before .lay-set .ensures)
+    (c .before .before .before .if1 .left) (c .before .before .if2 .left) (search needs)
+    (c .before .before .before .before .before .before .before .before .before .before .before .before .before .before .pre)
 
 done-requires : tie.Need-done-requires
 done-requires c κs = search needs

@@ -16,7 +16,8 @@ use Rattle.writer.specs.code.Source.{recordsOf, endAt, GoodCursor, Split
 use Rattle.writer.specs.code.Records.{RoomBehind}
 
 -- the record that was found at a cursor can be packed
-pub record Takable (lay : Bool) (f b : ℕ) (j : Job) (bytes : List ℕ) (c : Cursor) (r : Found) (p : Pen) (o : List ℕ) : Type 0 where
+pub record Takable (lay : Bool) (f b : ℕ) (j : Job) (bytes : List ℕ) (c : Cursor) (r : Found) (p : Pen)
+    (o : List ℕ) : Type 0 where
   pub sound : Sound j p
   pub given : p .short ≡ false
   pub most : b ≤ 99999
@@ -40,9 +41,12 @@ pub record Bodied (lay : Bool) (f b : ℕ) (j : Job) (lengths bytes : List ℕ) 
   pub ahead : lay ≡ true → Followed f b j (recordsOf lengths bytes c) p o
 
 -- they were packed, up to the open block, which is not closed; or a reel is lacking
-pub record BodyPut (lay : Bool) (f b : ℕ) (j : Job) (lengths bytes : List ℕ) (c : Cursor) (p : Pen) (o q : List ℕ) (r : Body) : Type 0 where
+pub record BodyPut (lay : Bool) (f b : ℕ) (j : Job) (lengths bytes : List ℕ) (c : Cursor) (p : Pen) (o q : List ℕ)
+    (r : Body) : Type 0 where
   pub sound : Sound j (r .pen)
   pub kept : length q ≡ length o
   pub untouched : lay ≡ false → q ≡ o
   pub end : r .pen .short ≡ false → r .end ≡ endAt lengths bytes c
-  pub same : (next : Sequel) → penned lay f b j (r .pen) q (between finished) next ≡ penned lay f b j p o (between (startOf (recordsOf lengths bytes c))) next
+  pub same : (next : Sequel)
+      → penned lay f b j (r .pen) q (between finished) next
+      ≡ penned lay f b j p o (between (startOf (recordsOf lengths bytes c))) next

@@ -39,13 +39,15 @@ pub record Endable (lay : Bool) (p : Pen) (size : ℕ) : Type 0 where
 
 -- pen r is p behind the trailer labels of the file
 pub record Ends (lay : Bool) (set e : List ℕ) (sequence : ℕ) (p : Pen) (o q : List ℕ) (r : Pen) : Type 0 where
-  pub sound : (rooms names : List ℕ) → Sound (job set e sequence rooms names) p → sequence ≤ 64 → BetweenFiles rooms names sequence r
+  pub sound : (rooms names : List ℕ) → Sound (job set e sequence rooms names) p → sequence ≤ 64
+      → BetweenFiles rooms names sequence r
   pub kept : length q ≡ length o
   pub untouched : lay ≡ false → q ≡ o
   pub shut : r .on ≡ false
   pub given : r .short ≡ false
   pub same : (f b : ℕ) (rooms names : List ℕ) (next : Sequel) → p .short ≡ false
-      → laidFrom lay r q (next (r .room) (reelsAt rooms names (r .next))) ≡ penned lay f b (job set e sequence rooms names) p o (between finished) next
+      → laidFrom lay r q (next (r .room) (reelsAt rooms names (r .next)))
+      ≡ penned lay f b (job set e sequence rooms names) p o (between finished) next
 
 -- the same behind the body of a file, unless a reel is lacking
 pub record Tailable (lay : Bool) (x : Body) (size : ℕ) : Type 0 where
@@ -63,7 +65,8 @@ pub record Tailed (lay : Bool) (set e : List ℕ) (sequence : ℕ) (x : Body) (o
 unfoldable pub fileLaid : Job → ℕ → List Reel → List (List ℕ) → Sequel → Laid
 fileLaid j room reels xs next =
     put (headers (j .set) (j .entry) 1 (j .sequence))
-    (rest (j .set) (j .entry) (j .sequence) 1 0 room reels (blocksOf (formatFrom (j .entry)) (blockLengthFrom (j .entry)) xs) next)
+    (rest (j .set) (j .entry) (j .sequence) 1 0 room reels
+    (blocksOf (formatFrom (j .entry)) (blockLengthFrom (j .entry)) xs) next)
 
 -- how the pass ends from a pen before the file on, with these records and then what follows
 unfoldable pub filedFrom : Bool → Job → Pen → List ℕ → List (List ℕ) → Sequel → PassEnd
@@ -96,4 +99,5 @@ pub record FilePut (lay : Bool) (j : Job) (lengths bytes : List ℕ) (c : Cursor
   pub kept : length q ≡ length o
   pub untouched : lay ≡ false → q ≡ o
   pub end : r .pen .short ≡ false → r .end ≡ endAt lengths bytes c
-  pub same : (next : Sequel) → nextFrom lay (j .rooms) (j .names) (r .pen) q next ≡ filedFrom lay j p o (recordsOf lengths bytes c) next
+  pub same : (next : Sequel)
+      → nextFrom lay (j .rooms) (j .names) (r .pen) q next ≡ filedFrom lay j p o (recordsOf lengths bytes c) next

@@ -136,7 +136,8 @@ pub record Headable (lay : Bool) (f b : ℕ) (s : Flow) (size : ℕ) : Type 0 wh
 
 pub record Headed (lay : Bool) (f b : ℕ) (s : Flow) (o q : List ℕ) (r : Flow) : Type 0 where
   pub is : r ≡ headed f b s
-  pub laid : q ≡ inkAt lay o (s .pen .at + 3 + s .pen .used) (controlWord f (indicatorOf (s .begun) (taken f b (s .pen .used) (s .left)) (s .left)) (taken f b (s .pen .used) (s .left)))
+  pub laid : q ≡ inkAt lay o (s .pen .at + 3 + s .pen .used)
+      (controlWord f (indicatorOf (s .begun) (taken f b (s .pen .used) (s .left)) (s .left)) (taken f b (s .pen .used) (s .left)))
 
 -- ---- bytes of the open unit
 
@@ -171,7 +172,8 @@ pub record Spelled (lay : Bool) (piece : List ℕ) (s : Flow) (o q : List ℕ) (
   pub is : r ≡ spelled (length piece) s
   pub laid : q ≡ inkAt lay o (s .pen .at + 3 + s .pen .used) (part (s .from) (manyOf (length piece) s) piece)
 
--- how many turns a flow still takes in a piece of n bytes, at most: for each byte one within a unit, one that begins a unit, and one that opens a block
+-- how many turns a flow still takes in a piece of n bytes, at most: for each byte one within a unit, one that begins a unit, and
+-- one that opens a block
 unfoldable pub turnsIn : ℕ → ℕ → ℕ → Flow → ℕ
 turnsIn f b n s = 3 * (n - s .from) + ifB (s .inside) 0 (ifB (entersOn f b (s .pen .on) (s .pen .used) (s .left)) 1 2)
 

@@ -1,5 +1,7 @@
--- How a pass of the writer ends: what the buffer then holds, and where the image ends in it; or that a reel is lacking. A pass that lays writes as it goes
--- on, one that measures only counts. What is left to be written from a pen on is told by the definitions of packing and laying; what follows the file is
+-- How a pass of the writer ends: what the buffer then holds, and where the image ends in it; or that a reel is lacking. A pass
+-- that lays writes as it goes
+-- on, one that measures only counts. What is left to be written from a pen on is told by the definitions of packing and laying;
+-- what follows the file is
 -- a continuation, as there.
 use mathlib.Core.Path.{_≡_}
 use mathlib.Core.Bool.{Bool, true, false}
@@ -70,7 +72,8 @@ jobOf labels rooms = job (setIn labels) (entryIn labels) (sequenceIn labels) roo
 -- a file's two labels with these names, and the mark behind them
 abbrev pub pairOf : List ℕ → List ℕ → List ℕ → ℕ → ℕ → List Item
 pairOf first second labels section count =
-    block (madeFirst first (setIn labels) (entryIn labels) section (sequenceIn labels) count) ∷ block (madeSecond second (entryIn labels)) ∷ mark ∷ []
+    block (madeFirst first (setIn labels) (entryIn labels) section (sequenceIn labels) count) ∷
+    block (madeSecond second (entryIn labels)) ∷ mark ∷ []
 
 -- ---- the buffer
 
@@ -108,18 +111,21 @@ unfoldable pub inkedAt : Bool → ℕ → ℕ → List ℕ → ℕ → List ℕ 
 inkedAt isOpen at u o n ys = ifB isOpen (putAt (putAt o (at + 3 + u) ys) at (three n)) (putAt o at ys)
 
 unfoldable pub outcome : Bool → Bool → ℕ → ℕ → List ℕ → Ink → PassEnd
-outcome lay isOpen at u o (ink n ys) = record { out = ifB lay (inkedAt isOpen at u o n ys) o; end = behind isOpen at u + length ys; short = false }
+outcome lay isOpen at u o (ink n ys) =
+    record { out = ifB lay (inkedAt isOpen at u o n ys) o; end = behind isOpen at u + length ys; short = false }
 outcome lay isOpen at u o lacks = record { out = []; end = 0; short = true }
 
 -- ---- a pen
 
 -- the blocks bs from a pen between blocks on
 unfoldable pub restOf : Job → Pen → List (List ℕ) → Sequel → Laid
-restOf j p bs next = rest (j .set) (j .entry) (j .sequence) (p .section) (p .count) (p .room) (reelsAt (j .rooms) (j .names) (p .next)) bs next
+restOf j p bs next =
+    rest (j .set) (j .entry) (j .sequence) (p .section) (p .count) (p .room) (reelsAt (j .rooms) (j .names) (p .next)) bs next
 
 -- how the pass ends if the open block still gets cs, and the blocks bs follow
 unfoldable pub ends : Bool → Job → Pen → List ℕ → List ℕ → List (List ℕ) → Sequel → PassEnd
-ends lay j p o cs bs next = outcome lay (p .on) (p .at) (p .used) o (ifB (p .short) lacks (inked (p .used) cs (restOf j p bs next)))
+ends lay j p o cs bs next =
+    outcome lay (p .on) (p .at) (p .used) o (ifB (p .short) lacks (inked (p .used) cs (restOf j p bs next)))
 
 -- how the pass ends from a pen between files on, if l is still to be laid
 unfoldable pub laidFrom : Bool → Pen → List ℕ → Laid → PassEnd
@@ -170,7 +176,8 @@ pub record EndsWithin (w : PassEnd) (size : ℕ) : Type 0 where
   pub within : w .end ≤ size
   pub most : w .end < overLong
 
--- the numbers of a pen behind that many groups of labels. Its place is bounded by them and by the blocks for which there was room, of at most 100,002
+-- the numbers of a pen behind that many groups of labels. Its place is bounded by them and by the blocks for which there was
+-- room, of at most 100,002
 -- bytes each
 pub record SoundAt (rooms names : List ℕ) (labels : ℕ) (p : Pen) : Type 0 where
   pub reels : Reels rooms names

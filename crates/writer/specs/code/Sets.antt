@@ -1,4 +1,5 @@
--- All files of a set laid down. They come from the slices of a sheet or from an accepted image: `filesAt` is what is left of them at a place, and the loop
+-- All files of a set laid down. They come from the slices of a sheet or from an accepted image: `filesAt` is what is left of them
+-- at a place, and the loop
 -- over them knows nothing else.
 use mathlib.Core.Path.{_≡_}
 use mathlib.Core.Bool.{Bool, true, false}
@@ -55,7 +56,8 @@ pub record Listed (files counts lengths bytes : List ℕ) (g : Place) : Type 0 w
 -- a place is one among these files: in an image, the next file stands there, where there is one
 abbrev pub StandsAmong : Origin → List ℕ → List ℕ → Place → Type 0
 StandsAmong (listed files counts) lengths bytes g = Listed files counts lengths bytes g
-StandsAmong read lengths bytes g = g .nth < length (content bytes .files) → Met bytes (At (g .file)) (drop (g .nth) (content bytes .files))
+StandsAmong read lengths bytes g =
+    g .nth < length (content bytes .files) → Met bytes (At (g .file)) (drop (g .nth) (content bytes .files))
 
 -- a place among the files, from which on all of them are legal
 pub record PlacedAmong (from : Origin) (set lengths bytes : List ℕ) (g : Place) : Type 0 where
@@ -75,7 +77,8 @@ walkAt w = record { at = w .at; left = w .left; stop = 0; offset = w .offset; si
 
 -- the cursor at the first record of the file at a place; of a sheet it ends within its n lengths
 unfoldable pub cursorAt : Bool → List ℕ → Place → Cursor
-cursorAt image counts g = ifB image (walkAt (g .file .walk)) (listedAt (g .byte) (getD counts (g .nth) 0) (g .first + getD counts (g .nth) 0))
+cursorAt image counts g =
+    ifB image (walkAt (g .file .walk)) (listedAt (g .byte) (getD counts (g .nth) 0) (g .first + getD counts (g .nth) 0))
 
 pub record Countable (image : Bool) (counts : List ℕ) (n : ℕ) (g : Place) : Type 0 where
   pub nth : image ≡ false → g .nth < length counts
@@ -83,7 +86,8 @@ pub record Countable (image : Bool) (counts : List ℕ) (n : ℕ) (g : Place) : 
 
 -- the entry of the file at a place, which stands within so many bytes
 unfoldable pub entryAt : Bool → List ℕ → List ℕ → Place → List ℕ
-entryAt image files bytes g = ifB image (fieldsFrom (part (g .file .first) 80 bytes) (part (g .file .second) 80 bytes)) (part (46 * g .nth) 46 files)
+entryAt image files bytes g =
+    ifB image (fieldsFrom (part (g .file .first) 80 bytes) (part (g .file .second) 80 bytes)) (part (46 * g .nth) 46 files)
 
 pub record Enterable (image : Bool) (entries size : ℕ) (g : Place) : Type 0 where
   pub few : g .nth < 64
@@ -108,7 +112,8 @@ followedBy g stop end Nowhere = passed g stop end (g .file) false
 unfoldable pub behindFile : Bool → List ℕ → List ℕ → Place → ℕ → ℕ → Bool → Place
 behindFile image counts bytes g stop end short =
     ifB short (passed g stop end (g .file) false)
-    (ifB image (followedBy g stop end (fileBehind bytes (g .file) end)) (passed g stop end (g .file) (ltb (g .nth + 1) (length counts))))
+    (ifB image (followedBy g stop end (fileBehind bytes (g .file) end))
+    (passed g stop end (g .file) (ltb (g .nth + 1) (length counts))))
 
 -- ---- all files
 
@@ -135,7 +140,9 @@ PlacedIn t g = PlacedAmong (t .from) (t .set) (t .lengths) (t .bytes) g
 
 -- the files from a place and a pen on
 unfoldable pub layAt : Task → Place → Pen → Laid
-layAt t g p = layFiles (t .set) (suc (g .nth)) (p .room) (reelsAt (t .rooms) (t .names) (p .next)) (filesAt (t .from) (t .lengths) (t .bytes) g)
+layAt t g p =
+    layFiles (t .set) (suc (g .nth)) (p .room) (reelsAt (t .rooms) (t .names) (p .next))
+    (filesAt (t .from) (t .lengths) (t .bytes) g)
 
 -- where the laying of files is
 pub record Filing : Type 0 where

@@ -1,4 +1,5 @@
--- The records of a file that are left from a cursor on. There are two sources: the slices of an order sheet, and an accepted image, in which a record may
+-- The records of a file that are left from a cursor on. There are two sources: the slices of an order sheet, and an accepted
+-- image, in which a record may
 -- stand in several segments. Whoever packs the records knows of a cursor only these, and where the file ends.
 use mathlib.Core.Path.{_≡_}
 use mathlib.Core.Bool.{false}
@@ -71,7 +72,8 @@ foundBytes bytes c r = ifB (eqb (r .kind) 2) (splitBytes bytes c) (part (r .from
 pub record Finds (lengths bytes : List ℕ) (c : Cursor) (r : Found) : Type 0 where
   pub none : r .kind ≡ 0 → recordsOf lengths bytes c ≡ []
   pub over : r .kind ≡ 0 → stopOf c ≡ endAt lengths bytes c
-  pub one : (r .kind ≡ 0 → ⊥) → recordsOf lengths bytes c ≡ foundBytes bytes c r ∷ recordsOf lengths bytes (movedTo c (r .at) (r .left))
+  pub one : (r .kind ≡ 0 → ⊥)
+      → recordsOf lengths bytes c ≡ foundBytes bytes c r ∷ recordsOf lengths bytes (movedTo c (r .at) (r .left))
   pub good : (r .kind ≡ 0 → ⊥) → GoodCursor lengths bytes (movedTo c (r .at) (r .left))
   pub end : (r .kind ≡ 0 → ⊥) → endAt lengths bytes (movedTo c (r .at) (r .left)) ≡ endAt lengths bytes c
   pub inside : (r .kind ≡ 0 → ⊥) → (r .kind ≡ 2 → ⊥) → r .from + r .len ≤ length bytes

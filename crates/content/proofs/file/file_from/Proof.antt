@@ -33,4 +33,5 @@ returns-4 : tie.Need-returns-4
 returns-4 c = search founds
 
 pub file-from-spec : {M : Type 1} → statement M
-file-from-spec = tie.close (tie.spec search-requires enum-known-part file-at-requires enum-told enum-told-2 enum-told-3 returns returns-2 returns-3 returns-4)
+file-from-spec =
+    tie.close (tie.spec search-requires enum-known-part file-at-requires enum-told enum-told-2 enum-told-3 returns returns-2 returns-3 returns-4)

@@ -5,7 +5,8 @@ use Rattle.content.proofs.part.search.Statement.{statement}
 use Rattle.content.proofs.part.search.Tie as tie
 
 abbrev Inv-loop : tie.InvT-loop
-Inv-loop image from sections blocks at₀ hdr1₀ phase₀ continues₀ at hdr1 phase continues = Searching image from sections blocks at hdr1 phase continues
+Inv-loop image from sections blocks at₀ hdr1₀ phase₀ continues₀ at hdr1 phase continues =
+    Searching image from sections blocks at hdr1 phase continues
 
 abbrev μ-loop : tie.MeasureT-loop
 μ-loop image from sections blocks at₀ hdr1₀ phase₀ continues₀ at hdr1 phase continues = length image - at

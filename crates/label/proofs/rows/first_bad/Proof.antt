@@ -52,7 +52,8 @@ loop-again : tie.Need-loop-again Inv-loop μ-loop
 loop-again c =
     let turn = c .before .before .before .before .before .before in
     let width = c .before .before .before .before .wide .ensures in
-    walked-more _ _ _ _ _ _ (turn .before .loop .inv) (turn .loop-test .taken) (width .0) (width .1) (c .before .holds .ensures) (c .if1 .taken)
+    walked-more _ _ _ _ _ _ (turn .before .loop .inv) (turn .loop-test .taken) (width .0) (width .1) (c .before .holds .ensures)
+    (c .if1 .taken)
 
 cast-result : tie.Need-cast-result Inv-loop μ-loop
 cast-result c = search pieces

@@ -5,7 +5,8 @@ use Rattle.sheet.proofs.file.are_legal.Statement.{statement}
 use Rattle.sheet.proofs.file.are_legal.Tie as tie
 
 abbrev Inv-loop : tie.InvT-loop
-Inv-loop set files counts lengths bytes entry₀ first₀ at₀ i₀ entry first at i = FilesLeft set files counts lengths bytes entry first at i
+Inv-loop set files counts lengths bytes entry₀ first₀ at₀ i₀ entry first at i =
+    FilesLeft set files counts lengths bytes entry first at i
 
 abbrev μ-loop : tie.MeasureT-loop
 μ-loop set files counts lengths bytes entry₀ first₀ at₀ i₀ entry first at i = length counts - i

@@ -5,7 +5,8 @@ use Rattle.simh.proofs.export.put_files.Statement.{statement}
 use Rattle.simh.proofs.export.put_files.Tie as tie
 
 abbrev Inv-loop : tie.InvT-loop
-Inv-loop image out₀ lengths₀ at₀ to₀ from₀ file₀ out lengths at to from file = Laying image out₀ lengths₀ out lengths at to from file
+Inv-loop image out₀ lengths₀ at₀ to₀ from₀ file₀ out lengths at to from file =
+    Laying image out₀ lengths₀ out lengths at to from file
 
 abbrev μ-loop : tie.MeasureT-loop
 μ-loop image out₀ lengths₀ at₀ to₀ from₀ file₀ out lengths at to from file = length image - at
@@ -65,7 +66,8 @@ loop-less-2 : tie.Need-loop-less-2 Inv-loop μ-loop
 loop-less-2 c = search lays
 
 loop-again-2 : tie.Need-loop-again-2 Inv-loop μ-loop
-loop-again-2 c = search (laying-mark _ _ _ _ _ _ _ _ _ (c .before .before .before .before .before .before .before .before .loop .inv))
+loop-again-2 c =
+    search (laying-mark _ _ _ _ _ _ _ _ _ (c .before .before .before .before .before .before .before .before .loop .inv))
 
 enum-told-2 : tie.Need-enum-told-2 Inv-loop μ-loop
 enum-told-2 c = search lays
@@ -95,7 +97,8 @@ loop-less-3 : tie.Need-loop-less-3 Inv-loop μ-loop
 loop-less-3 c = search lays
 
 loop-again-3 : tie.Need-loop-again-3 Inv-loop μ-loop
-loop-again-3 c = search (laying-end _ _ _ _ _ _ _ _ _ (c .before .before .before .before .before .before .before .before .loop .inv))
+loop-again-3 c =
+    search (laying-end _ _ _ _ _ _ _ _ _ (c .before .before .before .before .before .before .before .before .loop .inv))
 
 enum-told-3 : tie.Need-enum-told-3 Inv-loop μ-loop
 enum-told-3 c = search lays

@@ -29,15 +29,25 @@ returns-2 c =
 
 put-slow-requires : tie.Need-put-slow-requires
 put-slow-requires c κs =
-    take-slow _ _ _ _ _ _ _ _ _ (c .before .before .before .before .before .before .before .before .before .before .before .pre .1 .1) (c .before .before .before .before .before .before .if1 .left) _ _ (c .before .before .before .before .quick-block .ensures) (c .before .if2 .left)
+    take-slow _ _ _ _ _ _ _ _ _
+    (c .before .before .before .before .before .before .before .before .before .before .before .pre .1 .1)
+    (c .before .before .before .before .before .before .if1 .left) _ _ (c .before .before .before .before .quick-block .ensures)
+    (c .before .if2 .left)
 
 same-length-3 : tie.Need-same-length-3
 same-length-3 c =
-    took-slow-kept _ _ _ _ _ _ _ _ _ (c .before .before .before .before .before .before .before .before .before .before .before .before .before .before .pre .1 .1) (c .before .before .before .before .before .before .before .before .before .if1 .left) _ _ (c .before .before .before .before .before .before .before .quick-block .ensures) _ _ (c .before .before .put-slow .ensures)
+    took-slow-kept _ _ _ _ _ _ _ _ _
+    (c .before .before .before .before .before .before .before .before .before .before .before .before .before .before .pre .1 .1)
+    (c .before .before .before .before .before .before .before .before .before .if1 .left) _ _
+    (c .before .before .before .before .before .before .before .quick-block .ensures) _ _ (c .before .before .put-slow .ensures)
 
 returns-3 : tie.Need-returns-3
 returns-3 c =
-    took-slow _ _ _ _ _ _ _ _ _ (c .before .before .before .before .before .before .before .before .before .before .before .before .before .before .pre .1 .1) (c .before .before .before .before .before .before .before .before .before .if1 .left) _ _ (c .before .before .before .before .before .before .before .quick-block .ensures) _ _ (c .before .before .before .before .if2 .left) (c .before .before .put-slow .ensures)
+    took-slow _ _ _ _ _ _ _ _ _
+    (c .before .before .before .before .before .before .before .before .before .before .before .before .before .before .pre .1 .1)
+    (c .before .before .before .before .before .before .before .before .before .if1 .left) _ _
+    (c .before .before .before .before .before .before .before .quick-block .ensures) _ _
+    (c .before .before .before .before .if2 .left) (c .before .before .put-slow .ensures)
 
 pub put-record-spec : {M : Type 1} → statement M
 put-record-spec =

@@ -26,8 +26,11 @@ next-requires : tie.Need-next-requires Inv-loop μ-loop
 next-requires c κs = search writing
 
 stop-of-requires : tie.Need-stop-of-requires Inv-loop μ-loop
-stop-of-requires c κs =
-    (writing-good _ _ _ _ _ _ _ _ _ _ _ _ (c .before .before .before .loop .inv), c .before .before .next .ensures .over (c .if1 .taken))
+stop-of-requires c κs = (
+  writing-good _ _ _ _ _ _ _ _ _ _ _ _ (c .before .before .before .loop .inv),
+  c .before .before .next .ensures .over
+      (c .if1 .taken),
+)
 
 same-length : tie.Need-same-length Inv-loop μ-loop
 same-length c = search writing
@@ -38,7 +41,11 @@ returns c = search writing
 put-record-requires : tie.Need-put-record-requires Inv-loop μ-loop
 put-record-requires c κs = (
   c .before .before .before .before .before .before .word-of .ensures,
-  (c .before .before .before .before .before .most-of .ensures, writing-takable _ _ _ _ _ _ _ _ _ _ _ _ (c .before .before .before .before .loop .inv) _ (c .before .before .before .next .ensures) (c .before .if1 .left)),
+  (
+    c .before .before .before .before .before .most-of .ensures,
+    writing-takable _ _ _ _ _ _ _ _ _ _ _ _
+        (c .before .before .before .before .loop .inv) _ (c .before .before .before .next .ensures) (c .before .if1 .left),
+  ),
 )
 
 same-length-2 : tie.Need-same-length-2 Inv-loop μ-loop

@@ -50,7 +50,8 @@ same-length c = search together
 
 returns : tie.Need-returns
 returns c =
-    puts-change _ _ _ _ _ _ _ _ _ _ _ (c .before .before .before .before .before .before .before .before .before .before .before .before .before .before .before .before .before .before .before .before .before .before .before .before .pre .1) (c .before .before .before .before .before .before .before .before .before .before .before .before .before .before .before .before .before .before .before .before .before .volume-label .ensures) (c .before .before .before .before .before .before .before .before .before .before .before .before .before .before .before .before .before .put-trailers .ensures) (c .before .before .before .before .before .before .before .before .before .before .before .before .before .put-reel-end .ensures) (c .before .before .before .before .before .before .before .before .put-label .ensures) (c .before .before .put-pair .ensures)
+    puts-change _ _ _ _ _ _ _ _ _ _ _
+    (c .before .before .before .before .before .before .before .before .before .before .before .before .before .before .before .before .before .before .before .before .before .before .before .before .pre .1) (c .before .before .before .before .before .before .before .before .before .before .before .before .before .before .before .before .before .before .before .before .before .volume-label .ensures) (c .before .before .before .before .before .before .before .before .before .before .before .before .before .before .before .before .before .put-trailers .ensures) (c .before .before .before .before .before .before .before .before .before .before .before .before .before .put-reel-end .ensures) (c .before .before .before .before .before .before .before .before .put-label .ensures) (c .before .before .put-pair .ensures)
 
 pub put-change-spec : {M : Type 1} → statement M
 put-change-spec =

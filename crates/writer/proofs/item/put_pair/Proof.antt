@@ -47,7 +47,8 @@ same-length c = search together
 
 returns : tie.Need-returns
 returns c =
-    puts-pair _ _ _ _ _ _ _ _ _ _ _ _ _ _ _ (c .before .before .before .before .before .before .before .before .before .before .before .before .before .before .before .before .before .before .before .before .before .before .before .before .before .pre) (c .before .before .before .before .before .before .before .before .before .before .before .before .before .before .before .before .before .before .before .before .part-of .ensures) (c .before .before .before .before .before .before .before .before .before .before .before .before .before .before .before .before .before .before .part-of2 .ensures) (c .before .before .before .before .before .before .before .before .before .before .before .before .before .before .before .before .number .ensures) (c .before .before .before .before .before .before .before .before .before .before .before .before .before .before .before .first-label .ensures) (c .before .before .before .before .before .before .before .before .before .before .before .before .before .before .second-label .ensures) (c .before .before .before .before .before .before .before .before .before .before .before .put-label .ensures) (c .before .before .before .before .before .before .put-label2 .ensures) (c .before .before .put-length .ensures)
+    puts-pair _ _ _ _ _ _ _ _ _ _ _ _ _ _ _
+    (c .before .before .before .before .before .before .before .before .before .before .before .before .before .before .before .before .before .before .before .before .before .before .before .before .before .pre) (c .before .before .before .before .before .before .before .before .before .before .before .before .before .before .before .before .before .before .before .before .part-of .ensures) (c .before .before .before .before .before .before .before .before .before .before .before .before .before .before .before .before .before .before .part-of2 .ensures) (c .before .before .before .before .before .before .before .before .before .before .before .before .before .before .before .before .number .ensures) (c .before .before .before .before .before .before .before .before .before .before .before .before .before .before .before .first-label .ensures) (c .before .before .before .before .before .before .before .before .before .before .before .before .before .before .second-label .ensures) (c .before .before .before .before .before .before .before .before .before .before .before .put-label .ensures) (c .before .before .before .before .before .before .put-label2 .ensures) (c .before .before .put-length .ensures)
 
 pub put-pair-spec : {M : Type 1} → statement M
 put-pair-spec =

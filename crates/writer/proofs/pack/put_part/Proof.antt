@@ -7,7 +7,9 @@ spell-requires c κs = search parting
 
 close-requires : tie.Need-close-requires
 close-requires c κs =
-    part-closable _ _ _ _ (c .before .before .before .before .before .before .before .before .before .before .before .before .pre) _ _ (c .before .before .before .before .before .before .before .before .spell .ensures)
+    part-closable _ _ _ _
+    (c .before .before .before .before .before .before .before .before .before .before .before .before .pre) _ _
+    (c .before .before .before .before .before .before .before .before .spell .ensures)
 
 same-length : tie.Need-same-length
 same-length c =
@@ -19,15 +21,18 @@ returns c =
 
 same-length-2 : tie.Need-same-length-2
 same-length-2 c =
-    spelled-kept _ _ _ _ (c .before .before .before .before .before .before .before .before .before .before .pre) _ _ (c .before .before .before .before .before .before .spell .ensures)
+    spelled-kept _ _ _ _ (c .before .before .before .before .before .before .before .before .before .before .pre) _ _
+    (c .before .before .before .before .before .before .spell .ensures)
 
 returns-2 : tie.Need-returns-2
 returns-2 c =
-    part-over _ _ _ _ (c .before .before .before .before .before .before .before .before .before .before .pre) _ _ (c .before .before .before .before .before .before .spell .ensures) (c .if2 .left)
+    part-over _ _ _ _ (c .before .before .before .before .before .before .before .before .before .before .pre) _ _
+    (c .before .before .before .before .before .before .spell .ensures) (c .if2 .left)
 
 same-length-3 : tie.Need-same-length-3
 same-length-3 c =
-    spelled-kept _ _ _ _ (c .before .before .before .before .before .before .before .before .pre) _ _ (c .before .before .before .before .spell .ensures)
+    spelled-kept _ _ _ _ (c .before .before .before .before .before .before .before .before .pre) _ _
+    (c .before .before .before .before .spell .ensures)
 
 returns-3 : tie.Need-returns-3
 returns-3 c =

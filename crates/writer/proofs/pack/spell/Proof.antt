@@ -23,7 +23,8 @@ sub-t11 c =
 
 sub-t12 : tie.Need-sub-t12
 sub-t12 c =
-    spell-seg _ _ _ _ (c .before .before .before .before .before .before .before .pre) _ (c .before .before .before .smaller .ensures)
+    spell-seg _ _ _ _ (c .before .before .before .before .before .before .before .pre) _
+    (c .before .before .before .smaller .ensures)
 
 add-put-in : tie.Need-add-put-in
 add-put-in c =
@@ -55,7 +56,8 @@ returns c =
 
 returns-2 : tie.Need-returns-2
 returns-2 c =
-    spell-measured _ _ _ _ (c .before .before .before .before .before .before .before .before .pre) _ (c .before .before .before .before .smaller .ensures) _ (c .before .before .before .more .ensures) (c .if1 .left)
+    spell-measured _ _ _ _ (c .before .before .before .before .before .before .before .before .pre) _
+    (c .before .before .before .before .smaller .ensures) _ (c .before .before .before .more .ensures) (c .if1 .left)
 
 pub spell-spec : {M : Type 1} → statement M
 spell-spec =

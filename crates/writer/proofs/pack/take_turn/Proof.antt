@@ -19,27 +19,43 @@ enters-on-requires c κs = search turning
 
 put-head-requires : tie.Need-put-head-requires
 put-head-requires c κs =
-    turn-headable _ _ _ _ _ _ _ (c .before .before .before .before .before .before .before .before .pre) (c .before .before .before .before .if1 .left) _ (c .before .before .enters-on .ensures) (c .before .if2 .taken)
+    turn-headable _ _ _ _ _ _ _ (c .before .before .before .before .before .before .before .before .pre)
+    (c .before .before .before .before .if1 .left) _ (c .before .before .enters-on .ensures) (c .before .if2 .taken)
 
 same-length-2 : tie.Need-same-length-2
 same-length-2 c =
-    turn-head-kept _ _ _ _ _ _ _ (c .before .before .before .before .before .before .before .before .before .before .before .pre) (c .before .before .before .before .before .before .before .if1 .left) _ (c .before .before .before .before .before .enters-on .ensures) (c .before .before .before .before .if2 .taken) _ _ (c .before .before .put-head .ensures)
+    turn-head-kept _ _ _ _ _ _ _ (c .before .before .before .before .before .before .before .before .before .before .before .pre)
+    (c .before .before .before .before .before .before .before .if1 .left) _
+    (c .before .before .before .before .before .enters-on .ensures) (c .before .before .before .before .if2 .taken) _ _
+    (c .before .before .put-head .ensures)
 
 returns-2 : tie.Need-returns-2
 returns-2 c =
-    turn-head _ _ _ _ _ _ _ (c .before .before .before .before .before .before .before .before .before .before .before .pre) (c .before .before .before .before .before .before .before .if1 .left) _ (c .before .before .before .before .before .enters-on .ensures) (c .before .before .before .before .if2 .taken) _ _ (c .before .before .put-head .ensures)
+    turn-head _ _ _ _ _ _ _ (c .before .before .before .before .before .before .before .before .before .before .before .pre)
+    (c .before .before .before .before .before .before .before .if1 .left) _
+    (c .before .before .before .before .before .enters-on .ensures) (c .before .before .before .before .if2 .taken) _ _
+    (c .before .before .put-head .ensures)
 
 next-block-requires : tie.Need-next-block-requires
 next-block-requires c κs =
-    turn-ready _ _ _ _ _ _ _ (c .before .before .before .before .before .before .before .before .pre) (c .before .before .before .before .if1 .left) _ (c .before .before .enters-on .ensures) (c .before .if2 .left)
+    turn-ready _ _ _ _ _ _ _ (c .before .before .before .before .before .before .before .before .pre)
+    (c .before .before .before .before .if1 .left) _ (c .before .before .enters-on .ensures) (c .before .if2 .left)
 
 same-length-3 : tie.Need-same-length-3
 same-length-3 c =
-    turn-open-kept _ _ _ _ _ _ _ (c .before .before .before .before .before .before .before .before .before .before .before .before .pre) (c .before .before .before .before .before .before .before .before .if1 .left) _ (c .before .before .before .before .before .before .enters-on .ensures) (c .before .before .before .before .before .if2 .left) _ _ (c .before .before .before .next-block .ensures)
+    turn-open-kept _ _ _ _ _ _ _
+    (c .before .before .before .before .before .before .before .before .before .before .before .before .pre)
+    (c .before .before .before .before .before .before .before .before .if1 .left) _
+    (c .before .before .before .before .before .before .enters-on .ensures)
+    (c .before .before .before .before .before .if2 .left) _ _ (c .before .before .before .next-block .ensures)
 
 returns-3 : tie.Need-returns-3
 returns-3 c =
-    turn-open _ _ _ _ _ _ _ (c .before .before .before .before .before .before .before .before .before .before .before .before .pre) (c .before .before .before .before .before .before .before .before .if1 .left) _ (c .before .before .before .before .before .before .enters-on .ensures) (c .before .before .before .before .before .if2 .left) _ _ (c .before .before .before .next-block .ensures)
+    turn-open _ _ _ _ _ _ _
+    (c .before .before .before .before .before .before .before .before .before .before .before .before .pre)
+    (c .before .before .before .before .before .before .before .before .if1 .left) _
+    (c .before .before .before .before .before .before .enters-on .ensures)
+    (c .before .before .before .before .before .if2 .left) _ _ (c .before .before .before .next-block .ensures)
 
 pub take-turn-spec : {M : Type 1} → statement M
 take-turn-spec =

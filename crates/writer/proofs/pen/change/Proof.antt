@@ -5,7 +5,8 @@ use Rattle.writer.proofs.pen.change.Tie as tie
 
 returns : tie.Need-returns
 returns c =
-    changes-short _ _ _ _ (c .before .before .before .pre .1 .1) (c .before .before .before .pre .0) (c .before .before .before .pre .1 .0) (c .if1 .taken)
+    changes-short _ _ _ _ (c .before .before .before .pre .1 .1) (c .before .before .before .pre .0)
+    (c .before .before .before .pre .1 .0) (c .if1 .taken)
 
 add-t9 : tie.Need-add-t9
 add-t9 c = search needs
@@ -39,11 +40,20 @@ same-length c = search changing
 
 returns-2 : tie.Need-returns-2
 returns-2 c =
-    changes-laid _ _ _ _ _ (c .before .before .before .before .before .before .before .before .before .before .before .before .before .pre .1 .1) (c .before .before .before .before .before .before .before .before .before .before .before .before .before .pre .0) (c .before .before .before .before .before .before .before .before .before .before .before .before .before .pre .1 .0) (c .before .before .before .before .before .before .before .before .before .before .if1 .left) _ _ (c .before .before .before .before .before .before .if2 .taken) (c .before .before .before .before .part-of .ensures) (c .before .before .put-change .ensures)
+    changes-laid _ _ _ _ _
+    (c .before .before .before .before .before .before .before .before .before .before .before .before .before .pre .1 .1)
+    (c .before .before .before .before .before .before .before .before .before .before .before .before .before .pre .0)
+    (c .before .before .before .before .before .before .before .before .before .before .before .before .before .pre .1 .0)
+    (c .before .before .before .before .before .before .before .before .before .before .if1 .left) _ _
+    (c .before .before .before .before .before .before .if2 .taken) (c .before .before .before .before .part-of .ensures)
+    (c .before .before .put-change .ensures)
 
 returns-3 : tie.Need-returns-3
 returns-3 c =
-    changes-measured _ _ _ _ (c .before .before .before .before .before .before .before .pre .1 .1) (c .before .before .before .before .before .before .before .pre .0) (c .before .before .before .before .before .before .before .pre .1 .0) (c .before .before .before .before .if1 .left) (c .if2 .left)
+    changes-measured _ _ _ _ (c .before .before .before .before .before .before .before .pre .1 .1)
+    (c .before .before .before .before .before .before .before .pre .0)
+    (c .before .before .before .before .before .before .before .pre .1 .0) (c .before .before .before .before .if1 .left)
+    (c .if2 .left)
 
 pub change-spec : {M : Type 1} → statement M
 change-spec =

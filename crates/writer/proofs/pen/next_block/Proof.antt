@@ -11,15 +11,25 @@ opened-requires c κs = search opening
 
 same-length : tie.Need-same-length
 same-length c =
-    here-kept _ _ _ _ (c .before .before .before .before .before .before .before .before .before .pre) _ _ (c .before .before .before .before .before .close .ensures)
+    here-kept _ _ _ _ (c .before .before .before .before .before .before .before .before .before .pre) _ _
+    (c .before .before .before .before .before .close .ensures)
 
 returns : tie.Need-returns
 returns c =
-    opens-here _ _ _ _ (c .before .before .before .before .before .before .before .before .before .pre) _ _ (c .before .before .before .before .before .close .ensures) _ (c .before .if1 .taken) (c .opened .ensures)
+    opens-here _ _ _ _ (c .before .before .before .before .before .before .before .before .before .pre) _ _
+    (c .before .before .before .before .before .close .ensures) _ (c .before .if1 .taken) (c .opened .ensures)
 
 change-requires : tie.Need-change-requires
-change-requires c κs =
-    (closed-shut _ _ _ _ (c .before .before .before .before .before .before .before .before .before .pre) _ _ (c .before .before .before .before .before .close .ensures), ((c .before .if1 .left), closed-ready _ _ _ _ (c .before .before .before .before .before .before .before .before .before .pre) _ _ (c .before .before .before .before .before .close .ensures)))
+change-requires c κs = (
+  closed-shut _ _ _ _ (c .before .before .before .before .before .before .before .before .before .pre) _ _
+      (c .before .before .before .before .before .close .ensures),
+  (
+    (c .before .if1 .left),
+    closed-ready _ _ _ _
+        (c .before .before .before .before .before .before .before .before .before .pre) _ _
+        (c .before .before .before .before .before .close .ensures),
+  ),
+)
 
 same-length-2 : tie.Need-same-length-2
 same-length-2 c =

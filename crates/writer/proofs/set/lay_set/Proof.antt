@@ -16,7 +16,8 @@ begin-set-requires c κs = search sets
 
 loop-holds : tie.Need-loop-holds Inv-loop μ-loop
 loop-holds c =
-    begun-along _ _ _ _ _ _ _ _ _ _ (c .before .before .before .before .before .before .before .before .before .before .pre) _ _ (c .before .before .begin-set .ensures)
+    begun-along _ _ _ _ _ _ _ _ _ _ (c .before .before .before .before .before .before .before .before .before .before .pre) _ _
+    (c .before .before .begin-set .ensures)
 
 cursor-at-requires : tie.Need-cursor-at-requires Inv-loop μ-loop
 cursor-at-requires c κs =
@@ -28,31 +29,49 @@ entered-requires c κs =
 
 put-file-requires : tie.Need-put-file-requires Inv-loop μ-loop
 put-file-requires c κs =
-    turn-ready _ _ _ _ _ _ _ _ _ _ _ _ _ _ (c .before .before .before .before .before .loop .inv) (c .before .before .before .before .loop-test .taken) _ (c .before .before .before .cursor-at .ensures) _ (c .before .before .entered .ensures)
+    turn-ready _ _ _ _ _ _ _ _ _ _ _ _ _ _ (c .before .before .before .before .before .loop .inv)
+    (c .before .before .before .before .loop-test .taken) _ (c .before .before .before .cursor-at .ensures) _
+    (c .before .before .entered .ensures)
 
 behind-requires : tie.Need-behind-requires Inv-loop μ-loop
 behind-requires c κs =
-    turn-small _ _ _ _ _ _ _ _ _ _ _ _ _ _ (c .before .before .before .before .before .before .before .before .before .loop .inv) (c .before .before .before .before .before .before .before .before .loop-test .taken)
+    turn-small _ _ _ _ _ _ _ _ _ _ _ _ _ _ (c .before .before .before .before .before .before .before .before .before .loop .inv)
+    (c .before .before .before .before .before .before .before .before .loop-test .taken)
 
 loop-less : tie.Need-loop-less Inv-loop μ-loop
 loop-less c =
-    turn-falls _ _ _ _ _ _ _ _ _ _ _ _ _ _ (c .before .before .before .before .before .before .before .before .before .before .loop .inv) (c .before .before .before .before .before .before .before .before .before .loop-test .taken) _ (c .before .before .before .before .before .before .before .before .cursor-at .ensures) _ (c .before .before .before .before .before .before .before .entered .ensures) _ _ (c .before .before .before .before .put-file .ensures) _ (c .behind .ensures)
+    turn-falls _ _ _ _ _ _ _ _ _ _ _ _ _ _
+    (c .before .before .before .before .before .before .before .before .before .before .loop .inv)
+    (c .before .before .before .before .before .before .before .before .before .loop-test .taken) _
+    (c .before .before .before .before .before .before .before .before .cursor-at .ensures) _
+    (c .before .before .before .before .before .before .before .entered .ensures) _ _
+    (c .before .before .before .before .put-file .ensures) _ (c .behind .ensures)
 
 loop-again : tie.Need-loop-again Inv-loop μ-loop
 loop-again c =
-    turn-more _ _ _ _ _ _ _ _ _ _ _ _ _ _ (c .before .before .before .before .before .before .before .before .before .before .loop .inv) (c .before .before .before .before .before .before .before .before .before .loop-test .taken) _ (c .before .before .before .before .before .before .before .before .cursor-at .ensures) _ (c .before .before .before .before .before .before .before .entered .ensures) _ _ (c .before .before .before .before .put-file .ensures) _ (c .behind .ensures)
+    turn-more _ _ _ _ _ _ _ _ _ _ _ _ _ _
+    (c .before .before .before .before .before .before .before .before .before .before .loop .inv)
+    (c .before .before .before .before .before .before .before .before .before .loop-test .taken) _
+    (c .before .before .before .before .before .before .before .before .cursor-at .ensures) _
+    (c .before .before .before .before .before .before .before .entered .ensures) _ _
+    (c .before .before .before .before .put-file .ensures) _ (c .behind .ensures)
 
 end-set-requires : tie.Need-end-set-requires Inv-loop μ-loop
 end-set-requires c κs =
-    along-closing _ _ _ _ _ _ _ _ _ _ (c .before .before .before .before .before .before .before .before .before .before .before .before .before .pre) _ _ (c .before .before .before .before .before .begin-set .ensures) _ _ (c .before .before .loop .inv) (c .before .loop-test .left)
+    along-closing _ _ _ _ _ _ _ _ _ _
+    (c .before .before .before .before .before .before .before .before .before .before .before .before .before .pre) _ _
+    (c .before .before .before .before .before .begin-set .ensures) _ _ (c .before .before .loop .inv)
+    (c .before .loop-test .left)
 
 same-length : tie.Need-same-length Inv-loop μ-loop
 same-length c =
-    along-all-kept _ _ _ _ _ _ _ _ _ _ (c .before .before .before .before .before .before .before .before .before .before .before .before .before .before .before .before .pre) _ _ (c .before .before .before .before .before .before .before .before .begin-set .ensures) _ _ (c .before .before .before .before .before .loop .inv) (c .before .before .before .before .loop-test .left) _ _ (c .before .before .end-set .ensures)
+    along-all-kept _ _ _ _ _ _ _ _ _ _
+    (c .before .before .before .before .before .before .before .before .before .before .before .before .before .before .before .before .pre) _ _ (c .before .before .before .before .before .before .before .before .begin-set .ensures) _ _ (c .before .before .before .before .before .loop .inv) (c .before .before .before .before .loop-test .left) _ _ (c .before .before .end-set .ensures)
 
 returns : tie.Need-returns Inv-loop μ-loop
 returns c =
-    along-sheeted _ _ _ _ _ _ _ _ _ _ (c .before .before .before .before .before .before .before .before .before .before .before .before .before .before .before .before .pre) _ _ (c .before .before .before .before .before .before .before .before .begin-set .ensures) _ _ (c .before .before .before .before .before .loop .inv) (c .before .before .before .before .loop-test .left) _ _ (c .before .before .end-set .ensures)
+    along-sheeted _ _ _ _ _ _ _ _ _ _
+    (c .before .before .before .before .before .before .before .before .before .before .before .before .before .before .before .before .pre) _ _ (c .before .before .before .before .before .before .before .before .begin-set .ensures) _ _ (c .before .before .before .before .before .loop .inv) (c .before .before .before .before .loop-test .left) _ _ (c .before .before .end-set .ensures)
 
 pub lay-set-spec : {M : Type 1} → statement M
 lay-set-spec =

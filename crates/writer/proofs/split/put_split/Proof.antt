@@ -31,36 +31,53 @@ part-put-pieces-end : tie.Need-part-put-pieces-end Inv-loop μ-loop
 part-put-pieces-end c = search needs
 
 put-pieces-requires : tie.Need-put-pieces-requires Inv-loop μ-loop
-put-pieces-requires c κs =
-    (splits-packable _ _ _ _ _ _ _ _ _ _ _ (c .before .before .before .loop .inv), splits-on _ _ _ _ _ _ _ _ _ _ _ (c .before .before .before .loop .inv))
+put-pieces-requires c κs = (
+  splits-packable _ _ _ _ _ _ _ _ _ _ _ (c .before .before .before .loop .inv),
+  splits-on _ _ _ _ _ _ _ _ _ _ _
+      (c .before .before .before .loop .inv),
+)
 
 same-length : tie.Need-same-length Inv-loop μ-loop
 same-length c =
-    splits-kept-on _ _ _ _ _ _ _ _ _ _ _ (c .before .before .before .before .before .before .before .before .loop .inv) _ _ (c .before .before .before .before .put-pieces .ensures)
+    splits-kept-on _ _ _ _ _ _ _ _ _ _ _ (c .before .before .before .before .before .before .before .before .loop .inv) _ _
+    (c .before .before .before .before .put-pieces .ensures)
 
 returns : tie.Need-returns Inv-loop μ-loop
 returns c =
-    splits-short _ _ _ _ _ _ _ _ _ _ _ (c .before .before .before .before .before .before .before .before .loop .inv) _ _ (c .before .before .before .before .put-pieces .ensures) (c .if1 .taken)
+    splits-short _ _ _ _ _ _ _ _ _ _ _ (c .before .before .before .before .before .before .before .before .loop .inv) _ _
+    (c .before .before .before .before .put-pieces .ensures) (c .if1 .taken)
 
 same-length-2 : tie.Need-same-length-2 Inv-loop μ-loop
 same-length-2 c =
-    splits-kept-on _ _ _ _ _ _ _ _ _ _ _ (c .before .before .before .before .before .before .before .before .before .before .loop .inv) _ _ (c .before .before .before .before .before .before .put-pieces .ensures)
+    splits-kept-on _ _ _ _ _ _ _ _ _ _ _
+    (c .before .before .before .before .before .before .before .before .before .before .loop .inv) _ _
+    (c .before .before .before .before .before .before .put-pieces .ensures)
 
 returns-2 : tie.Need-returns-2 Inv-loop μ-loop
 returns-2 c =
-    splits-last _ _ _ _ _ _ _ _ _ _ _ (c .before .before .before .before .before .before .before .before .before .before .loop .inv) _ _ (c .before .before .before .before .before .before .put-pieces .ensures) (c .before .before .if1 .left) (c .if2 .taken)
+    splits-last _ _ _ _ _ _ _ _ _ _ _
+    (c .before .before .before .before .before .before .before .before .before .before .loop .inv) _ _
+    (c .before .before .before .before .before .before .put-pieces .ensures) (c .before .before .if1 .left) (c .if2 .taken)
 
 next-of-requires : tie.Need-next-of-requires Inv-loop μ-loop
 next-of-requires c κs =
-    splits-goes _ _ _ _ _ _ _ _ _ _ _ (c .before .before .before .before .before .before .before .before .before .before .loop .inv) _ _ (c .before .before .before .before .before .before .put-pieces .ensures) (c .before .before .if1 .left) (c .if2 .left)
+    splits-goes _ _ _ _ _ _ _ _ _ _ _
+    (c .before .before .before .before .before .before .before .before .before .before .loop .inv) _ _
+    (c .before .before .before .before .before .before .put-pieces .ensures) (c .before .before .if1 .left) (c .if2 .left)
 
 loop-less : tie.Need-loop-less Inv-loop μ-loop
 loop-less c =
-    splits-fall _ _ _ _ _ _ _ _ _ _ _ (c .before .before .before .before .before .before .before .before .before .before .before .loop .inv) _ _ (c .before .before .before .before .before .before .before .put-pieces .ensures) (c .before .before .before .if1 .left) (c .before .if2 .left) _ (c .next-of .ensures .0) (c .next-of .ensures .1)
+    splits-fall _ _ _ _ _ _ _ _ _ _ _
+    (c .before .before .before .before .before .before .before .before .before .before .before .loop .inv) _ _
+    (c .before .before .before .before .before .before .before .put-pieces .ensures) (c .before .before .before .if1 .left)
+    (c .before .if2 .left) _ (c .next-of .ensures .0) (c .next-of .ensures .1)
 
 loop-again : tie.Need-loop-again Inv-loop μ-loop
 loop-again c =
-    splits-more _ _ _ _ _ _ _ _ _ _ _ (c .before .before .before .before .before .before .before .before .before .before .before .loop .inv) _ _ (c .before .before .before .before .before .before .before .put-pieces .ensures) (c .before .before .before .if1 .left) (c .before .if2 .left) _ (c .next-of .ensures .0)
+    splits-more _ _ _ _ _ _ _ _ _ _ _
+    (c .before .before .before .before .before .before .before .before .before .before .before .loop .inv) _ _
+    (c .before .before .before .before .before .before .before .put-pieces .ensures) (c .before .before .before .if1 .left)
+    (c .before .if2 .left) _ (c .next-of .ensures .0)
 
 pub put-split-spec : {M : Type 1} → statement M
 put-split-spec =
