@@ -37,12 +37,12 @@ unfolding recordOf
 record-none f v e = sym (ap recordOf e)
 
 abbrev beginningWith : Verdict → ℕ → ℕ → Walk → Beginning
-beginningWith v first second w = record { verdict = v; first = first; second = second; walk = w }
+beginningWith v first second w = record { verdict = v; hdr1 = first; hdr2 = second; walk = w }
 
 pub begins : (b : Begun) (f : FileAt) (v : Verdict) → b ≡ At f → v ≡ verdict 0 0 0
-    → beginningWith v (f .first) (f .second) (f .walk) ≡ beginningOf b
+    → beginningWith v (f .hdr1) (f .hdr2) (f .walk) ≡ beginningOf b
 unfolding beginningOf
-begins b f v e h = ap (λ (a : Verdict). beginningWith a (f .first) (f .second) (f .walk)) h ∙ sym (ap beginningOf e)
+begins b f v e h = ap (λ (a : Verdict). beginningWith a (f .hdr1) (f .hdr2) (f .walk)) h ∙ sym (ap beginningOf e)
 
 pub begins-not : (b : Begun) (v : Verdict) → b ≡ NotBegun v → beginningWith v 0 0 noWalk ≡ beginningOf b
 unfolding beginningOf

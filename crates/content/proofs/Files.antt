@@ -90,8 +90,8 @@ pub ruleset markings =
 
 pub file-made : (s : List ℕ) (hdr1 hdr2 m : ℕ) (l : List ℕ) (w : Walk) → l ≡ part hdr2 80 s
     → m ≡ markFrom (hdr2 + 80) (decode (drop (hdr2 + 80) s)) → w ≡ walkFrom l m
-    → _≡_ {A = FileAt} (record { first = hdr1; second = hdr2; walk = w }) (fileAt s hdr1 hdr2)
-file-made s hdr1 hdr2 m l w e f g = ap (λ (v : Walk). record { first = hdr1; second = hdr2; walk = v }) (g ∙ ap₂ walkFrom e f)
+    → _≡_ {A = FileAt} (record { hdr1 = hdr1; hdr2 = hdr2; walk = w }) (fileAt s hdr1 hdr2)
+file-made s hdr1 hdr2 m l w e f g = ap (λ (v : Walk). record { hdr1 = hdr1; hdr2 = hdr2; walk = v }) (g ∙ ap₂ walkFrom e f)
 
 -- what the search finds
 file-by : (s : List ℕ) (c : Position) (r : PartAt) → r ≡ firstFrom c false false (partsAt s c) → asFile s (r .part) ≡ fileFrom s c
@@ -135,30 +135,30 @@ unfolding firstFile
 first-file s x e = e
 
 -- nothing stands behind a label that runs past the image
-next-past : (s : List ℕ) (f : FileAt) → length s ≤ f .second + 80 → Nowhere ≡ nextFile s f
+next-past : (s : List ℕ) (f : FileAt) → length s ≤ f .hdr2 + 80 → Nowhere ≡ nextFile s f
 unfolding nextFile fileFrom fileIn firstIn asFile partsFrom
 next-past s f h =
-    sym (ap (λ (xs : List Item). fileIn s (parts (stands (f .second + 80) (f .first) (Header 2) false) xs))
-    (decode-past s (f .second + 80) h))
+    sym (ap (λ (xs : List Item). fileIn s (parts (stands (f .hdr2 + 80) (f .hdr1) (Header 2) false) xs))
+    (decode-past s (f .hdr2 + 80) h))
 
-pub next-outside : (s : List ℕ) (f : FileAt) → length s < f .second → Nowhere ≡ nextFile s f
+pub next-outside : (s : List ℕ) (f : FileAt) → length s < f .hdr2 → Nowhere ≡ nextFile s f
 next-outside s f h = next-past s f (omega arith)
 
-pub next-cut : (s : List ℕ) (f : FileAt) → f .second ≤ length s → length s - f .second < 80 → Nowhere ≡ nextFile s f
+pub next-cut : (s : List ℕ) (f : FileAt) → f .hdr2 ≤ length s → length s - f .hdr2 < 80 → Nowhere ≡ nextFile s f
 next-cut s f h k = next-past s f (omega arith)
 
-pub next-file : (s : List ℕ) (f : FileAt) (x : NextFile) → x ≡ fileFrom s (stands (f .second + 80) (f .first) (Header 2) false)
+pub next-file : (s : List ℕ) (f : FileAt) (x : NextFile) → x ≡ fileFrom s (stands (f .hdr2 + 80) (f .hdr1) (Header 2) false)
     → x ≡ nextFile s f
 unfolding nextFile
 next-file s f x e = e
 
-pub file-behind : (s : List ℕ) (f : FileAt) (at : ℕ) (x : NextFile) → x ≡ fileFrom s (stands at (f .first) Data false)
+pub file-behind : (s : List ℕ) (f : FileAt) (at : ℕ) (x : NextFile) → x ≡ fileFrom s (stands at (f .hdr1) Data false)
     → x ≡ fileBehind s f at
 unfolding fileBehind
 file-behind s f at x e = e
 
-pub behind-fits : (s : List ℕ) (f : FileAt) → length s < 18446744073709551616 → f .second ≤ length s → 80 ≤ length s - f .second
-    → Fits w64 (f .second + 80)
+pub behind-fits : (s : List ℕ) (f : FileAt) → length s < 18446744073709551616 → f .hdr2 ≤ length s → 80 ≤ length s - f .hdr2
+    → Fits w64 (f .hdr2 + 80)
 behind-fits s f h a b = record { fits = omega arith }
 
 pub ruleset follows = (first-file, next-outside, next-cut, next-file, file-behind, behind-fits, said, needs)

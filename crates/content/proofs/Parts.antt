@@ -27,7 +27,7 @@ use Rattle.order.specs.declared.Due.{Due}
 use Rattle.order.specs.declared.Due.the-variants.{To, Wrong}
 use Rattle.volume.specs.Step.{kindIn, bytesIn}
 use Rattle.reading.proofs.Legality.{header-long}
-use Rattle.content.specs.Part.{beginsFile, ledTo, goesOnBehind, firstBehind, after, partIn, onto, partsBy, partsFrom, partsAt, parts, isWanted, firstIn, firstFrom}
+use Rattle.content.specs.Part.{beginsFile, ledTo, continuesBehind, firstBehind, after, partIn, onto, partsBy, partsFrom, partsAt, parts, isWanted, firstIn, firstFrom}
 use Rattle.content.specs.code.Seen.{seenBy, seenAt}
 use Rattle.content.specs.declared.part.Seen.{Seen}
 use Rattle.content.specs.declared.part.Seen.the-variants.{Item as Of, Nothing}
@@ -172,7 +172,7 @@ by-place s P each at = by-room s P each (suc (length s - at)) at (omega arith)
 -- ---- the parts from an item on
 
 abbrev pub stands : ℕ → ℕ → Phase → Bool → Position
-stands at hdr1 p g = record { at = at; hdr1 = hdr1; phase = p; continues = g }
+stands at hdr1 p g = record { at = at; hdr1 = hdr1; phase = p; resumes = g }
 
 -- an item of kind k and n bytes
 pub parts-seen : (s : List ℕ) (c : Position) (n : ℕ) (k : Kind) (x : Seen) → x ≡ seenAt s (c .phase) (c .at) → x ≡ Of k n
@@ -258,7 +258,7 @@ search-step : (s : List ℕ) (at hdr1 n : ℕ) (p r : Phase) (g : Bool) (k : Kin
     (g′ : Bool)
     → x ≡ seenAt s p at → x ≡ Of k n → d ≡ ledTo g p k → d ≡ To r → part′ ≡ partIn g hdr1 (at + 3) n k
     → hdr1′ ≡ firstBehind hdr1 (at + 3) k
-    → g′ ≡ goesOnBehind g k
+    → g′ ≡ continuesBehind g k
     → partsAt s (stands at hdr1 p g) ≡ onto part′ (stands (at + 3 + n) hdr1′ r g′) (partsAt s (stands (at + 3 + n) hdr1′ r g′))
 unfolding partsBy
 search-step s at hdr1 n p r g k x d part′ hdr1′ g′ e q u w m i j =
@@ -271,9 +271,9 @@ search-step s at hdr1 n p r g k x d part′ hdr1′ g′ e q u w m i j =
 pub search-found : (s : List ℕ) (from : Position) (sections blocks : Bool) (at hdr1 n : ℕ) (p r : Phase) (g : Bool) (k : Kind)
     (x : Seen) (d : Due) (part′ : Part) (hdr1′ : ℕ)
     (g′ b : Bool) → Searching s from sections blocks at hdr1 p g → x ≡ seenAt s p at → x ≡ Of k n → d ≡ ledTo g p k → d ≡ To r
-    → part′ ≡ partIn g hdr1 (at + 3) n k → hdr1′ ≡ firstBehind hdr1 (at + 3) k → g′ ≡ goesOnBehind g k
+    → part′ ≡ partIn g hdr1 (at + 3) n k → hdr1′ ≡ firstBehind hdr1 (at + 3) k → g′ ≡ continuesBehind g k
     → b ≡ isWanted sections blocks part′ → b ≡ true
-    → _≡_ {A = PartAt} (record { part = part′; behind = record { at = at + 3 + n; hdr1 = hdr1′; phase = r; continues = g′ } })
+    → _≡_ {A = PartAt} (record { part = part′; behind = record { at = at + 3 + n; hdr1 = hdr1′; phase = r; resumes = g′ } })
     (firstFrom from sections blocks (partsAt s from))
 search-found s from sections blocks at hdr1 n p r g k x d part′ hdr1′ g′ b c e q u w m i j f t =
     sym (ap (firstFrom from sections blocks) (search-step s at hdr1 n p r g k x d part′ hdr1′ g′ e q u w m i j)
@@ -284,7 +284,7 @@ search-found s from sections blocks at hdr1 n p r g k x d part′ hdr1′ g′ b
 pub search-more : (s : List ℕ) (from : Position) (sections blocks : Bool) (at hdr1 n : ℕ) (p r : Phase) (g : Bool) (k : Kind)
     (x : Seen) (d : Due) (part′ : Part) (hdr1′ : ℕ)
     (g′ b : Bool) → Searching s from sections blocks at hdr1 p g → x ≡ seenAt s p at → x ≡ Of k n → d ≡ ledTo g p k → d ≡ To r
-    → part′ ≡ partIn g hdr1 (at + 3) n k → hdr1′ ≡ firstBehind hdr1 (at + 3) k → g′ ≡ goesOnBehind g k
+    → part′ ≡ partIn g hdr1 (at + 3) n k → hdr1′ ≡ firstBehind hdr1 (at + 3) k → g′ ≡ continuesBehind g k
     → b ≡ isWanted sections blocks part′ → b ≡ false
     → Searching s from sections blocks (at + 3 + n) hdr1′ r g′
 search-more s from sections blocks at hdr1 n p r g k x d part′ hdr1′ g′ b c e q u w m i j f t =
@@ -383,7 +383,7 @@ pub first-ahead : (s : List ℕ) (sections blocks : Bool) (at hdr1 : ℕ) (p : P
     → IsAhead s at (firstIn sections blocks (parts (stands at hdr1 p g) (decode (drop at s))))
 first-ahead s sections blocks at = by-place s P each at
   where
-    first : Position → Part
+    hdr1 : Position → Part
     first c = firstIn sections blocks (parts c (decode (drop (c .at) s)))
 
     P : ℕ → Type 0
@@ -423,4 +423,4 @@ first-ahead s sections blocks at = by-place s P each at
                 (λ _. item-ahead s p g hdr1 i n k there)
                 (λ _.
                 ahead-more s i (i + 3 + n) (first (after c k n q)) (omega arith)
-                (again (i + 3 + n) (omega arith) (there .within) (firstBehind hdr1 (i + 3) k) q (goesOnBehind g k))))
+                (again (i + 3 + n) (omega arith) (there .within) (firstBehind hdr1 (i + 3) k) q (continuesBehind g k))))

@@ -29,8 +29,8 @@ use Rattle.label.specs.Field.{formatOf, blockLengthOf, recordLengthOf, offsetOf
 use Rattle.label.specs.Judged.{labelFault}
 use Rattle.block.specs.Cut.{Segment, units}
 use Rattle.volume.specs.State.{State, start}
-use Rattle.volume.specs.Fault.{valueOf, secondHeaderFault, outcomeIn, blockFault, contextFault, itemFault}
-use Rattle.volume.specs.Step.{Event, begins, continues, holds, kindIn, bytesIn, segmentsOf, segmentsIn, goesOnAfter, firstAfter, secondAfter, pendingAfter, stateAfter, eventsOf}
+use Rattle.volume.specs.Fault.{valueOf, hdr2Fault, outcomeIn, blockFault, contextFault, itemFault}
+use Rattle.volume.specs.Step.{Event, begins, resumes, holds, kindIn, bytesIn, segmentsOf, segmentsIn, continuesAfter, hdr1After, hdr2After, pendingAfter, stateAfter, eventsOf}
 use Rattle.volume.specs.Run.{runs, imageVerdict}
 use Rattle.volume.specs.Meaning.{handedOut}
 use Rattle.volume.specs.Accepted.{All, MayEnd, stateBehind}
@@ -39,7 +39,7 @@ use Rattle.order.proofs.Moves.{Stage, stage, before, within, fileOver, Numbered
 use Rattle.reading.proofs.Stages.{View, view, Holds, isOpen, second-same}
 use Rattle.reading.proofs.Steps.{view-quiet, label-none, context-none}
 use Rattle.reading.proofs.Legality.{header-long, Kept, kept-start, kept-step, image-end}
-use Rattle.content.specs.Part.{placeBehind, goesOnBehind, firstBehind, after, partsFrom, parts, firstIn}
+use Rattle.content.specs.Part.{placeBehind, continuesBehind, firstBehind, after, partsFrom, parts, firstIn}
 use Rattle.content.specs.Section.{asBlock, blockIn, dataFrom}
 use Rattle.content.specs.File.{markFrom, walkFrom, fileAt, asFile, fileIn, fileFrom, nextFile}
 use Rattle.content.specs.declared.NextFile.{NextFile}
@@ -91,7 +91,7 @@ pub data Read : List ℕ → List ℕ → ℕ → List Part → List Event → T
       → Read s second 0 (File a b ∷ ps) (begins l m ∷ es)
   readSection : {s second : List ℕ} {q a b : ℕ} (l m : List ℕ) {ps : List Part} {es : List Event} → part a 80 s ≡ l
       → part b 80 s ≡ m
-      → walkFrom m 0 ≡ walkFrom second 0 → Read s m q ps es → Read s second q (Section a b ∷ ps) (continues l m ∷ es)
+      → walkFrom m 0 ≡ walkFrom second 0 → Read s m q ps es → Read s second q (Section a b ∷ ps) (resumes l m ∷ es)
   readBlock : {s second : List ℕ} {q start n : ℕ} {ps : List Part} {es : List Event} → BlockRead s second q start n ps
       → Read s second (outcomeIn second q (part start n s) .pending) ps es
       → Read s second q (Block start n ∷ ps) (holds (part start n s) (segmentsBy second (part start n s)) ∷ es)
@@ -119,12 +119,12 @@ label-here s at x xs c h = ap (λ (n : ℕ). part (at + 3) n s) (sym h) ∙ sym 
 
 -- stateBehind an item, the last HDR1 is again at the place that is kept
 first-step : (s : List ℕ) (t : State) (p : Phase) (first at : ℕ) (x : Item) (xs : List Item) → ItemStands s at x xs
-    → part first 80 s ≡ t .first
-    → part (firstBehind first (at + 3) (kindIn p x)) 80 s ≡ firstAfter t (kindIn p x) (bytesIn x)
-unfolding firstBehind firstAfter ifB
+    → part first 80 s ≡ t .hdr1
+    → part (firstBehind first (at + 3) (kindIn p x)) 80 s ≡ hdr1After t (kindIn p x) (bytesIn x)
+unfolding firstBehind hdr1After ifB
 first-step s t p first at x xs c here = by-kind (isKind (kindIn p x) (hdr 1)) refl
   where
-    by-kind : (b : Bool) → isKind (kindIn p x) (hdr 1) ≡ b → part (ifB b (at + 3) first) 80 s ≡ ifB b (bytesIn x) (t .first)
+    by-kind : (b : Bool) → isKind (kindIn p x) (hdr 1) ≡ b → part (ifB b (at + 3) first) 80 s ≡ ifB b (bytesIn x) (t .hdr1)
     by-kind true e = label-here s at x xs c (header-long p x (kind-family (kindIn p x) e))
     by-kind false e = here
 
@@ -163,7 +163,7 @@ mark-body s g p q hdr1 at xs num h open' d c o =
     let z : at + 3 + 0 ≡ at + 3 = omega arith in
     let step = open-step s g p q hdr1 at mark xs (due-goes p tapeMark q num d .move) refl d open' refl refl in
     let hdr1′ = firstBehind hdr1 (at + 3) tapeMark in
-    let g′ = goesOnBehind g tapeMark in
+    let g′ = continuesBehind g tapeMark in
     subst (Marked s (parts (stands at hdr1 p g) (mark ∷ xs))) z
     (marked-by s _ _ _ (step .0)
     (record {
@@ -193,28 +193,28 @@ body-of s (block l ∷ xs) g p hdr1 at (q, c, d, o) e fits h num open' =
     let go = due-goes p (kindIn p (block l)) q num d in
     let step = open-step s g p q hdr1 at (block l) xs (go .move) refl d open' (k .datum) (k .fileEnd) in
     marked-by s _ _ _ (step .0)
-    (body-of s xs (goesOnBehind g (kindIn p (block l))) q (firstBehind hdr1 (at + 3) (kindIn p (block l)))
+    (body-of s xs (continuesBehind g (kindIn p (block l))) q (firstBehind hdr1 (at + 3) (kindIn p (block l)))
     (placeBehind at (block l)) o (c .rest) (c .within) (k .phase)
     (go .numbered) (step .1))
 
 -- ---- one item without fault
 
 -- HDR2 of a later section has the lengths of the section before
-same-lengths : (second l : List ℕ) → secondHeaderFault true second l .number ≡ 0 → walkFrom l 0 ≡ walkFrom second 0
+same-lengths : (second l : List ℕ) → hdr2Fault true second l .number ≡ 0 → walkFrom l 0 ≡ walkFrom second 0
 same-lengths second l h =
     let c = second-same second l h in
     λ i. record { format = sym (c .0) i; size = valueOf (sym (c .1) i); offset = valueOf (sym (c .2) i); at = 0; left = 0 }
 
 -- an open file has a record length of 1 or more
 abbrev Sized : Stage → Bool → List ℕ → Type 0
-Sized a g second = isOpen a g ≡ true → valueOf (recordLengthOf second) ≡ 0 → ⊥
+Sized a g hdr2 = isOpen a g ≡ true → valueOf (recordLengthOf second) ≡ 0 → ⊥
 
-sized-step : (t : State) (r : Phase) (l : List ℕ) {k : Kind} {a b : Stage} → Move k a b → Sized a (t .goesOn) (t .second)
+sized-step : (t : State) (r : Phase) (l : List ℕ) {k : Kind} {a b : Stage} → Move k a b → Sized a (t .continues) (t .hdr2)
     → itemFault t k l .number ≡ 0
-    → Sized b (stateAfter t r k l .goesOn) (stateAfter t r k l .second)
-unfolding stateAfter goesOnAfter secondAfter isKind ifB
-sized-step t r l {k} (stays {a = a} c) h f = subst (λ (v : View). Sized a (v .goesOn) (v .second)) (sym (view-quiet t r k l c)) h
-sized-step t r l {k} (nextReel c) h f = subst (λ (v : View). Sized before (v .goesOn) (v .second)) (sym (view-quiet t r k l c)) h
+    → Sized b (stateAfter t r k l .continues) (stateAfter t r k l .hdr2)
+unfolding stateAfter continuesAfter hdr2After isKind ifB
+sized-step t r l {k} (stays {a = a} c) h f = subst (λ (v : View). Sized a (v .continues) (v .hdr2)) (sym (view-quiet t r k l c)) h
+sized-step t r l {k} (nextReel c) h f = subst (λ (v : View). Sized before (v .continues) (v .hdr2)) (sym (view-quiet t r k l c)) h
 sized-step t r l header1 h f = h
 sized-step t r l newFile h f = h
 sized-step t r l header2 h f = λ _. record-some l (label-none t (hdr 2) l f)
@@ -227,19 +227,19 @@ sized-step t r l finish h f = h
 read-on : (s : List ℕ) (t : State) (r : Phase) (at hdr1 : ℕ) (x : Item) (xs : List Item) (k : Kind) (es : List Event)
     → kindIn (t .phase) x ≡ k → dueAfter (t .phase) k ≡ To r
     → isKind k dataBlock ≡ false → isKind k (hdr 2) ≡ false
-    → Read s (stateAfter t r k (bytesIn x) .second) (stateAfter t r k (bytesIn x) .pending)
-    (parts (after (stands at hdr1 (t .phase) (t .goesOn)) k (length (bytesIn x)) r) xs) es
-    → Read s (t .second) (t .pending) (parts (stands at hdr1 (t .phase) (t .goesOn)) (x ∷ xs)) (eventsOf t k (bytesIn x) ++ es)
-unfolding stateAfter secondAfter pendingAfter eventsOf
+    → Read s (stateAfter t r k (bytesIn x) .hdr2) (stateAfter t r k (bytesIn x) .pending)
+    (parts (after (stands at hdr1 (t .phase) (t .continues)) k (length (bytesIn x)) r) xs) es
+    → Read s (t .hdr2) (t .pending) (parts (stands at hdr1 (t .phase) (t .continues)) (x ∷ xs)) (eventsOf t k (bytesIn x) ++ es)
+unfolding stateAfter hdr2After pendingAfter eventsOf
 read-on s t r at hdr1 x xs k es e d a b h =
-    let c = stands at hdr1 (t .phase) (t .goesOn) in
+    let c = stands at hdr1 (t .phase) (t .continues) in
     let ps = parts (after c k (length (bytesIn x)) r) xs in
-    subst (λ (fs : List Event). Read s (t .second) (t .pending) (parts c (x ∷ xs)) (fs ++ es))
+    subst (λ (fs : List Event). Read s (t .hdr2) (t .pending) (parts c (x ∷ xs)) (fs ++ es))
     (sym (if-false _ _ _ a ∙ if-false _ _ _ b))
-    (subst (λ (qs : List Part). Read s (t .second) (t .pending) qs es) (sym (parts-on c r x xs k e a b d))
-    (subst (λ (m : List ℕ). Read s m (t .pending) ps es) (if-false (isKind k (hdr 2)) (bytesIn x) (t .second) b)
-    (subst (λ (q : ℕ). Read s (ifB (isKind k (hdr 2)) (bytesIn x) (t .second)) q ps es)
-    (if-false (isKind k dataBlock) (outcomeIn (t .second) (t .pending) (bytesIn x) .pending) (t .pending) a) h)))
+    (subst (λ (qs : List Part). Read s (t .hdr2) (t .pending) qs es) (sym (parts-on c r x xs k e a b d))
+    (subst (λ (m : List ℕ). Read s m (t .pending) ps es) (if-false (isKind k (hdr 2)) (bytesIn x) (t .hdr2) b)
+    (subst (λ (q : ℕ). Read s (ifB (isKind k (hdr 2)) (bytesIn x) (t .hdr2)) q ps es)
+    (if-false (isKind k dataBlock) (outcomeIn (t .hdr2) (t .pending) (bytesIn x) .pending) (t .pending) a) h)))
 
 -- a data block
 read-block : (s : List ℕ) (g : Bool) (p r : Phase) (at hdr1 : ℕ) (second : List ℕ) (q : ℕ) (x : Item) (xs : List Item)
@@ -270,13 +270,13 @@ read-second : (s : List ℕ) (g : Bool) (p r : Phase) (at hdr1 : ℕ) (first sec
     (es : List Event) → ItemStands s at x xs
     → InOrder s r (placeBehind at x) xs → kindIn p x ≡ hdr 2 → dueAfter p (hdr 2) ≡ To r → (g ≡ false → q ≡ 0)
     → labelFault (hdr 2) (bytesIn x) .number ≡ 0
-    → secondHeaderFault g second (bytesIn x) .number ≡ 0 → part hdr1 80 s ≡ first → length first ≡ 80
+    → hdr2Fault g second (bytesIn x) .number ≡ 0 → part hdr1 80 s ≡ first → length first ≡ 80
     → Read s (bytesIn x) q (parts (stands (placeBehind at x) hdr1 r g) xs) es
     → Read s second q (parts (stands at hdr1 p g) (x ∷ xs))
-    ((ifB g (continues first (bytesIn x)) (begins first (bytesIn x)) ∷ []) ++ es)
+    ((ifB g (resumes first (bytesIn x)) (begins first (bytesIn x)) ∷ []) ++ es)
 unfolding ifB
 read-second s true p r at hdr1 first second q x xs es c o e d idle f m here long h =
-    subst (λ (qs : List Part). Read s second q qs (continues first (bytesIn x) ∷ es)) (sym (parts-section p r hdr1 at x xs e d))
+    subst (λ (qs : List Part). Read s second q qs (resumes first (bytesIn x) ∷ es)) (sym (parts-section p r hdr1 at x xs e d))
     (readSection first (bytesIn x) here (label-here s at x xs c (header-long p x (ap (λ (k : Kind). k .family) e)))
     (same-lengths second (bytesIn x) m) h)
 read-second s false p r at hdr1 first second q x xs es c o e d idle f m here long h =
@@ -328,24 +328,24 @@ read-second s false p r at hdr1 first second q x xs es c o e d idle f m here lon
 read-step : (s : List ℕ) (t : State) (r : Phase) (at hdr1 : ℕ) (x : Item) (xs : List Item)
     (es : List Event) {k : Kind} {a b : Stage} → Move k a b
     → kindIn (t .phase) x ≡ k → dueAfter (t .phase) k ≡ To r → ItemStands s at x xs → InOrder s r (placeBehind at x) xs
-    → Holds a (view t) → Sized a (t .goesOn) (t .second)
-    → part hdr1 80 s ≡ t .first → itemFault t k (bytesIn x) .number ≡ 0
-    → Read s (stateAfter t r k (bytesIn x) .second) (stateAfter t r k (bytesIn x) .pending)
-    (parts (after (stands at hdr1 (t .phase) (t .goesOn)) k (length (bytesIn x)) r) xs) es
-    → Read s (t .second) (t .pending) (parts (stands at hdr1 (t .phase) (t .goesOn)) (x ∷ xs)) (eventsOf t k (bytesIn x) ++ es)
-unfolding stateAfter secondAfter pendingAfter eventsOf segmentsIn contextFault blockFault fault isKind ifB goesOnBehind firstBehind placeBehind
+    → Holds a (view t) → Sized a (t .continues) (t .hdr2)
+    → part hdr1 80 s ≡ t .hdr1 → itemFault t k (bytesIn x) .number ≡ 0
+    → Read s (stateAfter t r k (bytesIn x) .hdr2) (stateAfter t r k (bytesIn x) .pending)
+    (parts (after (stands at hdr1 (t .phase) (t .continues)) k (length (bytesIn x)) r) xs) es
+    → Read s (t .hdr2) (t .pending) (parts (stands at hdr1 (t .phase) (t .continues)) (x ∷ xs)) (eventsOf t k (bytesIn x) ++ es)
+unfolding stateAfter hdr2After pendingAfter eventsOf segmentsIn contextFault blockFault fault isKind ifB continuesBehind firstBehind placeBehind
 read-step s t r at hdr1 x xs es {k} (stays c) e d i o h z here f again =
-    read-on s t r at hdr1 x xs k es e d (c .datum) (c .second) again
+    read-on s t r at hdr1 x xs k es e d (c .datum) (c .hdr2) again
 read-step s t r at hdr1 x xs es {k} (nextReel c) e d i o h z here f again =
-    read-on s t r at hdr1 x xs k es e d (c .datum) (c .second) again
+    read-on s t r at hdr1 x xs k es e d (c .datum) (c .hdr2) again
 read-step s t r at hdr1 x xs es header1 e d i o h z here f again = read-on s t r at hdr1 x xs (hdr 1) es e d refl refl again
 read-step s t r at hdr1 x xs es newFile e d i o h z here f again = read-on s t r at hdr1 x xs (hdr 1) es e d refl refl again
 read-step s t r at hdr1 x xs es header2 e d i o h z here f again =
-    read-second s (t .goesOn) (t .phase) r at hdr1 (t .first) (t .second) (t .pending) x xs es i o e d (h .outside .idle)
+    read-second s (t .continues) (t .phase) r at hdr1 (t .hdr1) (t .hdr2) (t .pending) x xs es i o e d (h .outside .idle)
     (label-none t (hdr 2) (bytesIn x) f)
     (context-none t (hdr 2) (bytesIn x) f) here (h .long) again
 read-step s t r at hdr1 x xs es datum e d i o h z here f again =
-    read-block s (t .goesOn) (t .phase) r at hdr1 (t .second) (t .pending) x xs es i o e d (z refl)
+    read-block s (t .continues) (t .phase) r at hdr1 (t .hdr2) (t .pending) x xs es i o e d (z refl)
     (context-none t dataBlock (bytesIn x) f) again
 read-step s t r at hdr1 x xs es eof1 e d i o h z here f again = read-on s t r at hdr1 x xs (eof 1) es e d refl refl again
 read-step s t r at hdr1 x xs es eov1 e d i o h z here f again = read-on s t r at hdr1 x xs (eov 1) es e d refl refl again
@@ -355,25 +355,25 @@ read-step s t r at hdr1 x xs es finish e d i o h z here f again = read-on s t r 
 
 -- where the image may end no record is open
 read-none : (s : List ℕ) (t : State) (at hdr1 : ℕ) → Kept t → MayEnd t
-    → Read s (t .second) (t .pending) (parts (stands at hdr1 (t .phase) (t .goesOn)) []) []
+    → Read s (t .hdr2) (t .pending) (parts (stands at hdr1 (t .phase) (t .continues)) []) []
 unfolding partsFrom
 read-none s t at hdr1 kept h =
     let done : stage (t .phase) ≡ fileOver = image-end (t .phase) (kept .numbered) h in
     let idle : t .pending ≡ 0 = subst (λ (a : Stage). Holds a (view t)) done (kept .holds) .idle in
-    subst (λ (q : ℕ). Read s (t .second) q [] []) (sym idle) readOver
+    subst (λ (q : ℕ). Read s (t .hdr2) q [] []) (sym idle) readOver
 
 read : (s : List ℕ) (xs : List Item) (t : State) (at hdr1 : ℕ) → All MayEnd t xs → decode (drop at s) ≡ xs → allItems xs ≡ true
     → Kept t
-    → Sized (stage (t .phase)) (t .goesOn) (t .second) → part hdr1 80 s ≡ t .first
-    → Read s (t .second) (t .pending) (parts (stands at hdr1 (t .phase) (t .goesOn)) xs) (handedOut (runs t xs))
-unfolding stateAfter goesOnAfter goesOnBehind placeBehind
+    → Sized (stage (t .phase)) (t .continues) (t .hdr2) → part hdr1 80 s ≡ t .hdr1
+    → Read s (t .hdr2) (t .pending) (parts (stands at hdr1 (t .phase) (t .continues)) xs) (handedOut (runs t xs))
+unfolding stateAfter continuesAfter continuesBehind placeBehind
 read s [] t at hdr1 all e good kept sized here =
-    subst (Read s (t .second) (t .pending) (parts (stands at hdr1 (t .phase) (t .goesOn)) [])) (sym (handed-none t all))
+    subst (Read s (t .hdr2) (t .pending) (parts (stands at hdr1 (t .phase) (t .continues)) [])) (sym (handed-none t all))
     (read-none s t at hdr1 kept all)
 read s (x ∷ xs) t at hdr1 (q, f, all) e good kept sized here =
     let c = item-at s at x xs e (all-first x xs good) in
     let go = due-goes (t .phase) (kindIn (t .phase) x) q (kept .numbered) (f .due) in
-    subst (Read s (t .second) (t .pending) (parts (stands at hdr1 (t .phase) (t .goesOn)) (x ∷ xs)))
+    subst (Read s (t .hdr2) (t .pending) (parts (stands at hdr1 (t .phase) (t .continues)) (x ∷ xs)))
     (sym (handed-more t x xs q f all))
     (read-step s t q at hdr1 x xs (handedOut (runs (stateBehind t x q) xs)) (go .move) refl (f .due) c
     (in-order s xs (stateBehind t x q) (placeBehind at x) all (c .rest) (all-rest x xs good)) (kept .holds) sized here (f .sound)

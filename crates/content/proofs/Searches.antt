@@ -21,7 +21,7 @@ use Rattle.order.specs.declared.Due.the-variants.{To}
 use Rattle.order.proofs.Moves.{Stage, stage, before, named, within, fileOver, reelOver, Numbered, Quiet, Move, stays, nextReel, header1, nextFile, header2, datum, eof1, eov1, finish, due-goes}
 use Rattle.volume.specs.Step.{kindIn, bytesIn}
 use Rattle.reading.proofs.Stages.{isOpen}
-use Rattle.content.specs.Part.{placeBehind, beginsFile, ledTo, goesOnBehind, firstBehind, after, partIn, onto, partsBy, partsFrom, parts, isWanted, firstIn}
+use Rattle.content.specs.Part.{placeBehind, beginsFile, ledTo, continuesBehind, firstBehind, after, partIn, onto, partsBy, partsFrom, parts, isWanted, firstIn}
 use Rattle.content.specs.code.Seen.{seenAt}
 use Rattle.content.specs.Section.{asBlock, blockIn, dataFrom}
 use Rattle.content.specs.File.{fileIn}
@@ -107,35 +107,35 @@ parts-on c q x xs k e a b d =
 pub parts-block : (p q : Phase) (g : Bool) (hdr1 at : ℕ) (x : Item) (xs : List Item) → kindIn p x ≡ dataBlock
     → dueAfter p dataBlock ≡ To q
     → parts (stands at hdr1 p g) (x ∷ xs) ≡ Block (at + 3) (length (bytesIn x)) ∷ parts (stands (placeBehind at x) hdr1 q g) xs
-unfolding ledTo beginsFile goesOnBehind firstBehind partIn onto isKind ifB placeBehind
+unfolding ledTo beginsFile continuesBehind firstBehind partIn onto isKind ifB placeBehind
 parts-block p q g hdr1 at x xs e d = parts-item (stands at hdr1 p g) q x xs dataBlock e d
 
 -- HDR2 of a file that goes on
 pub parts-section : (p q : Phase) (hdr1 at : ℕ) (x : Item) (xs : List Item) → kindIn p x ≡ hdr 2 → dueAfter p (hdr 2) ≡ To q
     → parts (stands at hdr1 p true) (x ∷ xs) ≡ Section hdr1 (at + 3) ∷ parts (stands (placeBehind at x) hdr1 q true) xs
-unfolding ledTo beginsFile goesOnBehind firstBehind partIn onto isKind ifB placeBehind
+unfolding ledTo beginsFile continuesBehind firstBehind partIn onto isKind ifB placeBehind
 parts-section p q hdr1 at x xs e d = parts-item (stands at hdr1 p true) q x xs (hdr 2) e d
 
 -- HDR2 of a new one
 pub parts-file : (p : Phase) (hdr1 at : ℕ) (x : Item) (xs : List Item) → kindIn p x ≡ hdr 2
     → parts (stands at hdr1 p false) (x ∷ xs) ≡ File hdr1 (at + 3) ∷ parts (stands (placeBehind at x) hdr1 (Header 2) false) xs
-unfolding ledTo beginsFile goesOnBehind firstBehind partIn onto isKind ifB placeBehind
+unfolding ledTo beginsFile continuesBehind firstBehind partIn onto isKind ifB placeBehind
 parts-file p hdr1 at x xs e = parts-item (stands at hdr1 p false) (Header 2) x xs (hdr 2) e refl
 
-quiet-goes : (g : Bool) (k : Kind) → Quiet k → goesOnBehind g k ≡ g
-unfolding goesOnBehind
+quiet-goes : (g : Bool) (k : Kind) → Quiet k → continuesBehind g k ≡ g
+unfolding continuesBehind
 quiet-goes g k c = if-false _ _ _ (c .reelEnd) ∙ if-false _ _ _ (c .fileEnd)
 
 quiet-first : (first at : ℕ) (k : Kind) → Quiet k → firstBehind first at k ≡ first
 unfolding firstBehind
-quiet-first first at k c = if-false _ _ _ (c .first)
+quiet-first first at k c = if-false _ _ _ (c .hdr1)
 
 parts-quiet : (g : Bool) (p q : Phase) (hdr1 at : ℕ) (x : Item) (xs : List Item) (k : Kind) → Quiet k → kindIn p x ≡ k
     → dueAfter p k ≡ To q
     → parts (stands at hdr1 p g) (x ∷ xs) ≡ parts (stands (placeBehind at x) hdr1 q g) xs
 unfolding placeBehind
 parts-quiet g p q hdr1 at x xs k c e d =
-    parts-on (stands at hdr1 p g) q x xs k e (c .datum) (c .second) d
+    parts-on (stands at hdr1 p g) q x xs k e (c .datum) (c .hdr2) d
     ∙ ap₂ (λ (i : ℕ) (y : Bool). parts (stands (at + 3 + length (bytesIn x)) i q y) xs) (quiet-first hdr1 (at + 3) k c)
     (quiet-goes g k c)
 
@@ -155,7 +155,7 @@ alike-step : (g h : Bool) (p q : Phase) (a b at : ℕ) (x : Item) (xs : List Ite
     → ((g h : Bool) (a b : ℕ) → Alike n g h a b
     → parts (stands (placeBehind at x) a q g) xs ≡ parts (stands (placeBehind at x) b q h) xs)
     → parts (stands at a p g) (x ∷ xs) ≡ parts (stands at b p h) (x ∷ xs)
-unfolding isKind ifB goesOnBehind firstBehind placeBehind
+unfolding isKind ifB continuesBehind firstBehind placeBehind
 alike-step g h p q a b at x xs {k} (stays c) e d l again =
     parts-quiet g p q a at x xs k c e d ∙ again g h a b l ∙ sym (parts-quiet h p q b at x xs k c e d)
 alike-step g h p q a b at x xs {k} (nextReel c) e d l again =
@@ -243,13 +243,13 @@ pub open-step : (s : List ℕ) (g : Bool) (p q : Phase) (hdr1 at : ℕ) (x : Ite
     → Move k m n → kindIn p x ≡ k → dueAfter p k ≡ To q
     → isOpen m g ≡ true → isKind k dataBlock ≡ false → isKind k (eof 1) ≡ false
     → Passes s (parts (stands at hdr1 p g) (x ∷ xs))
-    (parts (stands (placeBehind at x) (firstBehind hdr1 (at + 3) k) q (goesOnBehind g k)) xs)
-    × (isOpen n (goesOnBehind g k) ≡ true)
-unfolding isKind ifB goesOnBehind firstBehind placeBehind
+    (parts (stands (placeBehind at x) (firstBehind hdr1 (at + 3) k) q (continuesBehind g k)) xs)
+    × (isOpen n (continuesBehind g k) ≡ true)
+unfolding isKind ifB continuesBehind firstBehind placeBehind
 open-step s g p q hdr1 at x xs {k} (stays {a = a} c) e d o f i =
-    (same-passes s _ _ (parts-on (stands at hdr1 p g) q x xs k e (c .datum) (c .second) d), ap (isOpen a) (quiet-goes g k c) ∙ o)
+    (same-passes s _ _ (parts-on (stands at hdr1 p g) q x xs k e (c .datum) (c .hdr2) d), ap (isOpen a) (quiet-goes g k c) ∙ o)
 open-step s g p q hdr1 at x xs {k} (nextReel c) e d o f i =
-    (same-passes s _ _ (parts-on (stands at hdr1 p g) q x xs k e (c .datum) (c .second) d), quiet-goes g k c ∙ o)
+    (same-passes s _ _ (parts-on (stands at hdr1 p g) q x xs k e (c .datum) (c .hdr2) d), quiet-goes g k c ∙ o)
 open-step s g p q hdr1 at x xs header1 e d o f i =
     (same-passes s _ _ (parts-on (stands at hdr1 p g) q x xs (hdr 1) e refl refl d), o)
 open-step s g p q hdr1 at x xs nextFile e d o f i =
@@ -271,15 +271,15 @@ open-step s g p q hdr1 at x xs finish e d o f i =
 shut-step : (g : Bool) (p q : Phase) (hdr1 at : ℕ) (x : Item) (xs : List Item) {k : Kind} {m n : Stage} → Move k m n
     → kindIn p x ≡ k → dueAfter p k ≡ To q
     → isOpen m g ≡ false
-    → ((i : ℕ) → isOpen n (goesOnBehind g k) ≡ false
-    → blockIn (parts (stands (placeBehind at x) i q (goesOnBehind g k)) xs) ≡ Nowhere)
+    → ((i : ℕ) → isOpen n (continuesBehind g k) ≡ false
+    → blockIn (parts (stands (placeBehind at x) i q (continuesBehind g k)) xs) ≡ Nowhere)
     → blockIn (parts (stands at hdr1 p g) (x ∷ xs)) ≡ Nowhere
-unfolding isKind ifB goesOnBehind firstBehind placeBehind blockIn asBlock firstIn isWanted
+unfolding isKind ifB continuesBehind firstBehind placeBehind blockIn asBlock firstIn isWanted
 shut-step g p q hdr1 at x xs {k} (stays {a = a} c) e d o again =
-    ap blockIn (parts-on (stands at hdr1 p g) q x xs k e (c .datum) (c .second) d)
+    ap blockIn (parts-on (stands at hdr1 p g) q x xs k e (c .datum) (c .hdr2) d)
     ∙ again (firstBehind hdr1 (at + 3) k) (ap (isOpen a) (quiet-goes g k c) ∙ o)
 shut-step g p q hdr1 at x xs {k} (nextReel c) e d o again =
-    ap blockIn (parts-on (stands at hdr1 p g) q x xs k e (c .datum) (c .second) d)
+    ap blockIn (parts-on (stands at hdr1 p g) q x xs k e (c .datum) (c .hdr2) d)
     ∙ again (firstBehind hdr1 (at + 3) k) (quiet-goes g k c ∙ o)
 shut-step g p q hdr1 at x xs header1 e d o again =
     ap blockIn (parts-on (stands at hdr1 p g) q x xs (hdr 1) e refl refl d) ∙ again (at + 3) o
@@ -301,7 +301,7 @@ shut-none s [] g p hdr1 at num i o = refl
 shut-none s (x ∷ xs) g p hdr1 at num (q, c, d, i) o =
     let go = due-goes p (kindIn p x) q num d in
     shut-step g p q hdr1 at x xs (go .move) refl d o
-    (λ first off. shut-none s xs (goesOnBehind g (kindIn p x)) q first (placeBehind at x) (go .numbered) i off)
+    (λ first off. shut-none s xs (continuesBehind g (kindIn p x)) q first (placeBehind at x) (go .numbered) i off)
 
 -- behind a data block, and so behind the next one, the same file follows
 datum-follows : (s : List ℕ) (g : Bool) (p q : Phase) (hdr1 at start n : ℕ) (x : Item) (xs : List Item) → kindIn p x ≡ dataBlock
@@ -327,16 +327,16 @@ onward {s = s} {start = start} {l = l} (c, o) again h =
 block-step : (s : List ℕ) (g : Bool) (p q : Phase) (hdr1 at start l : ℕ) (x : Item) (xs : List Item) {k : Kind} {m n : Stage}
     → Move k m n → kindIn p x ≡ k → dueAfter p k ≡ To q
     → isOpen m g ≡ true
-    → (isOpen n (goesOnBehind g k) ≡ false
-    → blockIn (parts (stands (placeBehind at x) (firstBehind hdr1 (at + 3) k) q (goesOnBehind g k)) xs) ≡ Nowhere)
+    → (isOpen n (continuesBehind g k) ≡ false
+    → blockIn (parts (stands (placeBehind at x) (firstBehind hdr1 (at + 3) k) q (continuesBehind g k)) xs) ≡ Nowhere)
     → (kindIn p x ≡ dataBlock → dueAfter p dataBlock ≡ To q
     → Follows s (fileIn s (parts (stands at hdr1 p g) (x ∷ xs))) (start + l))
-    → (isOpen n (goesOnBehind g k) ≡ true
-    → blockIn (parts (stands (placeBehind at x) (firstBehind hdr1 (at + 3) k) q (goesOnBehind g k)) xs) ≡ At start l
-    → Follows s (fileIn s (parts (stands (placeBehind at x) (firstBehind hdr1 (at + 3) k) q (goesOnBehind g k)) xs)) (start + l))
+    → (isOpen n (continuesBehind g k) ≡ true
+    → blockIn (parts (stands (placeBehind at x) (firstBehind hdr1 (at + 3) k) q (continuesBehind g k)) xs) ≡ At start l
+    → Follows s (fileIn s (parts (stands (placeBehind at x) (firstBehind hdr1 (at + 3) k) q (continuesBehind g k)) xs)) (start + l))
     → blockIn (parts (stands at hdr1 p g) (x ∷ xs)) ≡ At start l
     → Follows s (fileIn s (parts (stands at hdr1 p g) (x ∷ xs))) (start + l)
-unfolding isKind ifB goesOnBehind firstBehind placeBehind
+unfolding isKind ifB continuesBehind firstBehind placeBehind
 block-step s g p q hdr1 at start l x xs (stays {a = a} c) e d o none there again h =
     onward (open-step s g p q hdr1 at x xs {m = a} (stays c) e d o (c .datum) (c .fileEnd)) again h
 block-step s g p q hdr1 at start l x xs (nextReel c) e d o none there again h =
@@ -365,7 +365,7 @@ block-follows s [] g p hdr1 at start n num o i e = let z : _≡_ {A = ℕ} 0 1 =
 block-follows s (x ∷ xs) g p hdr1 at start n num o (q, c, d, i) e =
     let go = due-goes p (kindIn p x) q num d in
     let hdr1′ = firstBehind hdr1 (at + 3) (kindIn p x) in
-    let g′ = goesOnBehind g (kindIn p x) in
+    let g′ = continuesBehind g (kindIn p x) in
     block-step s g p q hdr1 at start n x xs (go .move) refl d o
     (λ off. shut-none s xs g′ q hdr1′ (placeBehind at x) (go .numbered) i off)
     (λ k f. datum-follows s g p q hdr1 at start n x xs k f c i e)

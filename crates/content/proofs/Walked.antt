@@ -22,7 +22,7 @@ use Rattle.label.specs.Field.{formatOf, blockLengthOf, recordLengthOf, offsetOf
 use Rattle.block.specs.declared.Held.{Held}
 use Rattle.volume.specs.State.{start}
 use Rattle.volume.specs.Fault.{valueOf, outcomeIn}
-use Rattle.volume.specs.Step.{Event, begins, continues, holds}
+use Rattle.volume.specs.Step.{Event, begins, resumes, holds}
 use Rattle.volume.specs.Run.{imageVerdict}
 use Rattle.volume.specs.Meaning.{File, joined, collect, setFrom, fieldsFrom, meaningOf, content}
 use Rattle.content.specs.Part.{isWanted, firstIn}
@@ -53,7 +53,7 @@ use Rattle.content.proofs.Read.{FileRead, BlockRead, segmentsBy, Read, 
 
 -- the files to come, and the set identifier: that of the first of them
 abbrev SetIs : List ℕ → NextFile → List ℕ → Type 0
-SetIs s (There f) set = set ≡ setOf (part (f .first) 80 s)
+SetIs s (There f) set = set ≡ setOf (part (f .hdr1) 80 s)
 SetIs s NoFile set = Unit {0}
 
 pub record Comes (s : List ℕ) (x : NextFile) (ds : List File) (set : List ℕ) : Type 0 where
@@ -93,10 +93,10 @@ module _ (s : List ℕ) (a b : ℕ) (first second : List ℕ) (ps : List Part) (
   w = walkFrom second m
 
   abbrev this : FileAt
-  this = record { first = a; second = b; walk = w }
+  this = record { hdr1 = a; hdr2 = b; walk = w }
 
   this-is : this ≡ fileAt s a b
-  this-is = ap (λ (l : List ℕ). record { first = a; second = b; walk = walkFrom l m }) (sym (c .hdr2))
+  this-is = ap (λ (l : List ℕ). record { hdr1 = a; hdr2 = b; walk = walkFrom l m }) (sym (c .hdr2))
 
   next-is : fileIn s ps ≡ nextFile s this
   next-is = c .next ∙ ap (nextFile s) (sym this-is)
@@ -192,7 +192,7 @@ told-block s second q start n ps es c h =
 
 -- a later section
 told-section : (s : List ℕ) (w : Walk) (q a b : ℕ) (l m : List ℕ) (ps : List Part) (es : List Event) → FilesTold s w q ps es
-    → FilesTold s w q (Section a b ∷ ps) (continues l m ∷ es)
+    → FilesTold s w q (Section a b ∷ ps) (resumes l m ∷ es)
 unfolding collect setFrom blockIn fileIn firstIn isWanted ifB
 told-section s w q a b l m ps es h = record { owed = h .owed; comes = h .comes }
 
@@ -202,13 +202,13 @@ told-over s w = record { owed = nothing-owed s w; comes = record { filed = refl;
 
 told : {s second : List ℕ} {q : ℕ} {ps : List Part} {es : List Event} → Read s second q ps es
     → FilesTold s (walkFrom second 0) q ps es
-told {s = s} {second = second} readOver = told-over s (walkFrom second 0)
-told {s = s} {second = second} (readFile {a = a} {b = b} l m {ps = ps} {es = es} c h) =
+told {s = s} {hdr2 = second} readOver = told-over s (walkFrom second 0)
+told {s = s} {hdr2 = second} (readFile {a = a} {b = b} l m {ps = ps} {es = es} c h) =
     told-file s a b l m ps es c (told h) (walkFrom second 0)
 told {s = s} {q = q} (readSection {a = a} {b = b} l m {ps = ps} {es = es} _ _ e h) =
-    subst (λ (w : Walk). FilesTold s w q (Section a b ∷ ps) (continues l m ∷ es)) e
+    subst (λ (w : Walk). FilesTold s w q (Section a b ∷ ps) (resumes l m ∷ es)) e
     (told-section s (walkFrom m 0) q a b l m ps es (told h))
-told {s = s} {second = second} {q = q} (readBlock {start = start} {n = n} {ps = ps} {es = es} c h) =
+told {s = s} {hdr2 = second} {q = q} (readBlock {start = start} {n = n} {ps = ps} {es = es} c h) =
     told-block s second q start n ps es c (told h)
 
 -- ---- the files of an accepted image
@@ -223,7 +223,7 @@ files-all s h = comes-all s h .filed
 
 -- The set identifier is that of the first file.
 pub set-first : (s : List ℕ) (f : FileAt) → imageVerdict s .number ≡ 0 → firstFile s ≡ There f
-    → content s .set ≡ setOf (part (f .first) 80 s)
+    → content s .set ≡ setOf (part (f .hdr1) 80 s)
 set-first s f h e = subst (λ (x : NextFile). SetIs s x (content s .set)) e (comes-all s h .named)
 
 -- ---- files by their numbers

@@ -50,7 +50,7 @@ walkFrom second at =
 -- a file by the places of its first HDR1 and HDR2
 abbrev pub fileAt : List ℕ → ℕ → ℕ → FileAt
 fileAt s hdr1 hdr2 =
-    record { first = hdr1; second = hdr2; walk = walkFrom (part hdr2 80 s) (markFrom (hdr2 + 80) (decode (drop (hdr2 + 80) s))) }
+    record { hdr1 = hdr1; hdr2 = hdr2; walk = walkFrom (part hdr2 80 s) (markFrom (hdr2 + 80) (decode (drop (hdr2 + 80) s))) }
 
 -- a part as a file
 unfoldable pub asFile : List ℕ → Part → NextFile
@@ -69,15 +69,15 @@ fileFrom s c = fileIn s (parts c (decode (drop (c .at) s)))
 
 -- the first file; no HDR1 yet is a place past the end
 unfoldable pub firstFile : List ℕ → NextFile
-firstFile s = fileFrom s (record { at = 5; hdr1 = length s; phase = Reel; continues = false })
+firstFile s = fileFrom s (record { at = 5; hdr1 = length s; phase = Reel; resumes = false })
 
 -- the file behind one, from behind that file's HDR2 on
 unfoldable pub nextFile : List ℕ → FileAt → NextFile
-nextFile s f = fileFrom s (record { at = f .second + 80; hdr1 = f .first; phase = Header 2; continues = false })
+nextFile s f = fileFrom s (record { at = f .hdr2 + 80; hdr1 = f .hdr1; phase = Header 2; resumes = false })
 
 -- the file behind one, from a place between two items of that file's data on
 unfoldable pub fileBehind : List ℕ → FileAt → ℕ → NextFile
-fileBehind s f at = fileFrom s (record { at = at; hdr1 = f .first; phase = Data; continues = false })
+fileBehind s f at = fileFrom s (record { at = at; hdr1 = f .hdr1; phase = Data; resumes = false })
 
 -- ---- files by their numbers
 

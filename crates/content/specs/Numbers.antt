@@ -28,8 +28,8 @@ noWalk = record { format = 0; size = 0; offset = 0; at = 0; left = 0 }
 
 -- a file that was begun
 unfoldable pub beginningOf : Begun → Beginning
-beginningOf (At f) = record { verdict = verdict 0 0 0; first = f .first; second = f .second; walk = f .walk }
-beginningOf (NotBegun v) = record { verdict = v; first = 0; second = 0; walk = noWalk }
+beginningOf (At f) = record { verdict = verdict 0 0 0; hdr1 = f .hdr1; hdr2 = f .hdr2; walk = f .walk }
+beginningOf (NotBegun v) = record { verdict = v; hdr1 = 0; hdr2 = 0; walk = noWalk }
 
 -- a file that was looked for: 13 where there is none
 abbrev pub fileOf : NextFile → Beginning

@@ -55,9 +55,9 @@ pub record Amounts (s : List ℕ) (f : FileAt) (d : File) : Type 0 where
 -- records, and what
 -- follows the file is found from the end of its records on, too
 pub record FileIs (s : List ℕ) (f : FileAt) (d : File) : Type 0 where
-  pub firstWithin : f .first + 80 ≤ length s
-  pub secondWithin : f .second + 80 ≤ length s
-  pub fields : d .fields ≡ fieldsFrom (part (f .first) 80 s) (part (f .second) 80 s)
+  pub firstWithin : f .hdr1 + 80 ≤ length s
+  pub secondWithin : f .hdr2 + 80 ≤ length s
+  pub fields : d .fields ≡ fieldsFrom (part (f .hdr1) 80 s) (part (f .hdr2) 80 s)
   pub walks : Walks s (f .walk) (d .records)
   pub ends : endOf s (f .walk) ≤ length s
   pub behind : fileBehind s f (endOf s (f .walk)) ≡ nextFile s f

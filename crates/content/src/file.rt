@@ -58,8 +58,8 @@ fn file_at(image: &[u8], hdr1: usize, hdr2: usize) -> FileAt
     let end = hdr2 + 80;
     let walk = walk_from(part_of(image, hdr2, 80), behind_mark(image, end));
     FileAt {
-        first: hdr1,
-        second: hdr2,
+        hdr1: hdr1,
+        hdr2: hdr2,
         walk,
     }
 }
@@ -95,7 +95,7 @@ pub fn first_file(image: &[u8]) -> NextFile
 pub fn next_file(image: &[u8], f: FileAt) -> NextFile
     ensures { λ r. ⌜ Said fileOf r (nextFile (now (image .entry)) f) ⌝ }
 {
-    let second = f.second;
+    let second = f.hdr2;
     if image.len() < second {
         return NextFile::Nowhere;
     }
@@ -105,7 +105,7 @@ pub fn next_file(image: &[u8], f: FileAt) -> NextFile
     let at = second + 80;
     let from = Position {
         at,
-        hdr1: f.first,
+        hdr1: f.hdr1,
         phase: Phase::Header(2),
         continues: false,
     };
@@ -118,7 +118,7 @@ pub fn file_behind(image: &[u8], f: FileAt, at: usize) -> NextFile
 {
     let from = Position {
         at,
-        hdr1: f.first,
+        hdr1: f.hdr1,
         phase: Phase::Data,
         continues: false,
     };

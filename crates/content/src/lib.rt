@@ -89,8 +89,8 @@ pub enum Step {
 
 // A file of a set: the places of the first byte of its first HDR1 and HDR2, and the walk at its first record.
 pub struct FileAt {
-    pub first: usize,
-    pub second: usize,
+    pub hdr1: usize,
+    pub hdr2: usize,
     pub walk: Walk,
 }
 

@@ -23,8 +23,8 @@ pub struct Located {
 #[repr(C)]
 pub struct Beginning {
     pub verdict: Verdict,
-    pub first: u64,
-    pub second: u64,
+    pub hdr1: u64,
+    pub hdr2: u64,
     pub walk: Walk,
 }
 
@@ -71,15 +71,15 @@ pub fn beginning_of(begun: Begun) -> Beginning
             let walk = f.walk;
             Beginning {
                 verdict: answer(0),
-                first: f.first as u64,
-                second: f.second as u64,
+                hdr1: f.hdr1 as u64,
+                hdr2: f.hdr2 as u64,
                 walk,
             }
         }
         Begun::Refused(verdict) => Beginning {
             verdict,
-            first: 0,
-            second: 0,
+            hdr1: 0,
+            hdr2: 0,
             walk: Walk {
                 format: 0,
                 size: 0,

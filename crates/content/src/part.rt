@@ -1,6 +1,6 @@
 // The parts of an image, one after the other: the one search over its items, whatever its bytes. It knows the order of a reel and the kinds of labels.
 ghost use mathlib.Core.Path.{_≡_};
-ghost use Rattle.content.specs.Part.{beginsFile, ledTo, goesOnBehind, firstBehind, partIn, partsAt, isWanted, firstFrom, nextPart};
+ghost use Rattle.content.specs.Part.{beginsFile, ledTo, continuesBehind, firstBehind, partIn, partsAt, isWanted, firstFrom, nextPart};
 ghost use Rattle.content.specs.code.Seen.{seenAt};
 use image::Shape;
 use image::shape_at;
@@ -96,8 +96,8 @@ fn led_to(continues: bool, phase: Phase, k: Kind) -> Due
 }
 
 // Whether the next HDR1 goes on with a file.
-fn goes_on_behind(continues: bool, k: Kind) -> bool
-    ensures { λ r. ⌜ r ≡ goesOnBehind continues k ⌝ }
+fn continues_behind(continues: bool, k: Kind) -> bool
+    ensures { λ r. ⌜ r ≡ continuesBehind continues k ⌝ }
 {
     if is(k, EOV, 1) {
         return true;
@@ -173,7 +173,7 @@ pub(crate) fn search(image: &[u8], from: Position, sections: bool, blocks: bool)
                     let start = at + 3;
                     let part = part_in(continues, hdr1, start, n, k);
                     hdr1 = first_behind(hdr1, start, k);
-                    continues = goes_on_behind(continues, k);
+                    continues = continues_behind(continues, k);
                     phase = q;
                     at = start + n;
                     if is_wanted(sections, blocks, part) {

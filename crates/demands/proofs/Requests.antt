@@ -16,8 +16,8 @@ use Rattle.order.specs.Kind.{hdr, eov, eof, isKind}
 use Rattle.order.specs.declared.Kind.{Kind}
 use Rattle.output.specs.Output.{imageIn}
 use Rattle.volume.specs.State.{State, start}
-use Rattle.volume.specs.Step.{firstAfter}
-use Rattle.volume.specs.Fault.{firstTrailerFault, openFault, fileEndFault, contextFault}
+use Rattle.volume.specs.Step.{hdr1After}
+use Rattle.volume.specs.Fault.{trailer1Fault, openFault, fileEndFault, contextFault}
 use Rattle.volume.specs.Accepted.{All, MayEnd, Accepted}
 use Rattle.volume.specs.Meaning.{content}
 use Rattle.volume.specs.Dates.{undated, undatedFrom, SameDates}
@@ -123,23 +123,23 @@ equal-files-exactly a b quota names o p x y legal i j e f ls ms za zb =
 pub dates-not-compared : (s : State) (l m : List ℕ) → length l ≡ 80 → length m ≡ 80 → undated l ≡ undated m
     → contextFault s (hdr 1) l ≡ contextFault s (hdr 1) m
 unfolding contextFault isKind ifB
-dates-not-compared s l m a b e = header-same l m a b e (s .goesOn) (s .files) (s .first)
+dates-not-compared s l m a b e = header-same l m a b e (s .continues) (s .files) (s .hdr1)
 
 -- "a trailer still equals its own header", in its dates too. The state has the last HDR1, its own section's: HDR1 takes that
 -- place, and nothing else does. Ruled out: a trailer
 -- held to section 0001, or to no header.
 pub its-header : (s : State) (l : List ℕ)
-    → (firstAfter s (hdr 1) l ≡ l) × ((k : Kind) → isKind k (hdr 1) ≡ false → firstAfter s k l ≡ s .first)
-unfolding firstAfter isKind ifB
+    → (hdr1After s (hdr 1) l ≡ l) × ((k : Kind) → isKind k (hdr 1) ≡ false → hdr1After s k l ≡ s .hdr1)
+unfolding hdr1After isKind ifB
 its-header s l = (refl, λ k h. if-false _ _ _ h)
 
 pub dates-of-its-header : (s : State) (l : List ℕ)
-    → (contextFault s (eov 1) l .number ≡ 0 → SameDates (s .first) l)
-    × (contextFault s (eof 1) l .number ≡ 0 → SameDates (s .first) l)
+    → (contextFault s (eov 1) l .number ≡ 0 → SameDates (s .hdr1) l)
+    × (contextFault s (eof 1) l .number ≡ 0 → SameDates (s .hdr1) l)
 unfolding contextFault fileEndFault isKind ifB
 dates-of-its-header s l = (
-  trailer-dates (s .first) l (s .count),
-  λ h. trailer-dates (s .first) l (s .count) (or-first (firstTrailerFault (s .first) (s .count) l) (openFault (s .pending)) h),
+  trailer-dates (s .hdr1) l (s .count),
+  λ h. trailer-dates (s .hdr1) l (s .count) (or-first (trailer1Fault (s .hdr1) (s .count) l) (openFault (s .pending)) h),
 )
 
 -- "so demand 3 now makes two sets alike that differ only in later dates." `NewYear.antt` computes such a pair, and that every

@@ -39,7 +39,7 @@ use Rattle.listing.specs.code.Place.{describedAt, lineAt}
 -- what is said of a file, by the parts of the image that the code cuts out
 pub described-written : (s : List ℕ) (f : FileAt) (first second i g : List ℕ) (x : Held) (o : List ℕ) (a : ℕ) (p : List ℕ) (r : ℕ)
     (q : List ℕ) (t : ℕ)
-    → first ≡ part (f .first) 80 s → second ≡ part (f .second) 80 s → i ≡ part 4 17 first → g ≡ part 4 1 second
+    → first ≡ part (f .hdr1) 80 s → second ≡ part (f .hdr2) 80 s → i ≡ part 4 17 first → g ≡ part 4 1 second
     → PageWrote o a (named i g) p r → PageWrote p r (counted (x .records) (x .bytes)) q t → PageWrote o a (describedAt s f x) q t
 unfolding describedAt
 described-written s f first second i g x o a p r q t ef es ei eg w v =
@@ -60,12 +60,12 @@ pub ruleset describing = (described-written, line-written, needs)
 line-is : (s : List ℕ) (n : ℕ) (f : FileAt) (d : File) → FileIs s f d → lineAt s n f (fileHeld s (f .walk) .held) ≡ line n d
 unfolding lineAt line described describedAt
 line-is s n f d c =
-    let first : length (part (f .first) 80 s) ≡ 80 = length-part (f .first) 80 s (c .firstWithin) in
-    let second : length (part (f .second) 80 s) ≡ 80 = length-part (f .second) 80 s (c .secondWithin) in
-    let name : part 4 17 (part (f .first) 80 s) ≡ part 0 17 (d .fields)
-    = sym (ap (part 0 17) (c .fields) ∙ entry-name (part (f .first) 80 s) (part (f .second) 80 s) first second 0 17 (omega arith)) in
-    let format : part 4 1 (part (f .second) 80 s) ≡ part 35 1 (d .fields)
-    = sym (ap (part 35 1) (c .fields) ∙ entry-second (part (f .first) 80 s) (part (f .second) 80 s) first second 0 1 (omega arith)) in
+    let first : length (part (f .hdr1) 80 s) ≡ 80 = length-part (f .hdr1) 80 s (c .firstWithin) in
+    let second : length (part (f .hdr2) 80 s) ≡ 80 = length-part (f .hdr2) 80 s (c .secondWithin) in
+    let name : part 4 17 (part (f .hdr1) 80 s) ≡ part 0 17 (d .fields)
+    = sym (ap (part 0 17) (c .fields) ∙ entry-name (part (f .hdr1) 80 s) (part (f .hdr2) 80 s) first second 0 17 (omega arith)) in
+    let format : part 4 1 (part (f .hdr2) 80 s) ≡ part 35 1 (d .fields)
+    = sym (ap (part 35 1) (c .fields) ∙ entry-second (part (f .hdr1) 80 s) (part (f .hdr2) 80 s) first second 0 1 (omega arith)) in
     ap (λ (l : List ℕ). digits 4 n ++ l)
     (ap₂ (λ (y z : List ℕ). y ++ z) (ap₂ named name format) (ap₂ counted (c .amounts .records) (c .amounts .bytes)))
 
@@ -73,7 +73,7 @@ line-is s n f d c =
 
 -- a file stands no earlier than at a place
 abbrev pub NoEarlier : ℕ → NextFile → Type 0
-NoEarlier at (At f) = at ≤ f .second
+NoEarlier at (At f) = at ≤ f .hdr2
 NoEarlier at Nowhere = 0 ≤ at
 
 behind-less : (a b : ℕ) (x : NextFile) → a ≤ b → NoEarlier b x → NoEarlier a x
@@ -169,10 +169,10 @@ lining-all s e o a p r n x w c z =
 
 -- how far the image goes on behind a file's HDR2
 abbrev pub left : List ℕ → NextFile → ℕ
-left s (At f) = suc (length s - f .second)
+left s (At f) = suc (length s - f .hdr2)
 left s Nowhere = 0
 
-left-falls : (s : List ℕ) (f : FileAt) (y : NextFile) → f .second + 80 ≤ length s → NoEarlier (f .second + 80) y
+left-falls : (s : List ℕ) (f : FileAt) (y : NextFile) → f .hdr2 + 80 ≤ length s → NoEarlier (f .hdr2 + 80) y
     → left s y < left s (At f)
 left-falls s f (At g) h b = omega arith
 left-falls s f Nowhere h b = omega arith
@@ -181,15 +181,15 @@ module _ (s o : List ℕ) (a : ℕ) (p : List ℕ) (r n : ℕ) (x : NextFile) (f
   next : NextAt s n f (c .rest)
   next = next-file s n x f (c .rest) (c .filed) e
 
-  after : n + 1 ≤ f .second
+  after : n + 1 ≤ f .hdr2
   after = subst (NoEarlier (n + 1)) e (c .number)
 
-  behind : NoEarlier (f .second + 80) (nextFile s f)
+  behind : NoEarlier (f .hdr2 + 80) (nextFile s f)
   unfolding nextFile
-  behind = found-behind s (f .second + 80) (f .first) (Header 2)
+  behind = found-behind s (f .hdr2 + 80) (f .hdr1) (Header 2)
 
   pub number-fits : Fits w64 (n + 1)
-  number-fits = let inside : f .second + 80 ≤ length s = next .is .secondWithin in omega (arith, after, c .room)
+  number-fits = let inside : f .hdr2 + 80 ≤ length s = next .is .secondWithin in omega (arith, after, c .room)
 
   -- the next file is found from behind the file's last block on
   found : (y : FileHeld) (z : NextFile) → y ≡ fileHeld s (f .walk) → z ≡ fileBehind s f (y .end) → z ≡ nextFile s f
@@ -212,12 +212,12 @@ module _ (s o : List ℕ) (a : ℕ) (p : List ℕ) (r n : ℕ) (x : NextFile) (f
             ∙ c .whole;
         number =
             subst (NoEarlier (n + 1 + 1)) (sym (found y z h k))
-            (behind-less (n + 1 + 1) (f .second + 80) (nextFile s f) (omega (arith, after)) behind);
+            (behind-less (n + 1 + 1) (f .hdr2 + 80) (nextFile s f) (omega (arith, after)) behind);
       }
 
   pub lining-falls : (y : FileHeld) (z : NextFile) → y ≡ fileHeld s (f .walk) → z ≡ fileBehind s f (y .end) → left s z < left s x
   lining-falls y z h k =
       subst (λ (u : NextFile). left s z < left s u) (sym e)
-      (left-falls s f z (next .is .secondWithin) (subst (NoEarlier (f .second + 80)) (sym (found y z h k)) behind))
+      (left-falls s f z (next .is .secondWithin) (subst (NoEarlier (f .hdr2 + 80)) (sym (found y z h k)) behind))
 
 pub ruleset lining = (lining-none, lining-all, lining-more, number-fits, lining-falls, needs)

@@ -62,8 +62,8 @@ fn put_counts(out: &mut [u8], at: usize, records: u64, size: u64) -> usize
 fn put_file(out: &mut [u8], at: usize, image: &[u8], f: FileAt, held: Held) -> usize
     ensures { λ r. ⌜ PageWrote (now (out .entry)) at (describedAt (now (image .entry)) f held) (now (out .exit)) r ⌝ }
 {
-    let first = part_of(image, f.first, 80);
-    let second = part_of(image, f.second, 80);
+    let first = part_of(image, f.hdr1, 80);
+    let second = part_of(image, f.hdr2, 80);
     let identifier = part_of(first, IDENTIFIER, IDENTIFIER_WIDTH);
     let format = part_of(second, RECORD_FORMAT, RECORD_FORMAT_WIDTH);
     let behind = put_names(out, at, identifier, format);

@@ -82,8 +82,8 @@ Numbered Accepted = Unit {0}
 -- ---- moves
 
 pub record Quiet (k : Kind) : Type 0 where
-  pub first : isKind k (hdr 1) ≡ false
-  pub second : isKind k (hdr 2) ≡ false
+  pub hdr1 : isKind k (hdr 1) ≡ false
+  pub hdr2 : isKind k (hdr 2) ≡ false
   pub datum : isKind k dataBlock ≡ false
   pub fileEnd : isKind k (eof 1) ≡ false
   pub reelEnd : isKind k (eov 1) ≡ false
@@ -113,8 +113,8 @@ quiet-family : (f n : ℕ) → eqb f 3 ≡ false → eqb f 8 ≡ false → eqb f
 unfolding isKind
 quiet-family f n a b c d e =
     record {
-      first = and-left _ _ a;
-      second = and-left _ _ a;
+      hdr1 = and-left _ _ a;
+      hdr2 = and-left _ _ a;
       datum = and-left _ _ b;
       fileEnd = and-left _ _ c;
       reelEnd = and-left _ _ d;
@@ -127,25 +127,25 @@ more-than-two n h = (ne-eqb (n + 1) 1 (λ e. omega arith), ne-eqb (n + 1) 2 (λ 
 quiet-hdr : (n : ℕ) → 2 ≤ n → Quiet (hdr (n + 1))
 unfolding isKind
 quiet-hdr n h =
-    record { first = more-than-two n h .0; second = more-than-two n h .1; datum = refl; fileEnd = refl; reelEnd = refl; imageEnd = refl }
+    record { hdr1 = more-than-two n h .0; hdr2 = more-than-two n h .1; datum = refl; fileEnd = refl; reelEnd = refl; imageEnd = refl }
 
 quiet-eof : (n : ℕ) → 2 ≤ n → Quiet (eof (n + 1))
 unfolding isKind
 quiet-eof n h =
-    record { first = refl; second = refl; datum = refl; fileEnd = more-than-two n h .0; reelEnd = refl; imageEnd = refl }
+    record { hdr1 = refl; hdr2 = refl; datum = refl; fileEnd = more-than-two n h .0; reelEnd = refl; imageEnd = refl }
 
 quiet-eov : (n : ℕ) → 2 ≤ n → Quiet (eov (n + 1))
 unfolding isKind
 quiet-eov n h =
-    record { first = refl; second = refl; datum = refl; fileEnd = refl; reelEnd = more-than-two n h .0; imageEnd = refl }
+    record { hdr1 = refl; hdr2 = refl; datum = refl; fileEnd = refl; reelEnd = more-than-two n h .0; imageEnd = refl }
 
 quiet-eof2 : Quiet (eof 2)
 unfolding isKind
-quiet-eof2 = record { first = refl; second = refl; datum = refl; fileEnd = refl; reelEnd = refl; imageEnd = refl }
+quiet-eof2 = record { hdr1 = refl; hdr2 = refl; datum = refl; fileEnd = refl; reelEnd = refl; imageEnd = refl }
 
 quiet-eov2 : Quiet (eov 2)
 unfolding isKind
-quiet-eov2 = record { first = refl; second = refl; datum = refl; fileEnd = refl; reelEnd = refl; imageEnd = refl }
+quiet-eov2 = record { hdr1 = refl; hdr2 = refl; datum = refl; fileEnd = refl; reelEnd = refl; imageEnd = refl }
 
 quiet-vol : (n : ℕ) → Quiet (vol n)
 quiet-vol n = quiet-family 1 n refl refl refl refl refl

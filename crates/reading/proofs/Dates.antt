@@ -29,8 +29,8 @@ use Rattle.label.specs.Name.{named as namedKind, kindOf}
 use Rattle.label.specs.Table.{hdr1, perSection, perFile, createdRow, expiresRow}
 use Rattle.label.proofs.Every.{Hold, all-hold}
 use Rattle.volume.specs.State.{State, start}
-use Rattle.volume.specs.Fault.{crossed, newFilePlace, laterPlace, fileFault, firstHeaderFault, firstTrailerFault}
-use Rattle.volume.specs.Step.{Event, begins, continues, holds, Next, kindIn, bytesIn, isDue, stateAfter, namesAfter, filesAfter, goesOnAfter, firstAfter, secondAfter, countAfter, pendingAfter, segmentsIn, eventsOf}
+use Rattle.volume.specs.Fault.{crossed, newFilePlace, laterPlace, fileFault, hdr1Fault, trailer1Fault}
+use Rattle.volume.specs.Step.{Event, begins, resumes, holds, Next, kindIn, bytesIn, isDue, stateAfter, volumesAfter, filesAfter, continuesAfter, hdr1After, hdr2After, countAfter, pendingAfter, segmentsIn, eventsOf}
 use Rattle.volume.specs.Run.{runs, imageVerdict}
 use Rattle.volume.specs.Meaning.{Collected, meaningOf, handedOut, content}
 use Rattle.volume.specs.Accepted.{Faultless, All, MayEnd, stateBehind}
@@ -159,15 +159,15 @@ module _ (l m : List ℕ) (long-l : length l ≡ 80) (long-m : length m ≡ 80) 
       cc
 
   -- against what was read before it, HDR1 is the same with other dates
-  pub header-same : (goesOn : Bool) (files : ℕ) (first : List ℕ)
-      → firstHeaderFault goesOn files first l ≡ firstHeaderFault goesOn files first m
-  unfolding firstHeaderFault
-  header-same goesOn files first =
-      ap₂ (λ (a b : ℕ). ifB goesOn (crossed a) (orElse (crossed b) (fileFault files))) (later-same first) (new-same files first)
+  pub header-same : (continues : Bool) (files : ℕ) (first : List ℕ)
+      → hdr1Fault continues files first l ≡ hdr1Fault continues files first m
+  unfolding hdr1Fault
+  header-same continues files first =
+      ap₂ (λ (a b : ℕ). ifB continues (crossed a) (orElse (crossed b) (fileFault files))) (later-same first) (new-same files first)
 
 -- a trailer without fault has the dates of the HDR1 that it is compared with
-pub trailer-dates : (first l : List ℕ) (count : ℕ) → firstTrailerFault first count l .number ≡ 0 → SameDates first l
-unfolding firstTrailerFault agreeAt ifB
+pub trailer-dates : (first l : List ℕ) (count : ℕ) → trailer1Fault first count l .number ≡ 0 → SameDates first l
+unfolding trailer1Fault agreeAt ifB
 trailer-dates first l count h =
     let rows : Hold (agreeAt perSection first l) hdr1
     = all-hold (agreeAt perSection first l) hdr1 (lower-first (unequalIn perSection first l hdr1) _ (crossed-none _ h)) in
@@ -215,11 +215,11 @@ abbrev withFirst : State → List ℕ → State
 withFirst s f =
     record {
       phase = s .phase;
-      names = s .names;
+      volumes = s .volumes;
       files = s .files;
-      goesOn = s .goesOn;
-      first = f;
-      second = s .second;
+      continues = s .continues;
+      hdr1 = f;
+      hdr2 = s .hdr2;
       count = s .count;
       pending = s .pending;
     }
@@ -235,8 +235,8 @@ OneBehind gs hs = (es fs : List Event) → OneMeaning es fs → OneMeaning (gs +
 -- an item of kind k, with bytes l for the one and m for the other, leaves it so, and the meaning of both is one
 record Alike (s : State) (f : List ℕ) (p : Phase) (k : Kind) (b : Stage) (l m : List ℕ) : Type 0 where
   pub events : OneBehind (eventsOf s k l) (eventsOf (withFirst s f) k m)
-  pub state : stateAfter (withFirst s f) p k m ≡ withFirst (stateAfter s p k l) (firstAfter (withFirst s f) k m)
-  pub begun : Begun b (goesOnAfter s k) (firstAfter s k l) (firstAfter (withFirst s f) k m)
+  pub state : stateAfter (withFirst s f) p k m ≡ withFirst (stateAfter s p k l) (hdr1After (withFirst s f) k m)
+  pub begun : Begun b (continuesAfter s k) (hdr1After s k l) (hdr1After (withFirst s f) k m)
 
 abbrev isNamed : Stage → Bool
 isNamed before = false
@@ -250,13 +250,13 @@ not-named a h e = false≢true (sym h ∙ ap isNamed e)
 
 quiet-undated : (k : Kind) → Quiet k → isDated k ≡ false
 unfolding isDated
-quiet-undated k c = or-false _ _ (c .first) (or-false _ _ (c .reelEnd) (c .fileEnd))
+quiet-undated k c = or-false _ _ (c .hdr1) (or-false _ _ (c .reelEnd) (c .fileEnd))
 
 -- with equal bytes the two states differ in the last HDR1 alone
 same-state : (s : State) (f : List ℕ) (p : Phase) (k : Kind) (l m : List ℕ) → l ≡ m
-    → stateAfter (withFirst s f) p k m ≡ withFirst (stateAfter s p k l) (firstAfter (withFirst s f) k m)
-unfolding stateAfter namesAfter filesAfter goesOnAfter secondAfter countAfter pendingAfter
-same-state s f p k l m e = ap (λ (x : List ℕ). withFirst (stateAfter s p k x) (firstAfter (withFirst s f) k m)) (sym e)
+    → stateAfter (withFirst s f) p k m ≡ withFirst (stateAfter s p k l) (hdr1After (withFirst s f) k m)
+unfolding stateAfter volumesAfter filesAfter continuesAfter hdr2After countAfter pendingAfter
+same-state s f p k l m e = ap (λ (x : List ℕ). withFirst (stateAfter s p k x) (hdr1After (withFirst s f) k m)) (sym e)
 
 -- nothing is handed out by either
 none-behind : (gs hs : List Event) → gs ≡ [] → hs ≡ [] → OneBehind gs hs
@@ -270,22 +270,22 @@ one-behind x y e es fs h = subst (λ (z : Event). OneMeaning (x ∷ es) (z ∷ f
 
 -- a section: a file begins with the same HDR1, or goes on, with any
 section-behind : (g : Bool) (f h l m : List ℕ) → (g ≡ false → f ≡ h) → l ≡ m
-    → OneBehind (ifB g (continues f l) (begins f l) ∷ []) (ifB g (continues h m) (begins h m) ∷ [])
+    → OneBehind (ifB g (resumes f l) (begins f l) ∷ []) (ifB g (resumes h m) (begins h m) ∷ [])
 unfolding ifB
 section-behind true f h l m e q = meaning-continued f l h m
 section-behind false f h l m e q = one-behind _ _ (ap₂ begins (e refl) q)
 
 alike : (s : State) (f : List ℕ) (p : Phase) (l m : List ℕ) {k : Kind} {a b : Stage} → Move k a b
-    → Begun a (s .goesOn) (s .first) f
-    → (s .goesOn ≡ false → l ≡ m) → (isDated k ≡ false → l ≡ m) → Alike s f p k b l m
-unfolding stateAfter namesAfter filesAfter goesOnAfter firstAfter secondAfter countAfter pendingAfter segmentsIn eventsOf isDated isKind ifB
+    → Begun a (s .continues) (s .hdr1) f
+    → (s .continues ≡ false → l ≡ m) → (isDated k ≡ false → l ≡ m) → Alike s f p k b l m
+unfolding stateAfter volumesAfter filesAfter continuesAfter hdr1After hdr2After countAfter pendingAfter segmentsIn eventsOf isDated isKind ifB
 alike s f p l m {k} (stays {a = a} c) h new e =
     record {
       events = none-behind _ _ (events-quiet s k l c) (events-quiet (withFirst s f) k m c);
       state = same-state s f p k l m (e (quiet-undated k c));
       begun =
-          λ n g. if-false _ _ _ (c .first) ∙ h n (sym (if-false _ _ _ (c .reelEnd) ∙ if-false _ _ _ (c .fileEnd)) ∙ g)
-          ∙ sym (if-false _ _ _ (c .first));
+          λ n g. if-false _ _ _ (c .hdr1) ∙ h n (sym (if-false _ _ _ (c .reelEnd) ∙ if-false _ _ _ (c .fileEnd)) ∙ g)
+          ∙ sym (if-false _ _ _ (c .hdr1));
     }
 alike s f p l m {k} (nextReel c) h new e =
     record {
@@ -297,7 +297,7 @@ alike s f p l m header1 h new e = record { events = λ es fs h. h; state = refl;
 alike s f p l m nextFile h new e = record { events = λ es fs h. h; state = refl; begun = λ _ g. new g }
 alike s f p l m header2 h new e =
     record {
-      events = section-behind (s .goesOn) (s .first) f l m (h refl) (e refl);
+      events = section-behind (s .continues) (s .hdr1) f l m (h refl) (e refl);
       state = same-state s f p (hdr 2) l m (e refl);
       begun = λ n. absurd (not-named within refl n);
     }
@@ -327,12 +327,12 @@ some-items x xs e = let h : 0 ≡ suc (length xs) = ap length e in omega arith
 
 -- an item without fault goes on
 undated-go : (s : State) (x : Item) (xs : List Item) (p : Phase) → Faultless s x p
-    → undatedFrom s (x ∷ xs) ≡ undatedIn (s .goesOn) (s .phase) x ∷ undatedFrom (stateBehind s x p) xs
+    → undatedFrom s (x ∷ xs) ≡ undatedIn (s .continues) (s .phase) x ∷ undatedFrom (stateBehind s x p) xs
 unfolding undatedFrom undatedBehind
 undated-go s x xs p h =
-    ap (λ (r : Next). undatedIn (s .goesOn) (s .phase) x ∷ undatedBehind r (λ t. undatedFrom t xs)) (faultless-go s x p h)
+    ap (λ (r : Next). undatedIn (s .continues) (s .phase) x ∷ undatedBehind r (λ t. undatedFrom t xs)) (faultless-go s x p h)
 
-same-runs : (xs ys : List Item) (s : State) (f : List ℕ) → Numbered (s .phase) → Begun (stage (s .phase)) (s .goesOn) (s .first) f
+same-runs : (xs ys : List Item) (s : State) (f : List ℕ) → Numbered (s .phase) → Begun (stage (s .phase)) (s .continues) (s .hdr1) f
     → undatedFrom s xs ≡ undatedFrom (withFirst s f) ys → All MayEnd s xs → All MayEnd (withFirst s f) ys
     → OneMeaning (handedOut (runs s xs)) (handedOut (runs (withFirst s f) ys))
 unfolding undatedFrom runs stateAfter
@@ -341,20 +341,20 @@ same-runs [] (y ∷ ys) s f n b e u v = absurd (some-items _ _ e)
 same-runs (x ∷ xs) [] s f n b e u v = absurd (some-items _ _ (sym e))
 same-runs (x ∷ xs) (y ∷ ys) s f n b e (p, u, us) (q, v, vs) =
     let k : Kind = kindIn (s .phase) x in
-    let both : undatedIn (s .goesOn) (s .phase) x ∷ undatedFrom (stateBehind s x p) xs ≡ undatedIn (s .goesOn) (s .phase) y ∷ undatedFrom (stateBehind t y q) ys
+    let both : undatedIn (s .continues) (s .phase) x ∷ undatedFrom (stateBehind s x p) xs ≡ undatedIn (s .continues) (s .phase) y ∷ undatedFrom (stateBehind t y q) ys
     = sym (undated-go s x xs p u) ∙ e ∙ undated-go t y ys q v in
-    let item : undatedIn (s .goesOn) (s .phase) x ≡ undatedIn (s .goesOn) (s .phase) y = first-item _ _ _ _ both in
-    let kind : k ≡ kindIn (s .phase) y = same-kind (s .goesOn) (s .phase) x y item in
+    let item : undatedIn (s .continues) (s .phase) x ≡ undatedIn (s .continues) (s .phase) y = first-item _ _ _ _ both in
+    let kind : k ≡ kindIn (s .phase) y = same-kind (s .continues) (s .phase) x y item in
     let phase : p ≡ q = due-same p q (sym (u .due) ∙ ap (dueAfter (s .phase)) kind ∙ v .due) in
     let moved : Goes (s .phase) k p = due-goes (s .phase) k p n (u .due) in
     let a : Alike s f p k (stage p) (bytesIn x) (bytesIn y)
     = alike s f p (bytesIn x) (bytesIn y) (moved .move) b
-    (λ g. same-bytes (s .goesOn) (s .phase) x y item (and-left (s .goesOn) (isDated k) g))
-    (λ d. same-bytes (s .goesOn) (s .phase) x y item (and-right (s .goesOn) (isDated k) d)) in
+    (λ g. same-bytes (s .continues) (s .phase) x y item (and-left (s .continues) (isDated k) g))
+    (λ d. same-bytes (s .continues) (s .phase) x y item (and-right (s .continues) (isDated k) d)) in
     let m : List ℕ = bytesIn y in
-    let state : stateBehind t y q ≡ withFirst (stateBehind s x p) (firstAfter t k m) = sym (ap₂ (λ (r : Phase) (j : Kind). stateAfter t r j m) phase kind) ∙ a .state in
-    let rest : OneMeaning (handedOut (runs (stateBehind s x p) xs)) (handedOut (runs (withFirst (stateBehind s x p) (firstAfter t k m)) ys))
-    = same-runs xs ys (stateBehind s x p) (firstAfter t k m) (moved .numbered) (a .begun)
+    let state : stateBehind t y q ≡ withFirst (stateBehind s x p) (hdr1After t k m) = sym (ap₂ (λ (r : Phase) (j : Kind). stateAfter t r j m) phase kind) ∙ a .state in
+    let rest : OneMeaning (handedOut (runs (stateBehind s x p) xs)) (handedOut (runs (withFirst (stateBehind s x p) (hdr1After t k m)) ys))
+    = same-runs xs ys (stateBehind s x p) (hdr1After t k m) (moved .numbered) (a .begun)
     (rest-items _ _ _ _ both ∙ ap (λ (r : State). undatedFrom r ys) state) us (subst (λ (r : State). All MayEnd r ys) state vs) in
     let here : OneMeaning (eventsOf s k (bytesIn x) ++ handedOut (runs (stateBehind s x p) xs)) (eventsOf t k m ++ handedOut (runs (stateBehind t y q) ys))
     = a .events _ _ (subst (λ (r : State). OneMeaning (handedOut (runs (stateBehind s x p) xs)) (handedOut (runs r ys))) (sym state) rest) in

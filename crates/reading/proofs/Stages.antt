@@ -26,8 +26,8 @@ use Rattle.label.specs.Judged.{labelFault, agreeAt, firstBad}
 use Rattle.block.specs.Cut.{Segment, units}
 use Rattle.block.specs.Turn.{blockOutcome}
 use Rattle.volume.specs.State.{State}
-use Rattle.volume.specs.Fault.{valueOf, says, lower, crossed, newFilePlace, laterPlace, fileFault, firstHeaderFault, secondHeaderFault, firstTrailerFault, openFault, fileEndFault, outcomeIn}
-use Rattle.volume.specs.Step.{Event, begins, continues, holds, segmentsOf}
+use Rattle.volume.specs.Fault.{valueOf, says, lower, crossed, newFilePlace, laterPlace, fileFault, hdr1Fault, hdr2Fault, trailer1Fault, openFault, fileEndFault, outcomeIn}
+use Rattle.volume.specs.Step.{Event, begins, resumes, holds, segmentsOf}
 use Rattle.volume.specs.Meaning.{File, joined, collect, setFrom, fieldsFrom}
 use Rattle.reading.specs.Legal.{formatFrom, recordLengthFrom, legalEntry, legalRecords, legalFile, legalFiles}
 use Rattle.reading.proofs.Assembled.{Owed, units-fair, block-owed}
@@ -39,31 +39,31 @@ use Rattle.order.proofs.Moves.{Stage, before, named, within, fileOver, reelOver
 -- the parts of a state that the meaning hangs on: all but the phase, the reel names and the block count
 pub record View : Type 0 where
   pub files : ℕ
-  pub goesOn : Bool
-  pub first : List ℕ
-  pub second : List ℕ
+  pub continues : Bool
+  pub hdr1 : List ℕ
+  pub hdr2 : List ℕ
   pub pending : ℕ
 
 abbrev pub viewOf : ℕ → Bool → List ℕ → List ℕ → ℕ → View
-viewOf n g f s q = record { files = n; goesOn = g; first = f; second = s; pending = q }
+viewOf n g f s q = record { files = n; continues = g; hdr1 = f; hdr2 = s; pending = q }
 
 abbrev pub view : State → View
-view s = viewOf (s .files) (s .goesOn) (s .first) (s .second) (s .pending)
+view s = viewOf (s .files) (s .continues) (s .hdr1) (s .hdr2) (s .pending)
 
 -- ---- the invariant, stage by stage
 
 -- before the headers: a file that goes on was begun, and where none goes on no record is open
 pub record Outside (v : View) : Type 0 where
   pub few : v .files ≤ 64
-  pub idle : v .goesOn ≡ false → v .pending ≡ 0
-  pub some : v .goesOn ≡ true → 1 ≤ v .files
+  pub idle : v .continues ≡ false → v .pending ≡ 0
+  pub some : v .continues ≡ true → 1 ≤ v .files
 
 -- behind HDR1, which has no fault: a new file is at most the 64th
 pub record Named (v : View) : Type 0 where
   pub outside : Outside v
-  pub room : v .goesOn ≡ false → v .files < 64
-  pub long : length (v .first) ≡ 80
-  pub sound : labelFault (hdr 1) (v .first) .number ≡ 0
+  pub room : v .continues ≡ false → v .files < 64
+  pub long : length (v .hdr1) ≡ 80
+  pub sound : labelFault (hdr 1) (v .hdr1) .number ≡ 0
 
 -- from HDR2 on
 pub record Within (v : View) : Type 0 where
@@ -73,13 +73,13 @@ pub record Within (v : View) : Type 0 where
 -- behind EOF1: the next HDR1 begins a file, and no record is open
 pub record FileOver (v : View) : Type 0 where
   pub within : Within v
-  pub off : v .goesOn ≡ false
+  pub off : v .continues ≡ false
   pub idle : v .pending ≡ 0
 
 -- behind EOV1: the next HDR1 goes on with the file
 pub record ReelOver (v : View) : Type 0 where
   pub within : Within v
-  pub on : v .goesOn ≡ true
+  pub on : v .continues ≡ true
 
 abbrev pub Holds : Stage → View → Type 0
 Holds before v = Outside v
@@ -109,7 +109,7 @@ isOpen reelOver g = g
 
 -- the one set identifier: that of the first file to come, where none was begun
 abbrev pub setAt : View → List Event → List ℕ
-setAt v es = ifB (eqb (v .files) 0) (setFrom es) (setOf (v .first))
+setAt v es = ifB (eqb (v .files) 0) (setFrom es) (setOf (v .hdr1))
 
 -- of all that is handed out from here on: how many files there are in all, each legal; what the open file is owed, and nothing
 -- where none is open
@@ -118,11 +118,11 @@ pub record Promise (ongoing : Bool) (v : View) (es : List Event) : Type 0 where
   pub few : v .files + length (collect es .files) ≤ 64
   pub legal : legalFiles (setAt v es) (collect es .files) ≡ true
   pub owed : ongoing ≡ true
-      → Owed (formatOf (v .second)) (valueOf (recordLengthOf (v .second))) (v .pending) (joined (collect es .segments))
+      → Owed (formatOf (v .hdr2)) (valueOf (recordLengthOf (v .hdr2))) (v .pending) (joined (collect es .segments))
   pub none : ongoing ≡ false → collect es .segments ≡ []
 
 abbrev pub Promised : Stage → View → List Event → Type 0
-Promised a v es = Promise (isOpen a (v .goesOn)) v es
+Promised a v es = Promise (isOpen a (v .continues)) v es
 
 pub crossed-none : (bp : ℕ) → crossed bp .number ≡ 0 → bp ≡ 0
 unfolding crossed fault
@@ -153,8 +153,8 @@ new-set n f l h other =
     (λ _ q. absurd (eqb-false 22 0 refl q)) h
 
 -- HDR1: the set identifier is that of the files before it
-first-set : (g : Bool) (n : ℕ) (f l : List ℕ) → firstHeaderFault g n f l .number ≡ 0 → (n ≡ 0 → ⊥) → setOf f ≡ setOf l
-unfolding firstHeaderFault
+first-set : (g : Bool) (n : ℕ) (f l : List ℕ) → hdr1Fault g n f l .number ≡ 0 → (n ≡ 0 → ⊥) → setOf f ≡ setOf l
+unfolding hdr1Fault
 first-set g n f l h other =
     if-case (λ (x : Fault). x .number ≡ 0 → setOf f ≡ setOf l) g (crossed (laterPlace f l))
     (orElse (crossed (newFilePlace n f l)) (fileFault n))
@@ -162,17 +162,17 @@ first-set g n f l h other =
     (λ _ q. new-set n f l (crossed-none (newFilePlace n f l) (or-first _ _ q)) other) h
 
 -- and a new file is at most the 64th
-first-room : (n : ℕ) (f l : List ℕ) → firstHeaderFault false n f l .number ≡ 0 → n < 64
-unfolding firstHeaderFault fileFault fault
+first-room : (n : ℕ) (f l : List ℕ) → hdr1Fault false n f l .number ≡ 0 → n < 64
+unfolding hdr1Fault fileFault fault
 first-room n f l h =
     if-case (λ (x : Fault). x .number ≡ 0 → n < 64) (leb 64 n) (fault 9 0) (fault 0 0) (λ _ q. absurd (eqb-false 9 0 refl q))
     (λ e _. leb-false 64 n e)
     (or-second (crossed (newFilePlace n f l)) (fileFault n) (ap (λ (x : Fault). x .number) (sym (if-false _ _ _ refl)) ∙ h))
 
 -- HDR2 of a later section: format, record length and offset length are those of the section before
-pub second-same : (f l : List ℕ) → secondHeaderFault true f l .number ≡ 0
+pub second-same : (f l : List ℕ) → hdr2Fault true f l .number ≡ 0
     → (formatOf f ≡ formatOf l) × (recordLengthOf f ≡ recordLengthOf l) × (offsetOf f ≡ offsetOf l)
-unfolding secondHeaderFault formatOf recordLengthOf offsetOf agreeAt ifB
+unfolding hdr2Fault formatOf recordLengthOf offsetOf agreeAt ifB
 second-same f l h = (
   byte-part 4 f ∙ ap (λ (x : List ℕ). getD x 0 0) (same-true (part 4 1 f) (part 4 1 l) (rows formatRow refl))
       ∙ sym (byte-part 4 l),
@@ -189,24 +189,24 @@ unfolding fileEndFault openFault fault
 end-idle f c q l h =
     if-case (λ (x : Fault). x .number ≡ 0 → q ≡ 0) (eqb q 0) (fault 0 0) (fault 8 0) (λ e _. eqb-true q 0 e)
     (λ _ k. absurd (eqb-false 8 0 refl k))
-    (or-second (firstTrailerFault f c l) (openFault q) h)
+    (or-second (trailer1Fault f c l) (openFault q) h)
 
 -- ---- one item: the invariant behind it, and the promise before it
 
 -- HDR1
 pub first-holds : (n : ℕ) (g : Bool) (f s : List ℕ) (q : ℕ) (l : List ℕ) → Outside (viewOf n g f s q) → length l ≡ 80
     → labelFault (hdr 1) l .number ≡ 0
-    → firstHeaderFault g n f l .number ≡ 0 → Named (viewOf n g l s q)
+    → hdr1Fault g n f l .number ≡ 0 → Named (viewOf n g l s q)
 first-holds n g f s q l h long sound e =
     record {
       outside = record { few = h .few; idle = h .idle; some = h .some };
-      room = λ off. first-room n f l (subst (λ (b : Bool). firstHeaderFault b n f l .number ≡ 0) off e);
+      room = λ off. first-room n f l (subst (λ (b : Bool). hdr1Fault b n f l .number ≡ 0) off e);
       long = long;
       sound = sound;
     }
 
 pub first-promise : (n : ℕ) (g : Bool) (f s : List ℕ) (q : ℕ) (l : List ℕ) (es : List Event)
-    → firstHeaderFault g n f l .number ≡ 0
+    → hdr1Fault g n f l .number ≡ 0
     → Promise g (viewOf n g l s q) es → Promise g (viewOf n g f s q) es
 unfolding ifB
 first-promise n g f s q l es e h =
@@ -231,8 +231,8 @@ second-holds n g f s q l h =
       few = if-case (λ (m : ℕ). m ≤ 64) g n (n + 1) (λ _. h .outside .few) (λ off. let room : n < 64 = h .room off in omega arith);
     }
 
-again-promise : (n : ℕ) (f s : List ℕ) (q : ℕ) (l : List ℕ) (es : List Event) → secondHeaderFault true s l .number ≡ 0
-    → Promise true (viewOf n true f l q) es → Promise true (viewOf n true f s q) (continues f l ∷ es)
+again-promise : (n : ℕ) (f s : List ℕ) (q : ℕ) (l : List ℕ) (es : List Event) → hdr2Fault true s l .number ≡ 0
+    → Promise true (viewOf n true f l q) es → Promise true (viewOf n true f s q) (resumes f l ∷ es)
 unfolding collect setFrom
 again-promise n f s q l es e h =
     record {
@@ -294,8 +294,8 @@ begun-promise n f s q l es start long sound h =
 
 pub second-promise : (g : Bool) (n : ℕ) (f s : List ℕ) (q : ℕ) (l : List ℕ) (es : List Event) → Named (viewOf n g f s q)
     → length l ≡ 80
-    → labelFault (hdr 2) l .number ≡ 0 → secondHeaderFault g s l .number ≡ 0
-    → Promise true (viewOf (ifB g n (n + 1)) g f l q) es → Promise g (viewOf n g f s q) (ifB g (continues f l) (begins f l) ∷ es)
+    → labelFault (hdr 2) l .number ≡ 0 → hdr2Fault g s l .number ≡ 0
+    → Promise true (viewOf (ifB g n (n + 1)) g f l q) es → Promise g (viewOf n g f s q) (ifB g (resumes f l) (begins f l) ∷ es)
 unfolding ifB
 second-promise true n f s q l es start long sound e h = again-promise n f s q l es e h
 second-promise false n f s q l es start long sound e h = begun-promise n f s q l es start long sound h
@@ -340,7 +340,7 @@ pub reel-promise : (n : ℕ) (g : Bool) (f s : List ℕ) (q : ℕ) (es : List Ev
 reel-promise n g f s q es h = record { some = h .some; few = h .few; legal = h .legal; owed = h .owed; none = h .none }
 
 -- the end of the image
-pub none-promise : (v : View) → FileOver v → Promise (v .goesOn) v []
+pub none-promise : (v : View) → FileOver v → Promise (v .continues) v []
 unfolding collect legalFiles
 none-promise v h =
     record {

@@ -25,7 +25,7 @@ use Rattle.block.specs.declared.Outcome.{Outcome}
 use Rattle.volume.specs.declared.Reading.{Reading}
 use Rattle.volume.specs.State.{State}
 use Rattle.volume.specs.Fault.{outcomeIn, volumeFault, contextFault, itemFault}
-use Rattle.volume.specs.Step.{stateAfter, namesAfter, filesAfter, goesOnAfter, firstAfter, secondAfter, countAfter, pendingAfter}
+use Rattle.volume.specs.Step.{stateAfter, volumesAfter, filesAfter, continuesAfter, hdr1After, hdr2After, countAfter, pendingAfter}
 use Rattle.volume.specs.code.Place.{labelAt, namesAt, contents}
 use Rattle.volume.specs.code.Walk.{LabelSized, ReadingBehind}
 use Rattle.volume.proofs.Faults.{length-names}
@@ -62,49 +62,49 @@ names-kept s names start len false z = refl
 
 -- what the code makes of each field stands for the state behind the item
 pub contents-after : (s : List ℕ) (st : Reading) (p : Phase) (k : Kind) (start len files first second count pending : ℕ)
-    (ongoing : Bool) (names : List ℕ)
+    (continues : Bool) (names : List ℕ)
     → LabelSized k len
-    → files ≡ ifB (isKind k (hdr 2)) (ifB (st .ongoing) (st .files) (st .files + 1)) (st .files)
-    → ongoing ≡ ifB (isKind k (eov 1)) true (ifB (isKind k (eof 1)) false (st .ongoing))
-    → first ≡ ifB (isKind k (hdr 1)) start (st .first)
-    → second ≡ ifB (isKind k (hdr 2)) start (st .second)
+    → files ≡ ifB (isKind k (hdr 2)) (ifB (st .continues) (st .files) (st .files + 1)) (st .files)
+    → continues ≡ ifB (isKind k (eov 1)) true (ifB (isKind k (eof 1)) false (st .continues))
+    → first ≡ ifB (isKind k (hdr 1)) start (st .hdr1)
+    → second ≡ ifB (isKind k (hdr 2)) start (st .hdr2)
     → count ≡ ifB (isKind k dataBlock) (st .count + 1) (ifB (isKind k (hdr 1)) 0 (st .count))
-    → pending ≡ ifB (isKind k dataBlock) (outcomeIn (labelAt s (st .second)) (st .pending) (part start len s) .pending)
+    → pending ≡ ifB (isKind k dataBlock) (outcomeIn (labelAt s (st .hdr2)) (st .pending) (part start len s) .pending)
     (st .pending)
     → contents s (ifB (isKind k (vol 1)) (names ++ (start ∷ [])) names)
-    (record { first = first; second = second; count = count; pending = pending; files = files; phase = p; ongoing = ongoing })
+    (record { hdr1 = first; hdr2 = second; count = count; pending = pending; files = files; phase = p; continues = continues })
     ≡ stateAfter (contents s names st) p k (part start len s)
-unfolding contents stateAfter namesAfter filesAfter goesOnAfter firstAfter secondAfter countAfter pendingAfter
-contents-after s st p k start len files first second count pending ongoing names z ef eo e1 e2 ec ep =
+unfolding contents stateAfter volumesAfter filesAfter continuesAfter hdr1After hdr2After countAfter pendingAfter
+contents-after s st p k start len files first second count pending continues names z ef eo e1 e2 ec ep =
     let a : namesAt s (ifB (isKind k (vol 1)) (names ++ (start ∷ [])) names) ≡ ifB (isKind k (vol 1)) (namesAt s names ++ (volumeOf (part start len s) ∷ [])) (namesAt s names)
     = names-kept s names start len (isKind k (vol 1)) (z .volume) in
-    let b : labelAt s first ≡ ifB (isKind k (hdr 1)) (part start len s) (labelAt s (st .first))
-    = ap (labelAt s) e1 ∙ label-after s (isKind k (hdr 1)) start len (st .first) (z .first) in
-    let d : labelAt s second ≡ ifB (isKind k (hdr 2)) (part start len s) (labelAt s (st .second))
-    = ap (labelAt s) e2 ∙ label-after s (isKind k (hdr 2)) start len (st .second) (z .second) in
-    λ i. record { phase = p; names = a i; files = ef i; goesOn = eo i; first = b i; second = d i; count = ec i; pending = ep i }
+    let b : labelAt s first ≡ ifB (isKind k (hdr 1)) (part start len s) (labelAt s (st .hdr1))
+    = ap (labelAt s) e1 ∙ label-after s (isKind k (hdr 1)) start len (st .hdr1) (z .hdr1) in
+    let d : labelAt s second ≡ ifB (isKind k (hdr 2)) (part start len s) (labelAt s (st .hdr2))
+    = ap (labelAt s) e2 ∙ label-after s (isKind k (hdr 2)) start len (st .hdr2) (z .hdr2) in
+    λ i. record { phase = p; volumes = a i; files = ef i; continues = eo i; hdr1 = b i; hdr2 = d i; count = ec i; pending = ep i }
 
 -- what is chosen of two numbers is at most what both are at most
 if-most : (t : Bool) (a b m x : ℕ) → a ≤ m → b ≤ m → x ≡ ifB t a b → x ≤ m
 if-most t a b m x p q e = subst (λ (y : ℕ). y ≤ m) (sym e) (if-case (λ (y : ℕ). y ≤ m) t a b (λ _. p) (λ _. q))
 
 pub behind-made : (s : List ℕ) (st : Reading) (p : Phase) (k : Kind) (start len files first second count pending : ℕ)
-    (ongoing : Bool)
+    (continues : Bool)
     → LabelSized k len
-    → files ≡ ifB (isKind k (hdr 2)) (ifB (st .ongoing) (st .files) (st .files + 1)) (st .files)
-    → ongoing ≡ ifB (isKind k (eov 1)) true (ifB (isKind k (eof 1)) false (st .ongoing))
-    → first ≡ ifB (isKind k (hdr 1)) start (st .first)
-    → second ≡ ifB (isKind k (hdr 2)) start (st .second)
+    → files ≡ ifB (isKind k (hdr 2)) (ifB (st .continues) (st .files) (st .files + 1)) (st .files)
+    → continues ≡ ifB (isKind k (eov 1)) true (ifB (isKind k (eof 1)) false (st .continues))
+    → first ≡ ifB (isKind k (hdr 1)) start (st .hdr1)
+    → second ≡ ifB (isKind k (hdr 2)) start (st .hdr2)
     → count ≡ ifB (isKind k dataBlock) (st .count + 1) (ifB (isKind k (hdr 1)) 0 (st .count))
-    → pending ≡ ifB (isKind k dataBlock) (outcomeIn (labelAt s (st .second)) (st .pending) (part start len s) .pending)
+    → pending ≡ ifB (isKind k dataBlock) (outcomeIn (labelAt s (st .hdr2)) (st .pending) (part start len s) .pending)
     (st .pending)
     → ReadingBehind s st p k start len
-    (record { first = first; second = second; count = count; pending = pending; files = files; phase = p; ongoing = ongoing })
-behind-made s st p k start len files first second count pending ongoing z ef eo e1 e2 ec ep =
+    (record { hdr1 = first; hdr2 = second; count = count; pending = pending; files = files; phase = p; continues = continues })
+behind-made s st p k start len files first second count pending continues z ef eo e1 e2 ec ep =
     record {
-      same = λ names. contents-after s st p k start len files first second count pending ongoing names z ef eo e1 e2 ec ep;
+      same = λ names. contents-after s st p k start len files first second count pending continues names z ef eo e1 e2 ec ep;
       files =
-          if-most _ _ _ _ _ (if-case (λ (y : ℕ). y ≤ st .files + 1) (st .ongoing) _ _ (λ _. omega arith) (λ _. omega arith))
+          if-most _ _ _ _ _ (if-case (λ (y : ℕ). y ≤ st .files + 1) (st .continues) _ _ (λ _. omega arith) (λ _. omega arith))
           (omega arith) ef;
       blocks =
           if-most _ _ _ _ _ (omega arith)

@@ -32,21 +32,21 @@ use Rattle.volume.specs.declared.blocks.Lengths.{Lengths}
 use Rattle.volume.specs.declared.blocks.Between.{Between}
 use Rattle.volume.specs.State.{State}
 use Rattle.volume.specs.Fault.{valueOf, outcomeIn, blockFault, contextFault, itemFault}
-use Rattle.volume.specs.Step.{Event, Next, go, step, ordered, judged, kindIn, bytesIn, isDue, stateAfter, eventsOf, namesAfter, filesAfter, goesOnAfter, firstAfter, secondAfter, countAfter, pendingAfter}
+use Rattle.volume.specs.Step.{Event, Next, go, step, ordered, judged, kindIn, bytesIn, isDue, stateAfter, eventsOf, volumesAfter, filesAfter, continuesAfter, hdr1After, hdr2After, countAfter, pendingAfter}
 use Rattle.volume.specs.code.Told.{toldFrom}
 use Rattle.volume.specs.code.Body.{body, Given, PlaceInside, toldBetween, Skipped, between}
 use Rattle.volume.proofs.Runs.{told-go}
 
 -- a data block has the fault of its units and turns, and no other
-pub data-fault : (s : State) (l : List ℕ) → itemFault s dataBlock l ≡ blockFault (s .second) (s .pending) l
+pub data-fault : (s : State) (l : List ℕ) → itemFault s dataBlock l ≡ blockFault (s .hdr2) (s .pending) l
 unfolding itemFault orElse labelFault fieldFault fieldsOf firstBad accessOf accessAt contextFault isKind ifB fault
 data-fault s l = refl
 
 -- one that has none is counted, and what is pending behind it kept
-pub step-block : (t : State) (count pending : ℕ) (l : List ℕ) → outcomeIn (t .second) pending l .number ≡ 0
+pub step-block : (t : State) (count pending : ℕ) (l : List ℕ) → outcomeIn (t .hdr2) pending l .number ≡ 0
     → step (body t count pending) (block l)
-    ≡ go (body t (count + 1) (outcomeIn (t .second) pending l .pending)) (eventsOf (body t count pending) dataBlock l)
-unfolding step kindIn bytesIn isDue dueAfter dues choose isKind ifB ordered judged stateAfter namesAfter filesAfter goesOnAfter firstAfter secondAfter countAfter pendingAfter blockFault fault
+    ≡ go (body t (count + 1) (outcomeIn (t .hdr2) pending l .pending)) (eventsOf (body t count pending) dataBlock l)
+unfolding step kindIn bytesIn isDue dueAfter dues choose isKind ifB ordered judged stateAfter volumesAfter filesAfter continuesAfter hdr1After hdr2After countAfter pendingAfter blockFault fault
 step-block t count pending l h =
     if-true _ _ _ (eq-eqb _ 0 (ap (λ f. f .number) (data-fault (body t count pending) l) ∙ h))
 
@@ -90,11 +90,11 @@ skip-block s h a at item count pending n o k e f q z =
       same = λ t g.
           k .same t g
           ∙ ap (toldFrom item (body t count pending)) (decode-block s at n _ (omega arith) refl (b .is))
-          ∙ told-go item (body t count pending) (body t (count + 1) (outcomeIn (t .second) pending l .pending)) (block l)
+          ∙ told-go item (body t count pending) (body t (count + 1) (outcomeIn (t .hdr2) pending l .pending)) (block l)
           (decode (drop (at + 3 + n) s)) _
-          (step-block t count pending l (ap (λ x. x .number) (sym (made ∙ outcome-given h (t .second) pending l g)) ∙ z))
+          (step-block t count pending l (ap (λ x. x .number) (sym (made ∙ outcome-given h (t .hdr2) pending l g)) ∙ z))
           ∙ ap (λ (x : Outcome). toldFrom (item + 1) (body t (count + 1) (x .pending)) (decode (drop (at + 3 + n) s)))
-          (sym (made ∙ outcome-given h (t .second) pending l g));
+          (sym (made ∙ outcome-given h (t .hdr2) pending l g));
       onward = omega (arith, k .onward);
       passed = omega (arith, k .passed);
       inside = record { short = i .short; within = w; items = omega (arith, i .items); blocks = omega (arith, i .blocks) };

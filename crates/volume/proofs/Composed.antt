@@ -67,15 +67,15 @@ pub item-is : (r a b : Fault) (image places first second : List ℕ) (st : Readi
     → a ≡ labelFault k l
     → b ≡ contextFault (record {
       phase = st .phase;
-      names = namesAt image places;
+      volumes = namesAt image places;
       files = st .files;
-      goesOn = st .ongoing;
-      first = first;
-      second = second;
+      continues = st .continues;
+      hdr1 = first;
+      hdr2 = second;
       count = st .count;
       pending = st .pending;
     }) k l
-    → first ≡ labelAt image (st .first) → second ≡ labelAt image (st .second) → r ≡ itemFault (contents image places st) k l
+    → first ≡ labelAt image (st .hdr1) → second ≡ labelAt image (st .hdr2) → r ≡ itemFault (contents image places st) k l
 unfolding itemFault contents
 item-is r a b image places first second st k l e f g h i = cc
 

@@ -23,7 +23,7 @@ use Rattle.block.specs.Cut.{Segment, units}
 use Rattle.block.specs.Turn.{outcome, turned, blockOutcome}
 use Rattle.volume.specs.State.{State}
 use Rattle.volume.specs.Fault.{valueOf, outcomeIn, blockFault, contextFault, itemFault}
-use Rattle.volume.specs.Step.{Event, begins, continues, holds, kindIn, bytesIn, segmentsOf, segmentsIn, secondAfter, stateAfter, eventsOf}
+use Rattle.volume.specs.Step.{Event, begins, resumes, holds, kindIn, bytesIn, segmentsOf, segmentsIn, hdr2After, stateAfter, eventsOf}
 use Rattle.volume.specs.Run.{Run, ended, stopped, further, runs}
 use Rattle.volume.specs.Meaning.{joined, Collected, fieldsFrom, collect, setFrom, handedOut}
 use Rattle.volume.specs.Accepted.{Faultless, All, MayEnd, stateBehind}
@@ -72,7 +72,7 @@ meaning-behind (begins f s) es fs h =
           }) (h .collected);
       set = refl;
     }
-meaning-behind (continues f s) es fs h = record { collected = h .collected; set = h .set }
+meaning-behind (resumes f s) es fs h = record { collected = h .collected; set = h .set }
 meaning-behind (holds l xs) es fs h =
     record {
       collected = ap (λ (c : Collected). record { segments = xs ++ c .segments; files = c .files })
@@ -82,7 +82,7 @@ meaning-behind (holds l xs) es fs h =
 
 -- and stateBehind a later section of a file, whatever its HDR1 and HDR2
 pub meaning-continued : (f s g t : List ℕ) (es fs : List Event) → OneMeaning es fs
-    → OneMeaning (continues f s ∷ es) (continues g t ∷ fs)
+    → OneMeaning (resumes f s ∷ es) (resumes g t ∷ fs)
 unfolding collect setFrom
 meaning-continued f s g t es fs h = record { collected = h .collected; set = h .set }
 
@@ -92,7 +92,7 @@ meaning-continued f s g t es fs h = record { collected = h .collected; set = h .
 unfoldable pub begun : List Event → ℕ
 begun [] = 0
 begun (begins f s ∷ es) = suc (begun es)
-begun (continues f s ∷ es) = begun es
+begun (resumes f s ∷ es) = begun es
 begun (holds l xs ∷ es) = begun es
 
 -- The meaning has a file for each that begins, and no other.
@@ -100,7 +100,7 @@ pub files-begun : (es : List Event) → length (collect es .files) ≡ begun es
 unfolding collect begun
 files-begun [] = refl
 files-begun (begins f s ∷ es) = ap suc (files-begun es)
-files-begun (continues f s ∷ es) = files-begun es
+files-begun (resumes f s ∷ es) = files-begun es
 files-begun (holds l xs ∷ es) = files-begun es
 
 -- ---- segments and bytes
@@ -113,7 +113,7 @@ unitsBy h l = units (formatOf h) (valueOf (blockLengthOf h)) (valueOf (recordLen
 abbrev pub Cuts : List ℕ → List Event → Type 0
 Cuts h [] = Unit {0}
 Cuts h (begins f s ∷ es) = Cuts s es
-Cuts h (continues f s ∷ es) = Cuts s es
+Cuts h (resumes f s ∷ es) = Cuts s es
 Cuts h (holds l xs ∷ es) = (unitsBy h l ≡ some xs) × Cuts h es
 
 turned-some : (r q : ℕ) (c : Option (List Segment)) → turned r q true c .number ≡ 0 → c ≡ some (segmentsOf c)
@@ -122,34 +122,34 @@ turned-some r q none h = absurd (eqb-false 7 0 refl h)
 turned-some r q (some xs) h = refl
 
 block-cuts : (t : State) (k : Kind) (l : List ℕ) → itemFault t k l .number ≡ 0 → isKind k dataBlock ≡ true
-    → unitsBy (t .second) l ≡ some (segmentsIn t l)
+    → unitsBy (t .hdr2) l ≡ some (segmentsIn t l)
 unfolding itemFault contextFault blockFault outcomeIn blockOutcome segmentsIn fault
 block-cuts t k l h e =
-    turned-some (valueOf (recordLengthOf (t .second))) (t .pending) (unitsBy (t .second) l)
+    turned-some (valueOf (recordLengthOf (t .hdr2))) (t .pending) (unitsBy (t .hdr2) l)
     (ap (λ (f : Fault). f .number) (sym (if-true (isKind k dataBlock) _ _ e)) ∙ or-second (labelFault k l) (contextFault t k l) h)
 
 no-header : (k : Kind) → isKind k dataBlock ≡ true → isKind k (hdr 2) ≡ false
 unfolding isKind
 no-header k h = ap (λ (j : Kind). isKind j (hdr 2)) (kind-is k dataBlock h)
 
-cuts-step : (t : State) (k : Kind) (l : List ℕ) (es : List Event) → itemFault t k l .number ≡ 0 → Cuts (secondAfter t k l) es
-    → Cuts (t .second) (eventsOf t k l ++ es)
-unfolding secondAfter eventsOf ifB
-cuts-step t k l es h = by-kind (isKind k dataBlock) (isKind k (hdr 2)) (t .goesOn) (block-cuts t k l h) (no-header k)
+cuts-step : (t : State) (k : Kind) (l : List ℕ) (es : List Event) → itemFault t k l .number ≡ 0 → Cuts (hdr2After t k l) es
+    → Cuts (t .hdr2) (eventsOf t k l ++ es)
+unfolding hdr2After eventsOf ifB
+cuts-step t k l es h = by-kind (isKind k dataBlock) (isKind k (hdr 2)) (t .continues) (block-cuts t k l h) (no-header k)
   where
-    by-kind : (a b g : Bool) → (a ≡ true → unitsBy (t .second) l ≡ some (segmentsIn t l)) → (a ≡ true → b ≡ false)
-        → Cuts (ifB b l (t .second)) es
-        → Cuts (t .second) (ifB a (holds l (segmentsIn t l) ∷ [])
-        (ifB b (ifB g (continues (t .first) l) (begins (t .first) l) ∷ []) []) ++ es)
-    by-kind true b g e n c = (e refl, subst (λ (x : Bool). Cuts (ifB x l (t .second)) es) (n refl) c)
+    by-kind : (a b g : Bool) → (a ≡ true → unitsBy (t .hdr2) l ≡ some (segmentsIn t l)) → (a ≡ true → b ≡ false)
+        → Cuts (ifB b l (t .hdr2)) es
+        → Cuts (t .hdr2) (ifB a (holds l (segmentsIn t l) ∷ [])
+        (ifB b (ifB g (resumes (t .hdr1) l) (begins (t .hdr1) l) ∷ []) []) ++ es)
+    by-kind true b g e n c = (e refl, subst (λ (x : Bool). Cuts (ifB x l (t .hdr2)) es) (n refl) c)
     by-kind false true true e n c = c
     by-kind false true false e n c = c
     by-kind false false g e n c = c
 
 -- From any state on, the segments of each block that is handed out are the units of its bytes.
-pub handed-cuts : (xs : List Item) (t : State) → All MayEnd t xs → Cuts (t .second) (handedOut (runs t xs))
+pub handed-cuts : (xs : List Item) (t : State) → All MayEnd t xs → Cuts (t .hdr2) (handedOut (runs t xs))
 unfolding stateAfter
-handed-cuts [] t h = subst (Cuts (t .second)) (sym (handed-none t h)) tt
+handed-cuts [] t h = subst (Cuts (t .hdr2)) (sym (handed-none t h)) tt
 handed-cuts (x ∷ xs) t (p, f, all) =
-    subst (Cuts (t .second)) (sym (handed-more t x xs p f all))
+    subst (Cuts (t .hdr2)) (sym (handed-more t x xs p f all))
     (cuts-step t (kindIn (t .phase) x) (bytesIn x) _ (f .sound) (handed-cuts xs (stateBehind t x p) all))

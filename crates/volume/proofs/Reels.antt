@@ -32,7 +32,7 @@ use Rattle.label.specs.Judged.{labelFault}
 use Rattle.label.proofs.Families.{kind-other}
 use Rattle.volume.specs.State.{State, start}
 use Rattle.volume.specs.Fault.{volumeFault, contextFault, itemFault}
-use Rattle.volume.specs.Step.{Next, kindIn, bytesIn, isDue, stateAfter, namesAfter}
+use Rattle.volume.specs.Step.{Next, kindIn, bytesIn, isDue, stateAfter, volumesAfter}
 use Rattle.volume.specs.code.Told.{isInside, endedIn, closedIn, framedIn, framedOr, toldNext, toldFrom}
 use Rattle.volume.specs.Run.{runs, next, answerOf}
 use Rattle.volume.specs.Accepted.{Faultless, stateBehind}
@@ -231,11 +231,11 @@ block-other p l f n h =
     (λ _. and-left _ _ (ne-eqb 8 f (λ e. omega arith))) (λ _. kind-other l f n (omega arith))
 
 -- a VOL1 without fault is at most the sixteenth
-volume-few : (s : State) (l : List ℕ) → itemFault s (vol 1) l .number ≡ 0 → length (s .names) < mostReels
+volume-few : (s : State) (l : List ℕ) → itemFault s (vol 1) l .number ≡ 0 → length (s .volumes) < mostReels
 unfolding itemFault contextFault isKind ifB volumeFault fault
 volume-few s l h =
-    if-case (λ (f : Fault). f .number ≡ 0 → length (s .names) < mostReels) (leb mostReels (length (s .names))) (fault 2 0) _
-    (λ _ q. absurd (eqb-false 2 0 refl q)) (λ e _. leb-false mostReels (length (s .names)) e)
+    if-case (λ (f : Fault). f .number ≡ 0 → length (s .volumes) < mostReels) (leb mostReels (length (s .volumes))) (fault 2 0) _
+    (λ _ q. absurd (eqb-false 2 0 refl q)) (λ e _. leb-false mostReels (length (s .volumes)) e)
     (or-second (labelFault (vol 1) l) (contextFault s (vol 1) l) h)
 
 -- ---- reels begun and reels ended
@@ -301,28 +301,28 @@ passed-on p q m false h from outside few to known =
     }
 
 length-names : (s : State) (k : Kind) (l : List ℕ)
-    → ifB (isKind k (vol 1)) (length (s .names) + 1) (length (s .names)) ≡ length (namesAfter s k l)
-unfolding namesAfter
+    → ifB (isKind k (vol 1)) (length (s .volumes) + 1) (length (s .volumes)) ≡ length (volumesAfter s k l)
+unfolding volumesAfter
 length-names s k l =
-    sym (ap-if length (isKind k (vol 1)) (s .names ++ (volumeOf l ∷ [])) (s .names)
-    ∙ ap (λ (n : ℕ). ifB (isKind k (vol 1)) n (length (s .names))) (length-append (s .names) (volumeOf l ∷ [])))
+    sym (ap-if length (isKind k (vol 1)) (s .volumes ++ (volumeOf l ∷ [])) (s .volumes)
+    ∙ ap (λ (n : ℕ). ifB (isKind k (vol 1)) n (length (s .volumes))) (length-append (s .volumes) (volumeOf l ∷ [])))
 
 -- ---- one item
 
 -- from item x on the framing is that from the next one on, in the state stateBehind it
 record Onward (n : ℕ) (s : State) (x : Item) (xs : List Item) (t : State) : Type 0 where
   pub framed : framedIn n s (x ∷ xs) ≡ framedIn (n + 1) t xs
-  pub next : Reels (t .phase) (length (t .names))
+  pub next : Reels (t .phase) (length (t .volumes))
 
 -- one of a kind that ends neither a reel nor the image
-item-on : (s : State) (k : Kind) (l : List ℕ) (q : Phase) → Reels (s .phase) (length (s .names)) → isKind k endOfReel ≡ false
+item-on : (s : State) (k : Kind) (l : List ℕ) (q : Phase) → Reels (s .phase) (length (s .volumes)) → isKind k endOfReel ≡ false
     → isKind k endOfImage ≡ false
     → dueAfter (s .phase) k ≡ To q → itemFault s k l .number ≡ 0
-    → Passed (s .phase) q (length (s .names)) (length (namesAfter s k l))
+    → Passed (s .phase) q (length (s .volumes)) (length (volumesAfter s k l))
 item-on s k l q h e i d z =
     let inside : Inside (s .phase) k q = item-inside (s .phase) k q e i d in
-    subst (Passed (s .phase) q (length (s .names))) (length-names s k l)
-    (passed-on (s .phase) q (length (s .names)) (isKind k (vol 1)) h (inside .from) (outside-volume (s .phase) k q d)
+    subst (Passed (s .phase) q (length (s .volumes))) (length-names s k l)
+    (passed-on (s .phase) q (length (s .volumes)) (isKind k (vol 1)) h (inside .from) (outside-volume (s .phase) k q d)
     (λ v. volume-few s l (subst (λ (j : Kind). itemFault s j l .number ≡ 0) (kind-is k (vol 1) v) z)) (inside .to)
     (reached (s .phase) k q d))
 
@@ -331,20 +331,20 @@ passed-framed : (n : ℕ) (xs : List Item) (p q : Phase) (m o : ℕ) → Passed 
     → framedFrom n (endedIn p m) false xs ≡ framedFrom n (endedIn q o) (closedIn q o) xs
 passed-framed n xs p q m o on = ap₂ (λ (r : ℕ) (c : Bool). framedFrom n r c xs) (on .ended) (sym (on .still))
 
-onward : (n : ℕ) (s : State) (x : Item) (xs : List Item) (p : Phase) → Reels (s .phase) (length (s .names)) → Faultless s x p
+onward : (n : ℕ) (s : State) (x : Item) (xs : List Item) (p : Phase) → Reels (s .phase) (length (s .volumes)) → Faultless s x p
     → Onward n s x xs (stateBehind s x p)
-unfolding framedIn kindIn bytesIn stateAfter isKind namesAfter ifB
+unfolding framedIn kindIn bytesIn stateAfter isKind volumesAfter ifB
 onward n s (block l) xs p h f =
     let k : Kind = kindIn (s .phase) (block l) in
-    let on : Passed (s .phase) p (length (s .names)) (length (namesAfter s k l))
+    let on : Passed (s .phase) p (length (s .volumes)) (length (volumesAfter s k l))
     = item-on s k l p h (block-other (s .phase) l 10 0 (omega arith)) (block-other (s .phase) l 11 0 (omega arith)) (f .due) (f .sound) in
     record { framed = framed-block n _ _ l xs (on .room) ∙ passed-framed (n + 1) xs _ _ _ _ on; next = on .next }
 onward n s mark xs p h f =
-    let on : Passed (s .phase) p (length (s .names)) (length (s .names)) = item-on s tapeMark [] p h refl refl (f .due) (f .sound) in
+    let on : Passed (s .phase) p (length (s .volumes)) (length (s .volumes)) = item-on s tapeMark [] p h refl refl (f .due) (f .sound) in
     record { framed = framed-mark n _ _ xs (on .room) ∙ passed-framed (n + 1) xs _ _ _ _ on; next = on .next }
 onward n s reelEnd xs p h f =
     let left : Left (s .phase) p = reel-left (s .phase) p (f .due) in
-    let m : ℕ = length (s .names) in
+    let m : ℕ = length (s .volumes) in
     let one : 1 ≤ m = h .begun (left .from) in
     let before : endedIn (s .phase) m ≡ m - 1 = ended-inside (s .phase) m (inside (s .phase) (h .reached) (left .from)) in
     let after : endedIn p m ≡ m = ended-outside p m (left .to) in
@@ -359,15 +359,15 @@ onward n s broken xs p h f = absurd (broken-undue (s .phase) p (f .due))
 
 -- ---- all items
 
-told-end : (n : ℕ) (s : State) → Reels (s .phase) (length (s .names)) → isDue (dueAfter (s .phase) endOfImage) ≡ true
+told-end : (n : ℕ) (s : State) → Reels (s .phase) (length (s .volumes)) → isDue (dueAfter (s .phase) endOfImage) ≡ true
     → verdict 0 0 0 ≡ framedOr n s [] (answerOf n (runs s []))
 unfolding framedOr framedIn framedFrom verdict
 told-end n s h e =
     let good : framedIn n s [] ≡ verdict 0 0 0
-    = if-true _ _ _ (closed-outside (s .phase) (length (s .names)) (outside-over (s .phase) e) (h .shut (end-over (s .phase) e))) in
+    = if-true _ _ _ (closed-outside (s .phase) (length (s .volumes)) (outside-over (s .phase) e) (h .shut (end-over (s .phase) e))) in
     sym (if-true _ _ _ (eq-eqb (framedIn n s [] .number) 0 (ap (λ (v : Verdict). v .number) good)) ∙ answer-end n s e)
 
-told-all : (n : ℕ) (s : State) (xs : List Item) → Reels (s .phase) (length (s .names))
+told-all : (n : ℕ) (s : State) (xs : List Item) → Reels (s .phase) (length (s .volumes))
     → toldFrom n s xs ≡ framedOr n s xs (answerOf n (runs s xs))
 unfolding toldFrom toldNext runs next answerOf framedOr
 told-all n s [] h =

@@ -27,7 +27,7 @@ use Rattle.block.specs.Cut.{Segment}
 use Rattle.block.specs.Turn.{outcome, isTurn, openAfter, turnsFrom, turned, blockOutcome}
 use Rattle.block.specs.declared.Outcome.{Outcome}
 use Rattle.volume.specs.State.{State}
-use Rattle.volume.specs.Fault.{crossed, volumeFault, newFilePlace, fileFault, mostFiles, firstHeaderFault, secondHeaderFault, firstTrailerFault, openFault, fileEndFault, secondTrailerFault, outcomeIn, blockFault, contextFault, itemFault}
+use Rattle.volume.specs.Fault.{crossed, volumeFault, newFilePlace, fileFault, mostFiles, hdr1Fault, hdr2Fault, trailer1Fault, openFault, fileEndFault, trailer2Fault, outcomeIn, blockFault, contextFault, itemFault}
 use Rattle.volume.specs.Step.{Next, go, no, step, judged, ordered, kindIn, bytesIn}
 use Rattle.volume.specs.Run.{imageVerdict}
 use Rattle.volume.specs.Accepted.{All, Refused, mayStand, isReelEnd, Unframed, FirstFault, overLong, noImage, unframed, wrong, Placed}
@@ -128,18 +128,18 @@ sound-file : (files : ℕ) → Sound (fileFault files)
 unfolding fileFault
 sound-file files = if-case Sound (leb mostFiles files) _ _ (λ _. bare 9 (λ l h. omega arith) (omega arith)) (λ _. none-wrong)
 
-sound-header : (goesOn : Bool) (files : ℕ) (first l : List ℕ) → Sound (firstHeaderFault goesOn files first l)
-unfolding firstHeaderFault
-sound-header goesOn files first l =
-    if-case Sound goesOn _ _ (λ _. sound-crossed _)
+sound-header : (continues : Bool) (files : ℕ) (first l : List ℕ) → Sound (hdr1Fault continues files first l)
+unfolding hdr1Fault
+sound-header continues files first l =
+    if-case Sound continues _ _ (λ _. sound-crossed _)
     (λ _. sound-or (crossed (newFilePlace files first l)) (fileFault files) (sound-crossed _) (sound-file files))
 
-sound-second : (goesOn : Bool) (second l : List ℕ) → Sound (secondHeaderFault goesOn second l)
-unfolding secondHeaderFault
-sound-second goesOn second l = if-case Sound goesOn _ _ (λ _. sound-crossed _) (λ _. none-wrong)
+sound-second : (continues : Bool) (second l : List ℕ) → Sound (hdr2Fault continues second l)
+unfolding hdr2Fault
+sound-second continues second l = if-case Sound continues _ _ (λ _. sound-crossed _) (λ _. none-wrong)
 
-sound-trailer : (first : List ℕ) (count : ℕ) (l : List ℕ) → Sound (firstTrailerFault first count l)
-unfolding firstTrailerFault
+sound-trailer : (first : List ℕ) (count : ℕ) (l : List ℕ) → Sound (trailer1Fault first count l)
+unfolding trailer1Fault
 sound-trailer first count l = sound-crossed _
 
 sound-open : (pending : ℕ) → Sound (openFault pending)
@@ -149,7 +149,7 @@ sound-open pending = if-case Sound (eqb pending 0) _ _ (λ _. none-wrong) (λ _.
 sound-end : (first : List ℕ) (count pending : ℕ) (l : List ℕ) → Sound (fileEndFault first count pending l)
 unfolding fileEndFault
 sound-end first count pending l =
-    sound-or (firstTrailerFault first count l) (openFault pending) (sound-trailer first count l) (sound-open pending)
+    sound-or (trailer1Fault first count l) (openFault pending) (sound-trailer first count l) (sound-open pending)
 
 -- 7, 8 or none
 abbrev Cuts : Outcome → Type 0
@@ -173,14 +173,14 @@ unfolding blockFault outcomeIn blockOutcome
 sound-block second pending l = turned-cut _ _ _ _
 
 sound-context : (s : State) (k : Kind) (l : List ℕ) → Sound (contextFault s k l)
-unfolding contextFault secondTrailerFault
+unfolding contextFault trailer2Fault
 sound-context s k l =
-    if-case Sound (isKind k dataBlock) _ _ (λ _. sound-block (s .second) (s .pending) l)
-    (λ _. if-case Sound (isKind k (vol 1)) _ _ (λ _. sound-volume (s .names) l)
-    (λ _. if-case Sound (isKind k (hdr 1)) _ _ (λ _. sound-header (s .goesOn) (s .files) (s .first) l)
-    (λ _. if-case Sound (isKind k (hdr 2)) _ _ (λ _. sound-second (s .goesOn) (s .second) l)
-    (λ _. if-case Sound (isKind k (eov 1)) _ _ (λ _. sound-trailer (s .first) (s .count) l)
-    (λ _. if-case Sound (isKind k (eof 1)) _ _ (λ _. sound-end (s .first) (s .count) (s .pending) l)
+    if-case Sound (isKind k dataBlock) _ _ (λ _. sound-block (s .hdr2) (s .pending) l)
+    (λ _. if-case Sound (isKind k (vol 1)) _ _ (λ _. sound-volume (s .volumes) l)
+    (λ _. if-case Sound (isKind k (hdr 1)) _ _ (λ _. sound-header (s .continues) (s .files) (s .hdr1) l)
+    (λ _. if-case Sound (isKind k (hdr 2)) _ _ (λ _. sound-second (s .continues) (s .hdr2) l)
+    (λ _. if-case Sound (isKind k (eov 1)) _ _ (λ _. sound-trailer (s .hdr1) (s .count) l)
+    (λ _. if-case Sound (isKind k (eof 1)) _ _ (λ _. sound-end (s .hdr1) (s .count) (s .pending) l)
     (λ _. if-case Sound (isKind k (eov 2)) _ _ (λ _. sound-crossed _)
     (λ _. if-case Sound (isKind k (eof 2)) _ _ (λ _. sound-crossed _) (λ _. none-wrong))))))))
 

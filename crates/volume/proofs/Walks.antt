@@ -44,7 +44,7 @@ use Rattle.volume.specs.declared.blocks.Between.{Between}
 use Rattle.volume.specs.State.{State, start}
 use Rattle.volume.specs.code.Body.{body, between, toldBetween, Given, PlaceInside, Skipped}
 use Rattle.volume.specs.Fault.{itemFault, contextFault}
-use Rattle.volume.specs.Step.{Event, go, no, step, isDue, ordered, judged, kindIn, bytesIn, stateAfter, eventsOf, namesAfter, filesAfter, goesOnAfter, firstAfter, secondAfter, countAfter, pendingAfter}
+use Rattle.volume.specs.Step.{Event, go, no, step, isDue, ordered, judged, kindIn, bytesIn, stateAfter, eventsOf, volumesAfter, filesAfter, continuesAfter, hdr1After, hdr2After, countAfter, pendingAfter}
 use Rattle.volume.specs.Run.{runs, answerOf, imageVerdict}
 use Rattle.volume.specs.code.Told.{isInside, endedIn, closedIn, framedIn, framedOr, toldNext, toldFrom}
 use Rattle.volume.specs.code.Place.{contents, labelAt, namesAt}
@@ -333,7 +333,7 @@ sized-block s x n k h e =
     let long : length l ≡ n = ap length (part-within (x .at + 3) n s) ∙ length-part (x .at + 3) n s (omega (arith, h .within)) in
     let at : (f m : ℕ) → isKind dataBlock (kind f m) ≡ false → isKind other (kind f m) ≡ false → isKind k (kind f m) ≡ true → n ≡ 80
     = λ f m d o q. sym long ∙ sized-of (x .state .phase) l f m d o (ap (λ (j : Kind). isKind j (kind f m)) (sym e) ∙ q) in
-    record { volume = at 1 1 refl refl; first = at 3 1 refl refl; second = at 3 2 refl refl }
+    record { volume = at 1 1 refl refl; hdr1 = at 3 1 refl refl; hdr2 = at 3 2 refl refl }
 
 pub owes-block : (s names : List ℕ) (x : Spot) (n : ℕ) (k : Kind) (r : Turn) → BlockHere s x n
     → k ≡ kindIn (x .state .phase) (block (take (x .at + 3 + n - (x .at + 3)) (drop (x .at + 3) s)))
@@ -396,7 +396,7 @@ bare-on s names x family d p r h e w q =
 
 pub bare-mark : (s : List ℕ) (x : Spot) (p : Shape) → Bounded s (x .at) (x .item) (x .state) → x .at < length s
     → p ≡ shape (drop (x .at) s) → p ≡ Mark → BareHere s x 9
-unfolding isKind kindIn bytesIn itemFault orElse labelFault fieldFault fieldsOf firstBad accessOf accessAt contextFault ifB fault stateAfter namesAfter filesAfter goesOnAfter firstAfter secondAfter countAfter pendingAfter
+unfolding isKind kindIn bytesIn itemFault orElse labelFault fieldFault fieldsOf firstBad accessOf accessAt contextFault ifB fault stateAfter volumesAfter filesAfter continuesAfter hdr1After hdr2After countAfter pendingAfter
 bare-mark s x p b m e q =
     record {
       bounded = b;
@@ -408,7 +408,7 @@ bare-mark s x p b m e q =
 pub bare-reel-end : (s : List ℕ) (x : Spot) (p : Shape) → Bounded s (x .at) (x .item) (x .state) → x .at < length s
     → p ≡ shape (drop (x .at) s) → p ≡ ReelEnd
     → BareHere s x 10
-unfolding isKind kindIn bytesIn itemFault orElse labelFault fieldFault fieldsOf firstBad accessOf accessAt contextFault ifB fault stateAfter namesAfter filesAfter goesOnAfter firstAfter secondAfter countAfter pendingAfter
+unfolding isKind kindIn bytesIn itemFault orElse labelFault fieldFault fieldsOf firstBad accessOf accessAt contextFault ifB fault stateAfter volumesAfter filesAfter continuesAfter hdr1After hdr2After countAfter pendingAfter
 bare-reel-end s x p b m e q =
     record {
       bounded = b;
@@ -474,7 +474,7 @@ pub inside : (s : List ℕ) (x : Spot) → Bounded s (x .at) (x .item) (x .state
 inside s x b = record { short = b .short; within = b .within; items = b .items; blocks = b .blocks }
 
 -- past data blocks the verdict is the same
-pub past-data : (s : List ℕ) (x : Spot) (h : Lengths) (m : List ℕ) (b : Between) → m ≡ part (x .state .second) 80 s → Given h m
+pub past-data : (s : List ℕ) (x : Spot) (h : Lengths) (m : List ℕ) (b : Between) → m ≡ part (x .state .hdr2) 80 s → Given h m
     → Skipped s h (between (x .at) (x .item) (x .state .count) (x .state .pending)) b → x .state .phase ≡ Data
     → Bounded s (x .at) (x .item) (x .state)
     → Past s x
@@ -482,13 +482,13 @@ pub past-data : (s : List ℕ) (x : Spot) (h : Lengths) (m : List ℕ) (b : Betw
       at = b .at;
       state =
           record {
-            first = x .state .first;
-            second = x .state .second;
+            hdr1 = x .state .hdr1;
+            hdr2 = x .state .hdr2;
             count = b .count;
             pending = b .pending;
             files = x .state .files;
             phase = Data;
-            ongoing = x .state .ongoing;
+            continues = x .state .continues;
           };
       item = b .item;
     })
@@ -498,7 +498,7 @@ past-data s x h m b e g k d w =
       same = λ names.
           let t : State = contents s names (x .state) in
           let inData : contents s names (x .state) ≡ body t (x .state .count) (x .state .pending)
-          = λ i. record { phase = d i; names = t .names; files = t .files; goesOn = t .goesOn; first = t .first; second = t .second; count = t .count; pending = t .pending } in
+          = λ i. record { phase = d i; volumes = t .volumes; files = t .files; continues = t .continues; hdr1 = t .hdr1; hdr2 = t .hdr2; count = t .count; pending = t .pending } in
           sym (k .same t (subst (Given h) e g))
           ∙ sym (ap (λ (u : State). toldFrom (x .item) u (decode (drop (x .at) s))) inData);
       onward = k .onward;
@@ -523,7 +523,7 @@ pub begun : (s : List ℕ) → 5 ≤ length s → length s ≤ mostImage
     → FirstSpot s []
     (record {
       at = 5;
-      state = record { first = length s; second = length s; count = 0; pending = 0; files = 0; phase = Reel; ongoing = false };
+      state = record { hdr1 = length s; hdr2 = length s; count = 0; pending = 0; files = 0; phase = Reel; continues = false };
       item = 0;
     })
 unfolding toldAt allItems contents start namesAt labelAt part
@@ -532,7 +532,7 @@ begun s a b =
     record {
       same =
           ap (λ (u : State). toldFrom 0 u (decode (drop 5 s)))
-          (λ i. record { phase = Reel; names = []; files = 0; goesOn = false; first = none i; second = none i; count = 0; pending = 0 });
+          (λ i. record { phase = Reel; volumes = []; files = 0; continues = false; hdr1 = none i; hdr2 = none i; count = 0; pending = 0 });
       bounded = record { short = b; within = a; items = omega arith; files = omega arith; blocks = omega arith };
     }
 

@@ -26,10 +26,10 @@ undated l = putAt l (placeOf hdr1 createdRow) (replicate (widthOf hdr1 createdRo
 
 -- an item of a phase, without its dates where a file goes on: there it stands in a later section
 unfoldable pub undatedIn : Bool → Phase → Item → Item
-undatedIn goesOn p (block l) = ifB (goesOn && isDated (kindIn p (block l))) (block (undated l)) (block l)
-undatedIn goesOn p mark = mark
-undatedIn goesOn p reelEnd = reelEnd
-undatedIn goesOn p broken = broken
+undatedIn continues p (block l) = ifB (continues && isDated (kindIn p (block l))) (block (undated l)) (block l)
+undatedIn continues p mark = mark
+undatedIn continues p reelEnd = reelEnd
+undatedIn continues p broken = broken
 
 unfoldable pub undatedBehind : Next → (State → List Item) → List Item
 undatedBehind (go t es) rest = rest t
@@ -38,7 +38,7 @@ undatedBehind (no n b) rest = []
 -- the items from a state on, up to the first that is refused and with it
 unfoldable pub undatedFrom : State → List Item → List Item
 undatedFrom s [] = []
-undatedFrom s (x ∷ xs) = undatedIn (s .goesOn) (s .phase) x ∷ undatedBehind (step s x) (λ t. undatedFrom t xs)
+undatedFrom s (x ∷ xs) = undatedIn (s .continues) (s .phase) x ∷ undatedBehind (step s x) (λ t. undatedFrom t xs)
 
 -- the dates of a label are those of another
 pub record SameDates (a b : List ℕ) : Type 0 where

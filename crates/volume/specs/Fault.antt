@@ -78,17 +78,17 @@ mostFiles = 64
 unfoldable pub fileFault : ℕ → Fault
 fileFault files = ifB (leb mostFiles files) (fault 9 0) (fault 0 0)
 
-unfoldable pub firstHeaderFault : Bool → ℕ → List ℕ → List ℕ → Fault
-firstHeaderFault goesOn files first l =
-    ifB goesOn (crossed (laterPlace first l)) (orElse (crossed (newFilePlace files first l)) (fileFault files))
+unfoldable pub hdr1Fault : Bool → ℕ → List ℕ → List ℕ → Fault
+hdr1Fault continues files first l =
+    ifB continues (crossed (laterPlace first l)) (orElse (crossed (newFilePlace files first l)) (fileFault files))
 
 -- HDR2 of a later section: BP 5-15 and 51-52 as in the section before (house)
-unfoldable pub secondHeaderFault : Bool → List ℕ → List ℕ → Fault
-secondHeaderFault goesOn second l = ifB goesOn (crossed (unequalIn perFile second l hdr2)) (fault 0 0)
+unfoldable pub hdr2Fault : Bool → List ℕ → List ℕ → Fault
+hdr2Fault continues second l = ifB continues (crossed (unequalIn perFile second l hdr2)) (fault 0 0)
 
 -- the first trailer label equals its header's; its count is the number of blocks of this section
-unfoldable pub firstTrailerFault : List ℕ → ℕ → List ℕ → Fault
-firstTrailerFault first count l =
+unfoldable pub trailer1Fault : List ℕ → ℕ → List ℕ → Fault
+trailer1Fault first count l =
     crossed (lower (unequalIn perSection first l hdr1) (ifB (says count (countOf l)) 0 (bpOf hdr1 countRow)))
 
 -- no record may be open at EOF1
@@ -96,11 +96,11 @@ unfoldable pub openFault : ℕ → Fault
 openFault pending = ifB (eqb pending 0) (fault 0 0) (fault 8 0)
 
 unfoldable pub fileEndFault : List ℕ → ℕ → ℕ → List ℕ → Fault
-fileEndFault first count pending l = orElse (firstTrailerFault first count l) (openFault pending)
+fileEndFault first count pending l = orElse (trailer1Fault first count l) (openFault pending)
 
 -- the second trailer label equals its header's
-unfoldable pub secondTrailerFault : List ℕ → List ℕ → Fault
-secondTrailerFault second l = crossed (unequalIn perSection second l hdr2)
+unfoldable pub trailer2Fault : List ℕ → List ℕ → Fault
+trailer2Fault second l = crossed (unequalIn perSection second l hdr2)
 
 -- ---- data blocks
 
@@ -118,14 +118,14 @@ blockFault second pending l = fault (outcomeIn second pending l .number) 0
 -- the fault of an item of kind k and contents l against what was read before it
 unfoldable pub contextFault : State → Kind → List ℕ → Fault
 contextFault s k l =
-    ifB (isKind k dataBlock) (blockFault (s .second) (s .pending) l)
-    (ifB (isKind k (vol 1)) (volumeFault (s .names) l)
-    (ifB (isKind k (hdr 1)) (firstHeaderFault (s .goesOn) (s .files) (s .first) l)
-    (ifB (isKind k (hdr 2)) (secondHeaderFault (s .goesOn) (s .second) l)
-    (ifB (isKind k (eov 1)) (firstTrailerFault (s .first) (s .count) l)
-    (ifB (isKind k (eof 1)) (fileEndFault (s .first) (s .count) (s .pending) l)
-    (ifB (isKind k (eov 2)) (secondTrailerFault (s .second) l)
-    (ifB (isKind k (eof 2)) (secondTrailerFault (s .second) l)
+    ifB (isKind k dataBlock) (blockFault (s .hdr2) (s .pending) l)
+    (ifB (isKind k (vol 1)) (volumeFault (s .volumes) l)
+    (ifB (isKind k (hdr 1)) (hdr1Fault (s .continues) (s .files) (s .hdr1) l)
+    (ifB (isKind k (hdr 2)) (hdr2Fault (s .continues) (s .hdr2) l)
+    (ifB (isKind k (eov 1)) (trailer1Fault (s .hdr1) (s .count) l)
+    (ifB (isKind k (eof 1)) (fileEndFault (s .hdr1) (s .count) (s .pending) l)
+    (ifB (isKind k (eov 2)) (trailer2Fault (s .hdr2) l)
+    (ifB (isKind k (eof 2)) (trailer2Fault (s .hdr2) l)
     (fault 0 0))))))))
 
 -- its first fault: 4 and 5 of its label by itself, then the others

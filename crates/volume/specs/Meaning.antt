@@ -11,7 +11,7 @@ use Rattle.label.specs.Field.{setOf}
 use Rattle.block.specs.Cut.{Segment}
 use Rattle.image.specs.Framing.{items}
 use Rattle.volume.specs.State.{start}
-use Rattle.volume.specs.Step.{Event, begins, continues, holds}
+use Rattle.volume.specs.Step.{Event, begins, resumes, holds}
 use Rattle.volume.specs.Run.{Run, ended, stopped, runs}
 use Rattle.volume.specs.Accepted.{Accepted}
 
@@ -61,14 +61,14 @@ collect (begins f s ∷ es) =
       files = record { fields = fieldsFrom f s; records = joined (collect es .segments) } ∷
           collect es .files;
     }
-collect (continues f s ∷ es) = collect es
+collect (resumes f s ∷ es) = collect es
 collect (holds l xs ∷ es) = record { segments = xs ++ collect es .segments; files = collect es .files }
 
 -- the set identifier: that of the first file
 unfoldable pub setFrom : List Event → List ℕ
 setFrom [] = []
 setFrom (begins f s ∷ es) = setOf f
-setFrom (continues f s ∷ es) = setFrom es
+setFrom (resumes f s ∷ es) = setFrom es
 setFrom (holds l xs ∷ es) = setFrom es
 
 unfoldable pub meaningOf : List Event → Meaning

@@ -9,14 +9,14 @@ pub record State : Type 0 where
   -- where in the order of a reel
   pub phase : Phase
   -- the volume identifiers read so far, in order
-  pub names : List (List ℕ)
+  pub volumes : List (List ℕ)
   -- the files begun, counted at HDR2
   pub files : ℕ
   -- whether the next HDR1 goes on with a file: the last trailer was EOV
-  pub goesOn : Bool
+  pub continues : Bool
   -- the last HDR1 and the last HDR2, empty before the first
-  pub first : List ℕ
-  pub second : List ℕ
+  pub hdr1 : List ℕ
+  pub hdr2 : List ℕ
   -- the data blocks of this section so far
   pub count : ℕ
   -- 0, or one more than the bytes so far of the record that is not ended
@@ -24,4 +24,4 @@ pub record State : Type 0 where
 
 -- before the first item
 unfoldable pub start : State
-start = record { phase = Reel; names = []; files = 0; goesOn = false; first = []; second = []; count = 0; pending = 0 }
+start = record { phase = Reel; volumes = []; files = 0; continues = false; hdr1 = []; hdr2 = []; count = 0; pending = 0 }

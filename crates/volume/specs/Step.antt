@@ -26,7 +26,7 @@ use Rattle.volume.specs.Fault.{itemFault, outcomeIn, valueOf}
 -- with its bytes as they stand on the reel and its segments
 pub data Event : Type 0 where
   begins : List ℕ → List ℕ → Event
-  continues : List ℕ → List ℕ → Event
+  resumes : List ℕ → List ℕ → Event
   holds : List ℕ → List Segment → Event
 
 -- ---- what an item is
@@ -50,36 +50,36 @@ bytesIn broken = []
 
 -- ---- the state behind an item of kind k and contents l, field by field
 
-unfoldable pub namesAfter : State → Kind → List ℕ → List (List ℕ)
-namesAfter s k l = ifB (isKind k (vol 1)) (s .names ++ (volumeOf l ∷ [])) (s .names)
+unfoldable pub volumesAfter : State → Kind → List ℕ → List (List ℕ)
+volumesAfter s k l = ifB (isKind k (vol 1)) (s .volumes ++ (volumeOf l ∷ [])) (s .volumes)
 
 unfoldable pub filesAfter : State → Kind → ℕ
-filesAfter s k = ifB (isKind k (hdr 2)) (ifB (s .goesOn) (s .files) (s .files + 1)) (s .files)
+filesAfter s k = ifB (isKind k (hdr 2)) (ifB (s .continues) (s .files) (s .files + 1)) (s .files)
 
-unfoldable pub goesOnAfter : State → Kind → Bool
-goesOnAfter s k = ifB (isKind k (eov 1)) true (ifB (isKind k (eof 1)) false (s .goesOn))
+unfoldable pub continuesAfter : State → Kind → Bool
+continuesAfter s k = ifB (isKind k (eov 1)) true (ifB (isKind k (eof 1)) false (s .continues))
 
-unfoldable pub firstAfter : State → Kind → List ℕ → List ℕ
-firstAfter s k l = ifB (isKind k (hdr 1)) l (s .first)
+unfoldable pub hdr1After : State → Kind → List ℕ → List ℕ
+hdr1After s k l = ifB (isKind k (hdr 1)) l (s .hdr1)
 
-unfoldable pub secondAfter : State → Kind → List ℕ → List ℕ
-secondAfter s k l = ifB (isKind k (hdr 2)) l (s .second)
+unfoldable pub hdr2After : State → Kind → List ℕ → List ℕ
+hdr2After s k l = ifB (isKind k (hdr 2)) l (s .hdr2)
 
 unfoldable pub countAfter : State → Kind → ℕ
 countAfter s k = ifB (isKind k dataBlock) (s .count + 1) (ifB (isKind k (hdr 1)) 0 (s .count))
 
 unfoldable pub pendingAfter : State → Kind → List ℕ → ℕ
-pendingAfter s k l = ifB (isKind k dataBlock) (outcomeIn (s .second) (s .pending) l .pending) (s .pending)
+pendingAfter s k l = ifB (isKind k dataBlock) (outcomeIn (s .hdr2) (s .pending) l .pending) (s .pending)
 
 unfoldable pub stateAfter : State → Phase → Kind → List ℕ → State
 stateAfter s p k l =
     record {
       phase = p;
-      names = namesAfter s k l;
+      volumes = volumesAfter s k l;
       files = filesAfter s k;
-      goesOn = goesOnAfter s k;
-      first = firstAfter s k l;
-      second = secondAfter s k l;
+      continues = continuesAfter s k;
+      hdr1 = hdr1After s k l;
+      hdr2 = hdr2After s k l;
       count = countAfter s k;
       pending = pendingAfter s k l;
     }
@@ -93,14 +93,14 @@ segmentsOf (some xs) = xs
 -- the segments of a data block, by the lengths that this section's HDR2 gives
 unfoldable pub segmentsIn : State → List ℕ → List Segment
 segmentsIn s l =
-    segmentsOf (units (formatOf (s .second)) (valueOf (blockLengthOf (s .second))) (valueOf (recordLengthOf (s .second)))
-    (valueOf (offsetOf (s .second))) l)
+    segmentsOf (units (formatOf (s .hdr2)) (valueOf (blockLengthOf (s .hdr2))) (valueOf (recordLengthOf (s .hdr2)))
+    (valueOf (offsetOf (s .hdr2))) l)
 
 -- a data block; at HDR2 a section, which begins a file or goes on with one
 unfoldable pub eventsOf : State → Kind → List ℕ → List Event
 eventsOf s k l =
     ifB (isKind k dataBlock) (holds l (segmentsIn s l) ∷ [])
-    (ifB (isKind k (hdr 2)) (ifB (s .goesOn) (continues (s .first) l) (begins (s .first) l) ∷ []) [])
+    (ifB (isKind k (hdr 2)) (ifB (s .continues) (resumes (s .hdr1) l) (begins (s .hdr1) l) ∷ []) [])
 
 -- ---- the step
 

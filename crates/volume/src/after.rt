@@ -20,12 +20,12 @@ use order::Phase;
 use order::is;
 
 // The files begun: a new one is counted at HDR2.
-pub(crate) fn files_after(files: u32, ongoing: bool, k: Kind) -> u32
+pub(crate) fn files_after(files: u32, continues: bool, k: Kind) -> u32
     requires { ⌜ files < 4294967295 ⌝ }
-    ensures { λ r. ⌜ r ≡ ifB (isKind k (hdr 2)) (ifB ongoing files (files + 1)) files ⌝ }
+    ensures { λ r. ⌜ r ≡ ifB (isKind k (hdr 2)) (ifB continues files (files + 1)) files ⌝ }
 {
     if is(k, HDR, 2) {
-        if ongoing {
+        if continues {
             return files;
         }
         return files + 1;
@@ -34,8 +34,8 @@ pub(crate) fn files_after(files: u32, ongoing: bool, k: Kind) -> u32
 }
 
 // Whether the next HDR1 goes on with a file.
-pub(crate) fn ongoing_after(ongoing: bool, k: Kind) -> bool
-    ensures { λ r. ⌜ r ≡ ifB (isKind k (eov 1)) true (ifB (isKind k (eof 1)) false ongoing) ⌝ }
+pub(crate) fn continues_after(continues: bool, k: Kind) -> bool
+    ensures { λ r. ⌜ r ≡ ifB (isKind k (eov 1)) true (ifB (isKind k (eof 1)) false continues) ⌝ }
 {
     if is(k, EOV, 1) {
         return true;
@@ -43,7 +43,7 @@ pub(crate) fn ongoing_after(ongoing: bool, k: Kind) -> bool
     if is(k, EOF, 1) {
         return false;
     }
-    ongoing
+    continues
 }
 
 // The place of the last HDR of that number.
@@ -73,7 +73,7 @@ pub(crate) fn count_after(count: usize, k: Kind) -> usize
 // What is pending behind an item.
 fn pending_after(
     image: &[u8],
-    second: usize,
+    hdr2: usize,
     pending: usize,
     k: Kind,
     start: usize,
@@ -106,12 +106,12 @@ pub(crate) fn reading_after(
     ensures { λ r. ⌜ ReadingBehind (now (image .entry)) st p k start len r ⌝ }
 {
     Reading {
-        first: header_after(st.first, k, 1, start),
-        second: header_after(st.second, k, 2, start),
+        hdr1: header_after(st.hdr1, k, 1, start),
+        hdr2: header_after(st.hdr2, k, 2, start),
         count: count_after(st.count, k),
-        pending: pending_after(image, st.second, st.pending, k, start, len),
-        files: files_after(st.files, st.ongoing, k),
+        pending: pending_after(image, st.hdr2, st.pending, k, start, len),
+        files: files_after(st.files, st.continues, k),
         phase: p,
-        ongoing: ongoing_after(st.ongoing, k),
+        continues: continues_after(st.continues, k),
     }
 }

@@ -9,7 +9,7 @@ ghost use Rattle.base.specs.Part.{same};
 ghost use Rattle.base.specs.Answer.{fault, orElse};
 ghost use Rattle.order.specs.Kind.{eov, eof, isKind};
 ghost use Rattle.label.specs.Field.{setOf, sectionOf, countOf};
-ghost use Rattle.volume.specs.Fault.{says, valueOf, lower, crossed, volumeFault, newFilePlace, laterPlace, fileFault, firstHeaderFault, secondHeaderFault, firstTrailerFault, openFault, fileEndFault, secondTrailerFault, outcomeIn, blockFault, contextFault, itemFault};
+ghost use Rattle.volume.specs.Fault.{says, valueOf, lower, crossed, volumeFault, newFilePlace, laterPlace, fileFault, hdr1Fault, hdr2Fault, trailer1Fault, openFault, fileEndFault, trailer2Fault, outcomeIn, blockFault, contextFault, itemFault};
 ghost use Rattle.volume.specs.code.Place.{namesAt, contents};
 use super::Reading;
 use super::among::is_among;
@@ -181,20 +181,20 @@ fn file_fault(files: u32) -> Fault
 }
 
 // The fault of HDR1, of a later section or of a new file.
-fn first_header_fault(ongoing: bool, files: u32, first: &[u8], l: &[u8]) -> Fault
-    ensures { λ r. ⌜ r ≡ firstHeaderFault ongoing files (now (first .entry)) (now (l .entry)) ⌝ }
+fn hdr1_fault(continues: bool, files: u32, first: &[u8], l: &[u8]) -> Fault
+    ensures { λ r. ⌜ r ≡ hdr1Fault continues files (now (first .entry)) (now (l .entry)) ⌝ }
 {
-    if ongoing {
+    if continues {
         return crossed(later_place(first, l));
     }
     or_else(crossed(new_file_place(files, first, l)), file_fault(files))
 }
 
 // The fault of HDR2, which a later section has as the section before.
-fn second_header_fault(ongoing: bool, second: &[u8], l: &[u8]) -> Fault
-    ensures { λ r. ⌜ r ≡ secondHeaderFault ongoing (now (second .entry)) (now (l .entry)) ⌝ }
+fn hdr2_fault(continues: bool, second: &[u8], l: &[u8]) -> Fault
+    ensures { λ r. ⌜ r ≡ hdr2Fault continues (now (second .entry)) (now (l .entry)) ⌝ }
 {
-    if ongoing {
+    if continues {
         return crossed(unequal_section_second(second, l));
     }
     Fault { number: 0, byte: 0 }
@@ -211,8 +211,8 @@ fn count_place(count: usize, l: &[u8]) -> u32
 }
 
 // The fault of EOV1 or EOF1 against the HDR1 and the blocks of its section.
-fn first_trailer_fault(first: &[u8], count: usize, l: &[u8]) -> Fault
-    ensures { λ r. ⌜ r ≡ firstTrailerFault (now (first .entry)) count (now (l .entry)) ⌝ }
+fn trailer1_fault(first: &[u8], count: usize, l: &[u8]) -> Fault
+    ensures { λ r. ⌜ r ≡ trailer1Fault (now (first .entry)) count (now (l .entry)) ⌝ }
 {
     crossed(lower(unequal_trailer_first(first, l), count_place(count, l)))
 }
@@ -231,41 +231,41 @@ fn open_fault(pending: usize) -> Fault
 fn file_end_fault(first: &[u8], count: usize, pending: usize, l: &[u8]) -> Fault
     ensures { λ r. ⌜ r ≡ fileEndFault (now (first .entry)) count pending (now (l .entry)) ⌝ }
 {
-    or_else(first_trailer_fault(first, count, l), open_fault(pending))
+    or_else(trailer1_fault(first, count, l), open_fault(pending))
 }
 
 // The fault of EOV2 or EOF2 against the HDR2 of its section.
-fn second_trailer_fault(second: &[u8], l: &[u8]) -> Fault
-    ensures { λ r. ⌜ r ≡ secondTrailerFault (now (second .entry)) (now (l .entry)) ⌝ }
+fn trailer2_fault(second: &[u8], l: &[u8]) -> Fault
+    ensures { λ r. ⌜ r ≡ trailer2Fault (now (second .entry)) (now (l .entry)) ⌝ }
 {
     crossed(unequal_trailer_second(second, l))
 }
 
 // The fault of an item of kind k that is a trailer label; any other has none here.
 fn trailer_fault(
-    first: &[u8],
-    second: &[u8],
+    hdr1: &[u8],
+    hdr2: &[u8],
     count: usize,
     pending: usize,
     k: Kind,
     l: &[u8],
 ) -> Fault
-    ensures { λ r. ⌜ r ≡ ifB (isKind k (eov 1)) (firstTrailerFault (now (first .entry)) count (now (l .entry)))
+    ensures { λ r. ⌜ r ≡ ifB (isKind k (eov 1)) (trailer1Fault (now (first .entry)) count (now (l .entry)))
         (ifB (isKind k (eof 1)) (fileEndFault (now (first .entry)) count pending (now (l .entry)))
-        (ifB (isKind k (eov 2)) (secondTrailerFault (now (second .entry)) (now (l .entry)))
-        (ifB (isKind k (eof 2)) (secondTrailerFault (now (second .entry)) (now (l .entry))) (fault 0 0)))) ⌝ }
+        (ifB (isKind k (eov 2)) (trailer2Fault (now (second .entry)) (now (l .entry)))
+        (ifB (isKind k (eof 2)) (trailer2Fault (now (second .entry)) (now (l .entry))) (fault 0 0)))) ⌝ }
 {
     if is(k, EOV, 1) {
-        return first_trailer_fault(first, count, l);
+        return trailer1_fault(first, count, l);
     }
     if is(k, EOF, 1) {
         return file_end_fault(first, count, pending, l);
     }
     if is(k, EOV, 2) {
-        return second_trailer_fault(second, l);
+        return trailer2_fault(second, l);
     }
     if is(k, EOF, 2) {
-        return second_trailer_fault(second, l);
+        return trailer2_fault(second, l);
     }
     Fault { number: 0, byte: 0 }
 }
@@ -296,19 +296,19 @@ fn context_fault(
     image: &[u8],
     names: &[usize],
     st: Reading,
-    first: &[u8],
-    second: &[u8],
+    hdr1: &[u8],
+    hdr2: &[u8],
     k: Kind,
     l: &[u8],
 ) -> Fault
     ensures { λ r. ⌜ r ≡ contextFault
         (record {
           phase = st .phase;
-          names = namesAt (now (image .entry)) (now (names .entry));
+          volumes = namesAt (now (image .entry)) (now (names .entry));
           files = st .files;
-          goesOn = st .ongoing;
-          first = now (first .entry);
-          second = now (second .entry);
+          continues = st .continues;
+          hdr1 = now (first .entry);
+          hdr2 = now (second .entry);
           count = st .count;
           pending = st .pending;
         }) k (now (l .entry)) ⌝ }
@@ -320,10 +320,10 @@ fn context_fault(
         return volume_fault(image, names, l);
     }
     if is(k, HDR, 1) {
-        return first_header_fault(st.ongoing, st.files, first, l);
+        return hdr1_fault(st.continues, st.files, first, l);
     }
     if is(k, HDR, 2) {
-        return second_header_fault(st.ongoing, second, l);
+        return hdr2_fault(st.continues, second, l);
     }
     trailer_fault(first, second, st.count, st.pending, k, l)
 }
@@ -332,8 +332,8 @@ fn context_fault(
 pub(crate) fn item_fault(image: &[u8], names: &[usize], st: Reading, k: Kind, l: &[u8]) -> Fault
     ensures { λ r. ⌜ r ≡ itemFault (contents (now (image .entry)) (now (names .entry)) st) k (now (l .entry)) ⌝ }
 {
-    let first = label_at(image, st.first);
-    let second = label_at(image, st.second);
+    let first = label_at(image, st.hdr1);
+    let second = label_at(image, st.hdr2);
     or_else(
         label_fault(k, l),
         context_fault(image, names, st, first, second, k, l),

@@ -18,13 +18,13 @@ use order::Phase;
 
 // What is known behind an item, beside the places of the volume labels: numbers, and places in the image. A place past the end stands for no label.
 pub struct Reading {
-    pub first: usize,
-    pub second: usize,
+    pub hdr1: usize,
+    pub hdr2: usize,
     pub count: usize,
     pub pending: usize,
     pub files: u32,
     pub phase: Phase,
-    pub ongoing: bool,
+    pub continues: bool,
 }
 
 // The verdict on an image, whatever its bytes: number 0 exactly for an accepted set, else the number and place of the first wrong item.

@@ -181,13 +181,13 @@ fn in_phase(st: Reading, p: Phase) -> Reading
     ensures { λ r. ⌜ r ≡ inPhase st p ⌝ }
 {
     Reading {
-        first: st.first,
-        second: st.second,
+        hdr1: st.hdr1,
+        hdr2: st.hdr2,
         count: st.count,
         pending: st.pending,
         files: st.files,
         phase: p,
-        ongoing: st.ongoing,
+        continues: st.continues,
     }
 }
 
@@ -266,15 +266,15 @@ fn past_data(image: &[u8], x: Spot) -> Spot
         count: st.count,
         pending: st.pending,
     };
-    let b = past_blocks(image, lengths_of(part_of(image, st.second, 80)), from);
+    let b = past_blocks(image, lengths_of(part_of(image, st.hdr2, 80)), from);
     let state = Reading {
-        first: st.first,
-        second: st.second,
+        hdr1: st.hdr1,
+        hdr2: st.hdr2,
         count: b.count,
         pending: b.pending,
         files: st.files,
         phase: Phase::Data,
-        ongoing: st.ongoing,
+        continues: st.continues,
     };
     Spot {
         at: b.at,
@@ -305,13 +305,13 @@ fn first_spot(image: &[u8]) -> Spot
     Spot {
         at: 5,
         state: Reading {
-            first: image.len(),
-            second: image.len(),
+            hdr1: image.len(),
+            hdr2: image.len(),
             count: 0,
             pending: 0,
             files: 0,
             phase: Phase::Reel,
-            ongoing: false,
+            continues: false,
         },
         item: 0,
     }

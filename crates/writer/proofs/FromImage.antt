@@ -83,16 +83,16 @@ module _ (lay : Bool) (set lengths bytes rooms names : List ℕ) (g : Place) (p 
   is = both .0
 
   abbrev entry : List ℕ
-  entry = fieldsFrom (part (g .file .first) 80 bytes) (part (g .file .second) 80 bytes)
+  entry = fieldsFrom (part (g .file .hdr1) 80 bytes) (part (g .file .hdr2) 80 bytes)
 
   files-first : filesAt read lengths bytes g ≡ record { fields = entry; records = d .records } ∷ drop (g .nth + 1) all
   unfolding filesAt
   files-first = first ∙ ap (λ (fs : List ℕ). record { fields = fs; records = d .records } ∷ drop (g .nth + 1) all) (is .fields)
 
-  pub first-within : g .file .first + 80 ≤ length bytes
+  pub first-within : g .file .hdr1 + 80 ≤ length bytes
   first-within = is .firstWithin
 
-  pub second-within : g .file .second + 80 ≤ length bytes
+  pub second-within : g .file .hdr2 + 80 ≤ length bytes
   second-within = is .secondWithin
 
   pub read-small : g .nth < 64

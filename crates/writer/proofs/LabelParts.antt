@@ -82,29 +82,29 @@ entered-by labels e n r l k h =
 
 module _ (image : Bool) (files bytes : List ℕ) (g : Place) (y : Enterable image (length files) (length bytes) g) where
   -- a field of the first label or the second has room among the label parts
-  pub first-room : (l s : List ℕ) (at from w : ℕ) → image ≡ true → l ≡ part (g .file .first) 80 bytes → from + w ≤ 80
+  pub first-room : (l s : List ℕ) (at from w : ℕ) → image ≡ true → l ≡ part (g .file .hdr1) 80 bytes → from + w ≤ 80
       → at + w ≤ 46 → s ≡ part from w l → at + length s ≤ 149
-  first-room l s at from w i h k m e = part-room bytes l s (g .file .first) at from w (y .first i) h k m e
+  first-room l s at from w i h k m e = part-room bytes l s (g .file .hdr1) at from w (y .first i) h k m e
 
-  pub second-room : (l s : List ℕ) (at from w : ℕ) → image ≡ true → l ≡ part (g .file .second) 80 bytes → from + w ≤ 80
+  pub second-room : (l s : List ℕ) (at from w : ℕ) → image ≡ true → l ≡ part (g .file .hdr2) 80 bytes → from + w ≤ 80
       → at + w ≤ 46 → s ≡ part from w l → at + length s ≤ 149
-  second-room l s at from w i h k m e = part-room bytes l s (g .file .second) at from w (y .second i) h k m e
+  second-room l s at from w i h k m e = part-room bytes l s (g .file .hdr2) at from w (y .second i) h k m e
 
   pub entry-few : g .nth < 64
   entry-few = y .few
 
   module _ (labels r : List ℕ) (l : length labels ≡ 149) where
-    pub entered-read : (f s a u b v d : List ℕ) → image ≡ true → f ≡ part (g .file .first) 80 bytes
-        → s ≡ part (g .file .second) 80 bytes → a ≡ part 4 17 f
+    pub entered-read : (f s a u b v d : List ℕ) → image ≡ true → f ≡ part (g .file .hdr1) 80 bytes
+        → s ≡ part (g .file .hdr2) 80 bytes → a ≡ part 4 17 f
         → u ≡ putAt (set labels 46 (g .nth + 1)) 0 a → b ≡ part 35 18 f → v ≡ putAt u 17 b → d ≡ part 4 11 s → r ≡ putAt v 35 d
         → LabelsEntered labels (entryAt image files bytes g) (g .nth + 1) r
     unfolding entryAt
     entered-read f s a u b v d i ef es ea eu eb ev ed er =
-        let h = fields-made (set labels 46 (g .nth + 1)) bytes (g .file .first) (g .file .second) f s a u b v d r (length-set labels 46 (g .nth + 1) ∙ l) (y .first i) (y .second i) ef es ea eu eb ev ed er in
+        let h = fields-made (set labels 46 (g .nth + 1)) bytes (g .file .hdr1) (g .file .hdr2) f s a u b v d r (length-set labels 46 (g .nth + 1) ∙ l) (y .first i) (y .second i) ef es ea eu eb ev ed er in
         subst (λ (e : List ℕ). LabelsEntered labels e (g .nth + 1) r) (sym (if-true _ _ _ i))
         (entered-by labels _ (g .nth + 1) r l
-        (length-entry _ _ (length-part (g .file .first) 80 bytes (y .first i))
-        (length-part (g .file .second) 80 bytes (y .second i))) h)
+        (length-entry _ _ (length-part (g .file .hdr1) 80 bytes (y .first i))
+        (length-part (g .file .hdr2) 80 bytes (y .second i))) h)
 
     pub entered-listed : (e : List ℕ) → image ≡ false → e ≡ part (46 * g .nth) 46 files
         → r ≡ putAt (set labels 46 (g .nth + 1)) 0 e

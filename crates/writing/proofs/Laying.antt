@@ -28,7 +28,7 @@ use Rattle.label.specs.Made.{madeVolume, madeFirst, madeSecond}
 use Rattle.block.specs.Cut.{Segment}
 use Rattle.volume.specs.State.{State}
 use Rattle.volume.specs.Fault.{isAmong}
-use Rattle.volume.specs.Step.{Event, begins, continues, holds, isDue, Next, go, step}
+use Rattle.volume.specs.Step.{Event, begins, resumes, holds, isDue, Next, go, step}
 use Rattle.volume.specs.Run.{ended, further, next, runs}
 use Rattle.volume.specs.Meaning.{File, joined, Collected, fieldsFrom, collect, setFrom}
 use Rattle.reading.specs.Legal.{formatFrom, blockLengthFrom, recordLengthFrom, isSound, legalName, freshNames, legalFile, legalFiles, legalEntry, legalRecords}
@@ -162,7 +162,7 @@ read-change : (names : List (List ℕ)) (files : ℕ) (on : Bool) (set e : List 
     → ReadTo (at Data (names ++ (n ∷ [])) files true (madeFirst HDR1 set e (suc a) q 0) (madeSecond HDR2 e) 0 o) (r + 1) xs es
     → ReadTo (at Data names files on (madeFirst HDR1 set e a q 0) (madeSecond HDR2 e) c o) r
     (volumeEnd set e a q c ++ (block (madeVolume n) ∷ headers set e (suc a) q) ++ xs)
-    (continues (madeFirst HDR1 set e (suc a) q 0) (madeSecond HDR2 e) ∷ es)
+    (resumes (madeFirst HDR1 set e (suc a) q 0) (madeSecond HDR2 e) ∷ es)
 unfolding volumeEnd headers dueAfter dues choose upToNine isKind ifB
 read-change names files on set e a q c o r n xs es g k h b m w i v u z =
     let f : List ℕ = madeFirst HDR1 set e a q 0 in
@@ -178,7 +178,7 @@ read-change names files on set e a q c o r n xs es g k h b m w i v u z =
     (read-label _ _ (r + 1) _ _ [] _ (act-volume names files true f s c o n i v w u) (length-volume n) m
     (read-label _ _ (r + 1) _ _ [] _ (act-header-later (names ++ (n ∷ [])) files s c o set e a q g b)
     (length-first HDR1 set e (suc a) q 0) m
-    (read-label _ _ (r + 1) _ _ (continues t s ∷ []) es (act-second-later (names ++ (n ∷ [])) files t 0 o e k)
+    (read-label _ _ (r + 1) _ _ (resumes t s ∷ []) es (act-second-later (names ++ (n ∷ [])) files t 0 o e k)
     (length-second HDR2 e) m
     (read-mark _ _ (r + 1) xs es (act-mark (Header 2) Data (names ++ (n ∷ [])) files true t s 0 o refl) m z)))))))))
 
@@ -232,7 +232,7 @@ read-change-block : (names : List (List ℕ)) (files : ℕ) (on : Bool) (set e :
     → ReadTo (at Data (names ++ (n ∷ [])) files true (madeFirst HDR1 set e (suc a) q 0) (madeSecond HDR2 e) 1 p) (r + 1) xs es
     → ReadTo (at Data names files on (madeFirst HDR1 set e a q 0) (madeSecond HDR2 e) c o) r
     (volumeEnd set e a q c ++ (block (madeVolume n) ∷ headers set e (suc a) q) ++ (block b ∷ []) ++ xs)
-    (continues (madeFirst HDR1 set e (suc a) q 0) (madeSecond HDR2 e) ∷ holds b g ∷ es)
+    (resumes (madeFirst HDR1 set e (suc a) q 0) (madeSecond HDR2 e) ∷ holds b g ∷ es)
 unfolding volumeEnd headers
 read-change-block names files on set e a q c o p r n b g xs es f k h i m w l v u x z =
     read-change names files on set e a q c o r n (block b ∷ xs) (holds b g ∷ es) f k h i m w l v u
@@ -292,7 +292,7 @@ module _ (set e : List ℕ) (q : ℕ) (later : ℕ → List Reel → Laid) (d : 
       (λ six sound new some most usable.
       ends-put _ _ r (r + 1) _ (rest set e q (suc a) 1 (pred (t .room)) left bs later) (Collects (onto (flat (x ∷ gs)) d))
       (Collects (onto (flat gs) d))
-      (λ es. continues (madeFirst HDR1 set e (suc a) q 0) (madeSecond HDR2 e) ∷ holds b x ∷ es)
+      (λ es. resumes (madeFirst HDR1 set e (suc a) q 0) (madeSecond HDR2 e) ∷ holds b x ∷ es)
       (λ zs es z. read-change-block used q on set e a q c o p r n b x zs es g k (omega arith) (omega arith) (omega arith)
       (omega arith) six sound new h z)
       (collects-block b x gs d)

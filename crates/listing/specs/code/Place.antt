@@ -10,7 +10,7 @@ use Rattle.listing.specs.Text.{named, counted}
 
 unfoldable pub describedAt : List ℕ → FileAt → Held → List ℕ
 describedAt s f x =
-    named (field hdr1 identifierRow (part (f .first) 80 s)) (field hdr2 formatRow (part (f .second) 80 s)) ++
+    named (field hdr1 identifierRow (part (f .hdr1) 80 s)) (field hdr2 formatRow (part (f .hdr2) 80 s)) ++
     counted (x .records) (x .bytes)
 
 unfoldable pub lineAt : List ℕ → ℕ → FileAt → Held → List ℕ

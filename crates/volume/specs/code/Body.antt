@@ -19,11 +19,11 @@ abbrev pub body : State → ℕ → ℕ → State
 body s count pending =
     record {
       phase = Data;
-      names = s .names;
+      volumes = s .volumes;
       files = s .files;
-      goesOn = s .goesOn;
-      first = s .first;
-      second = s .second;
+      continues = s .continues;
+      hdr1 = s .hdr1;
+      hdr2 = s .hdr2;
       count = count;
       pending = pending;
     }
@@ -51,7 +51,7 @@ pub record PlaceInside (s : List ℕ) (at item count : ℕ) : Type 0 where
 
 -- whatever else the state holds, reading on from the second place gives the verdict that reading on from the first one gives
 pub record Skipped (s : List ℕ) (h : Lengths) (a b : Between) : Type 0 where
-  pub same : (t : State) → Given h (t .second) → toldBetween s t a ≡ toldBetween s t b
+  pub same : (t : State) → Given h (t .hdr2) → toldBetween s t a ≡ toldBetween s t b
   pub onward : a .at ≤ b .at
   pub passed : a .item ≤ b .item
   pub inside : PlaceInside s (b .at) (b .item) (b .count)

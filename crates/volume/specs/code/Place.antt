@@ -21,11 +21,11 @@ unfoldable pub contents : List ℕ → List ℕ → Reading → State
 contents s places r =
     record {
       phase = r .phase;
-      names = namesAt s places;
+      volumes = namesAt s places;
       files = r .files;
-      goesOn = r .ongoing;
-      first = labelAt s (r .first);
-      second = labelAt s (r .second);
+      continues = r .continues;
+      hdr1 = labelAt s (r .hdr1);
+      hdr2 = labelAt s (r .hdr2);
       count = r .count;
       pending = r .pending;
     }

@@ -35,7 +35,7 @@ closedIn p m = ifB (eqb m 0) false (not (isInside p))
 
 -- the framing of what is left behind a state, from item n on
 unfoldable pub framedIn : ℕ → State → List Item → Verdict
-framedIn n s xs = framedFrom n (endedIn (s .phase) (length (s .names))) (closedIn (s .phase) (length (s .names))) xs
+framedIn n s xs = framedFrom n (endedIn (s .phase) (length (s .volumes))) (closedIn (s .phase) (length (s .volumes))) xs
 
 -- number 2 of it, or else v
 unfoldable pub framedOr : ℕ → State → List Item → Verdict → Verdict

@@ -96,8 +96,8 @@ pub record Small (x : Reading) : Type 0 where
 -- a label of a kind that is kept by its place has 80 bytes
 pub record LabelSized (k : Kind) (len : ℕ) : Type 0 where
   pub volume : isKind k (vol 1) ≡ true → len ≡ 80
-  pub first : isKind k (hdr 1) ≡ true → len ≡ 80
-  pub second : isKind k (hdr 2) ≡ true → len ≡ 80
+  pub hdr1 : isKind k (hdr 1) ≡ true → len ≡ 80
+  pub hdr2 : isKind k (hdr 2) ≡ true → len ≡ 80
 
 -- a reading behind an item of kind k at `start`, whatever volume labels were read before it, and its counts, each of at most one
 -- more
@@ -137,11 +137,11 @@ abbrev pub phased : State → Phase → State
 phased t p =
     record {
       phase = p;
-      names = t .names;
+      volumes = t .volumes;
       files = t .files;
-      goesOn = t .goesOn;
-      first = t .first;
-      second = t .second;
+      continues = t .continues;
+      hdr1 = t .hdr1;
+      hdr2 = t .hdr2;
       count = t .count;
       pending = t .pending;
     }
@@ -149,13 +149,13 @@ phased t p =
 abbrev pub inPhase : Reading → Phase → Reading
 inPhase x p =
     record {
-      first = x .first;
-      second = x .second;
+      hdr1 = x .hdr1;
+      hdr2 = x .hdr2;
       count = x .count;
       pending = x .pending;
       files = x .files;
       phase = p;
-      ongoing = x .ongoing;
+      continues = x .continues;
     }
 
 -- a turn that goes on past an item without bytes, with phase p behind it

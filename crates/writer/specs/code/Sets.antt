@@ -87,13 +87,13 @@ pub record Countable (image : Bool) (counts : List ℕ) (n : ℕ) (g : Place) : 
 -- the entry of the file at a place, which stands within so many bytes
 unfoldable pub entryAt : Bool → List ℕ → List ℕ → Place → List ℕ
 entryAt image files bytes g =
-    ifB image (fieldsFrom (part (g .file .first) 80 bytes) (part (g .file .second) 80 bytes)) (part (46 * g .nth) 46 files)
+    ifB image (fieldsFrom (part (g .file .hdr1) 80 bytes) (part (g .file .hdr2) 80 bytes)) (part (46 * g .nth) 46 files)
 
 pub record Enterable (image : Bool) (entries size : ℕ) (g : Place) : Type 0 where
   pub few : g .nth < 64
   pub listed : image ≡ false → 46 * g .nth + 46 ≤ entries
-  pub first : image ≡ true → g .file .first + 80 ≤ size
-  pub second : image ≡ true → g .file .second + 80 ≤ size
+  pub first : image ≡ true → g .file .hdr1 + 80 ≤ size
+  pub second : image ≡ true → g .file .hdr2 + 80 ≤ size
 
 -- label parts with that entry and number, and otherwise as before
 pub record LabelsEntered (labels e : List ℕ) (n : ℕ) (r : List ℕ) : Type 0 where

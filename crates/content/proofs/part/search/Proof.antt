@@ -5,11 +5,11 @@ use Rattle.content.proofs.part.search.Statement.{statement}
 use Rattle.content.proofs.part.search.Tie as tie
 
 abbrev Inv-loop : tie.InvT-loop
-Inv-loop image from sections blocks at₀ hdr1₀ phase₀ continues₀ at hdr1 phase continues =
-    Searching image from sections blocks at hdr1 phase continues
+Inv-loop image from sections blocks at₀ hdr1₀ phase₀ continues₀ at hdr1 phase resumes =
+    Searching image from sections blocks at hdr1 phase resumes
 
 abbrev μ-loop : tie.MeasureT-loop
-μ-loop image from sections blocks at₀ hdr1₀ phase₀ continues₀ at hdr1 phase continues = length image - at
+μ-loop image from sections blocks at₀ hdr1₀ phase₀ continues₀ at hdr1 phase resumes = length image - at
 
 loop-holds : tie.Need-loop-holds Inv-loop μ-loop
 loop-holds c = search searchings
@@ -47,8 +47,8 @@ part-in-requires c κs = search searchings
 first-behind-requires : tie.Need-first-behind-requires Inv-loop μ-loop
 first-behind-requires c κs = search searchings
 
-goes-on-behind-requires : tie.Need-goes-on-behind-requires Inv-loop μ-loop
-goes-on-behind-requires c κs = search searchings
+continues-behind-requires : tie.Need-continues-behind-requires Inv-loop μ-loop
+continues-behind-requires c κs = search searchings
 
 add-at : tie.Need-add-at Inv-loop μ-loop
 add-at c = search searchings
@@ -66,4 +66,4 @@ loop-again : tie.Need-loop-again Inv-loop μ-loop
 loop-again c = search searchings
 
 pub search-spec : {M : Type 1} → statement M
-search-spec = tie.close (tie.spec Inv-loop μ-loop loop-holds seen-at-requires enum-told returns enum-known-k led-to-requires enum-told-2 returns-2 enum-known-q add-start part-in-requires first-behind-requires goes-on-behind-requires add-at is-wanted-requires returns-3 loop-less loop-again)
+search-spec = tie.close (tie.spec Inv-loop μ-loop loop-holds seen-at-requires enum-told returns enum-known-k led-to-requires enum-told-2 returns-2 enum-known-q add-start part-in-requires first-behind-requires continues-behind-requires add-at is-wanted-requires returns-3 loop-less loop-again)

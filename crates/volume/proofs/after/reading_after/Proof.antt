@@ -17,8 +17,8 @@ pending-after-requires c κs = search behinds
 files-after-requires : tie.Need-files-after-requires
 files-after-requires c κs = search behinds
 
-ongoing-after-requires : tie.Need-ongoing-after-requires
-ongoing-after-requires c κs = search behinds
+continues-after-requires : tie.Need-continues-after-requires
+continues-after-requires c κs = search behinds
 
 returns : tie.Need-returns
 returns c = search behinds
@@ -32,5 +32,5 @@ reading-after-spec =
     count-after-requires
     pending-after-requires
     files-after-requires
-    ongoing-after-requires
+    continues-after-requires
     returns)

@@ -27,8 +27,8 @@ returns-2 c = search calls depth 20
 is-requires-3 : tie.Need-is-requires-3
 is-requires-3 c κs = search needs
 
-first-header-fault-requires : tie.Need-first-header-fault-requires
-first-header-fault-requires c κs = search needs
+hdr1-fault-requires : tie.Need-hdr1-fault-requires
+hdr1-fault-requires c κs = search needs
 
 returns-3 : tie.Need-returns-3
 unfolding contextFault
@@ -37,8 +37,8 @@ returns-3 c = search calls depth 20
 is-requires-4 : tie.Need-is-requires-4
 is-requires-4 c κs = search needs
 
-second-header-fault-requires : tie.Need-second-header-fault-requires
-second-header-fault-requires c κs = search needs
+hdr2-fault-requires : tie.Need-hdr2-fault-requires
+hdr2-fault-requires c κs = search needs
 
 returns-4 : tie.Need-returns-4
 unfolding contextFault
@@ -62,10 +62,10 @@ context-fault-spec =
     volume-fault-requires
     returns-2
     is-requires-3
-    first-header-fault-requires
+    hdr1-fault-requires
     returns-3
     is-requires-4
-    second-header-fault-requires
+    hdr2-fault-requires
     returns-4
     trailer-fault-requires
     returns-5)

@@ -4,8 +4,8 @@ use borrow.Author.Needs.{needs}
 use Rattle.volume.proofs.fault.file_end_fault.Statement.{statement}
 use Rattle.volume.proofs.fault.file_end_fault.Tie as tie
 
-first-trailer-fault-requires : tie.Need-first-trailer-fault-requires
-first-trailer-fault-requires c κs = search needs
+trailer1-fault-requires : tie.Need-trailer1-fault-requires
+trailer1-fault-requires c κs = search needs
 
 open-fault-requires : tie.Need-open-fault-requires
 open-fault-requires c κs = search needs
@@ -19,4 +19,4 @@ returns c = search composed
 
 pub file-end-fault-spec : {M : Type 1} → statement M
 file-end-fault-spec =
-    tie.close (tie.spec first-trailer-fault-requires open-fault-requires or-else-requires returns)
+    tie.close (tie.spec trailer1-fault-requires open-fault-requires or-else-requires returns)

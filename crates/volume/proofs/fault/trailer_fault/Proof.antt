@@ -7,8 +7,8 @@ use Rattle.volume.proofs.fault.trailer_fault.Tie as tie
 is-requires : tie.Need-is-requires
 is-requires c κs = search needs
 
-first-trailer-fault-requires : tie.Need-first-trailer-fault-requires
-first-trailer-fault-requires c κs = search needs
+trailer1-fault-requires : tie.Need-trailer1-fault-requires
+trailer1-fault-requires c κs = search needs
 
 returns : tie.Need-returns
 returns c = search calls depth 20
@@ -25,8 +25,8 @@ returns-2 c = search calls depth 20
 is-requires-3 : tie.Need-is-requires-3
 is-requires-3 c κs = search needs
 
-second-trailer-fault-requires : tie.Need-second-trailer-fault-requires
-second-trailer-fault-requires c κs = search needs
+trailer2-fault-requires : tie.Need-trailer2-fault-requires
+trailer2-fault-requires c κs = search needs
 
 returns-3 : tie.Need-returns-3
 returns-3 c = search calls depth 20
@@ -34,8 +34,8 @@ returns-3 c = search calls depth 20
 is-requires-4 : tie.Need-is-requires-4
 is-requires-4 c κs = search needs
 
-second-trailer-fault-requires-2 : tie.Need-second-trailer-fault-requires-2
-second-trailer-fault-requires-2 c κs = search needs
+trailer2-fault-requires-2 : tie.Need-trailer2-fault-requires-2
+trailer2-fault-requires-2 c κs = search needs
 
 returns-4 : tie.Need-returns-4
 returns-4 c = search calls depth 20
@@ -49,15 +49,15 @@ trailer-fault-spec =
     tie.close
     (tie.spec
     is-requires
-    first-trailer-fault-requires
+    trailer1-fault-requires
     returns
     is-requires-2
     file-end-fault-requires
     returns-2
     is-requires-3
-    second-trailer-fault-requires
+    trailer2-fault-requires
     returns-3
     is-requires-4
-    second-trailer-fault-requires-2
+    trailer2-fault-requires-2
     returns-4
     returns-5)

@@ -1,11 +1,11 @@
 use Rattle.volume.proofs.Composed.{composed}
 use Rattle.volume.proofs.Faults.{is-then}
-use Rattle.volume.specs.Fault.{secondHeaderFault}
+use Rattle.volume.specs.Fault.{hdr2Fault}
 use Rattle.base.proofs.Rules.{ifs}
 use Rattle.base.specs.Answer.{fault}
 use borrow.Author.Needs.{needs}
-use Rattle.volume.proofs.fault.second_header_fault.Statement.{statement}
-use Rattle.volume.proofs.fault.second_header_fault.Tie as tie
+use Rattle.volume.proofs.fault.hdr2_fault.Statement.{statement}
+use Rattle.volume.proofs.fault.hdr2_fault.Tie as tie
 
 unequal-section-second-requires : tie.Need-unequal-section-second-requires
 unequal-section-second-requires c κs = search needs
@@ -14,13 +14,13 @@ crossed-requires : tie.Need-crossed-requires
 crossed-requires c κs = search needs
 
 returns : tie.Need-returns
-unfolding secondHeaderFault fault
+unfolding hdr2Fault fault
 returns c = is-then _ _ _ _ (search) (search composed)
 
 returns-2 : tie.Need-returns-2
-unfolding secondHeaderFault fault
+unfolding hdr2Fault fault
 returns-2 c = search ifs
 
-pub second-header-fault-spec : {M : Type 1} → statement M
-second-header-fault-spec =
+pub hdr2-fault-spec : {M : Type 1} → statement M
+hdr2-fault-spec =
     tie.close (tie.spec unequal-section-second-requires crossed-requires returns returns-2)

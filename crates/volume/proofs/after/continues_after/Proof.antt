@@ -1,6 +1,6 @@
 use Rattle.base.proofs.Rules.{ifs}
-use Rattle.volume.proofs.after.ongoing_after.Statement.{statement}
-use Rattle.volume.proofs.after.ongoing_after.Tie as tie
+use Rattle.volume.proofs.after.continues_after.Statement.{statement}
+use Rattle.volume.proofs.after.continues_after.Tie as tie
 
 is-requires : tie.Need-is-requires
 is-requires c κs = search ifs
@@ -17,5 +17,5 @@ returns-2 c = search ifs
 returns-3 : tie.Need-returns-3
 returns-3 c = search ifs
 
-pub ongoing-after-spec : {M : Type 1} → statement M
-ongoing-after-spec = tie.close (tie.spec is-requires returns is-requires-2 returns-2 returns-3)
+pub continues-after-spec : {M : Type 1} → statement M
+continues-after-spec = tie.close (tie.spec is-requires returns is-requires-2 returns-2 returns-3)

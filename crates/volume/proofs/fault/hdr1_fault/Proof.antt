@@ -1,9 +1,9 @@
 use Rattle.volume.proofs.Composed.{composed}
 use Rattle.volume.proofs.Faults.{is-then, is-else}
-use Rattle.volume.specs.Fault.{firstHeaderFault}
+use Rattle.volume.specs.Fault.{hdr1Fault}
 use borrow.Author.Needs.{needs}
-use Rattle.volume.proofs.fault.first_header_fault.Statement.{statement}
-use Rattle.volume.proofs.fault.first_header_fault.Tie as tie
+use Rattle.volume.proofs.fault.hdr1_fault.Statement.{statement}
+use Rattle.volume.proofs.fault.hdr1_fault.Tie as tie
 
 later-place-requires : tie.Need-later-place-requires
 later-place-requires c κs = search needs
@@ -12,7 +12,7 @@ crossed-requires : tie.Need-crossed-requires
 crossed-requires c κs = search needs
 
 returns : tie.Need-returns
-unfolding firstHeaderFault
+unfolding hdr1Fault
 returns c = is-then _ _ _ _ (search) (search composed)
 
 new-file-place-requires : tie.Need-new-file-place-requires
@@ -28,11 +28,11 @@ or-else-requires : tie.Need-or-else-requires
 or-else-requires c κs = search needs
 
 returns-2 : tie.Need-returns-2
-unfolding firstHeaderFault
+unfolding hdr1Fault
 returns-2 c = is-else _ _ _ _ (search) (search composed)
 
-pub first-header-fault-spec : {M : Type 1} → statement M
-first-header-fault-spec =
+pub hdr1-fault-spec : {M : Type 1} → statement M
+hdr1-fault-spec =
     tie.close
     (tie.spec
     later-place-requires

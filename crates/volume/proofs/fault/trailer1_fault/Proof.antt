@@ -1,8 +1,8 @@
 use Rattle.volume.proofs.Composed.{composed}
-use Rattle.volume.specs.Fault.{firstTrailerFault}
+use Rattle.volume.specs.Fault.{trailer1Fault}
 use borrow.Author.Needs.{needs}
-use Rattle.volume.proofs.fault.first_trailer_fault.Statement.{statement}
-use Rattle.volume.proofs.fault.first_trailer_fault.Tie as tie
+use Rattle.volume.proofs.fault.trailer1_fault.Statement.{statement}
+use Rattle.volume.proofs.fault.trailer1_fault.Tie as tie
 
 unequal-trailer-first-requires : tie.Need-unequal-trailer-first-requires
 unequal-trailer-first-requires c κs = search needs
@@ -17,11 +17,11 @@ crossed-requires : tie.Need-crossed-requires
 crossed-requires c κs = search needs
 
 returns : tie.Need-returns
-unfolding firstTrailerFault
+unfolding trailer1Fault
 returns c = search composed
 
-pub first-trailer-fault-spec : {M : Type 1} → statement M
-first-trailer-fault-spec =
+pub trailer1-fault-spec : {M : Type 1} → statement M
+trailer1-fault-spec =
     tie.close
     (tie.spec
     unequal-trailer-first-requires
