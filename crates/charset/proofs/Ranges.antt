@@ -17,7 +17,7 @@ use Rattle.charset.specs.Class.{between, isA, classOf, allA}
 use Rattle.charset.specs.code.Table.{inRanges, Right, RightElsewhere}
 use Rattle.charset.proofs.Table.{entries, look-up}
 use Rattle.charset.proofs.Digits.{between-low, between-high}
-use Rattle.charset.proofs.Passed.{Passed, each-character, each-more}
+use Rattle.charset.proofs.Passed.{PassedUpTo, each-character, each-more}
 use Rattle.charset.proofs.Characters.{digit-character, capital-character, space-character}
 
 pub right-elsewhere : (table : List ℕ) → Right table → RightElsewhere table
@@ -64,8 +64,8 @@ looked-up table b q t s e h = t .entry b s (sym e ∙ h)
 
 -- ---- a field by its ranges
 
-pub passed-ranges : (s : List ℕ) (i : ℕ) (p : Bool) → Passed allA s i → i < length s → p ≡ inRanges (getD s i 0) → p ≡ true
-    → Passed allA s (i + 1)
+pub passed-ranges : (s : List ℕ) (i : ℕ) (p : Bool) → PassedUpTo allA s i → i < length s → p ≡ inRanges (getD s i 0) → p ≡ true
+    → PassedUpTo allA s (i + 1)
 passed-ranges s i p c h e t =
     record {
       within = omega arith;
@@ -74,7 +74,7 @@ passed-ranges s i p c h e t =
     }
 
 -- from the first byte outside them on, what is left is judged as the whole
-pub passed-rest : (s : List ℕ) (i : ℕ) (r : Bool) → Passed allA s i → r ≡ allA (take (length s - i) (drop i s)) → r ≡ allA s
+pub passed-rest : (s : List ℕ) (i : ℕ) (r : Bool) → PassedUpTo allA s i → r ≡ allA (take (length s - i) (drop i s)) → r ≡ allA s
 unfolding part
 passed-rest s i r c e = e ∙ ap allA (part-to-end i s) ∙ c .left
 

@@ -1,13 +1,13 @@
 use Prim.Native.Nat.{_-_}
 use lib.ListN.{length}
 use Rattle.charset.specs.Class.{isA, allA}
-use Rattle.charset.proofs.Passed.{Passed, passed-all, passing}
+use Rattle.charset.proofs.Passed.{PassedUpTo, passed-all, passing}
 use Rattle.charset.proofs.Ranges.{passed-ranges, passed-rest}
 use Rattle.charset.proofs.all_characters.Statement.{statement}
 use Rattle.charset.proofs.all_characters.Tie as tie
 
 abbrev Inv-loop : tie.InvT-loop
-Inv-loop s i₀ i = Passed allA s i
+Inv-loop s i₀ i = PassedUpTo allA s i
 
 abbrev μ-loop : tie.MeasureT-loop
 μ-loop s i₀ i = length s - i
