@@ -242,14 +242,7 @@ fn trailer2_fault(second: &[u8], l: &[u8]) -> Fault
 }
 
 // The fault of an item of kind k that is a trailer label; any other has none here.
-fn trailer_fault(
-    hdr1: &[u8],
-    hdr2: &[u8],
-    count: usize,
-    pending: usize,
-    k: Kind,
-    l: &[u8],
-) -> Fault
+fn trailer_fault(hdr1: &[u8], hdr2: &[u8], count: usize, pending: usize, k: Kind, l: &[u8]) -> Fault
     ensures { λ r. ⌜ r ≡ ifB (isKind k (eov 1)) (trailer1Fault (now (first .entry)) count (now (l .entry)))
         (ifB (isKind k (eof 1)) (fileEndFault (now (first .entry)) count pending (now (l .entry)))
         (ifB (isKind k (eov 2)) (trailer2Fault (now (second .entry)) (now (l .entry)))
