@@ -14,15 +14,18 @@ use Rattle.base.specs.If.{ifB}
 use Rattle.base.proofs.Ifs.{if-true, if-false, if-case}
 use Rattle.base.specs.Part.{same, allAre}
 
+-- past an element that is b, the rest decides
 pub all-more : (b : ℕ) (s : List ℕ) (i : ℕ) → i < length s → getD s i 0 ≡ b → allAre b (drop i s) ≡ allAre b (drop (i + 1) s)
 unfolding allAre
 all-more b s i h e =
     rw (drop-cons s i 0 h) (if-true _ _ _ (eq-eqb (getD s i 0) b e) ∙ ap (λ (k : ℕ). allAre b (drop k s)) (sym (add-one i)))
 
+-- an element that is not b decides
 pub all-other : (b : ℕ) (s : List ℕ) (i : ℕ) → i < length s → (getD s i 0 ≡ b → ⊥) → allAre b (drop i s) ≡ false
 unfolding allAre
 all-other b s i h e = rw (drop-cons s i 0 h) (if-false _ _ _ (ne-eqb (getD s i 0) b e))
 
+-- behind the last element nothing is left to differ
 pub all-end : (b : ℕ) (s : List ℕ) (i : ℕ) → length s ≤ i → allAre b (drop i s) ≡ true
 unfolding allAre
 all-end b s i h = rw (drop-of-length-le s h)
@@ -52,11 +55,13 @@ same-length (x ∷ s) [] h = refl
 same-length (x ∷ s) (y ∷ t) h =
     if-case (λ (b : Bool). b ≡ false) (eqb x y) (same s t) false (λ _. same-length s t (λ e. h (ap suc e))) (λ _. refl)
 
+-- a list is the same as itself
 pub same-refl : (s : List ℕ) → same s s ≡ true
 unfolding same
 same-refl [] = refl
 same-refl (x ∷ s) = if-true _ _ _ (eq-eqb x x refl) ∙ same-refl s
 
+-- lists that the test finds the same are equal
 pub same-true : (s t : List ℕ) → same s t ≡ true → s ≡ t
 unfolding same
 same-true [] [] h = refl
@@ -68,12 +73,15 @@ same-true (x ∷ s) (y ∷ t) h =
 
 -- ---- two lists compared, said of what they are equal to
 
+-- a test of two lists is that of what they are equal to
 pub same-is : (t : Bool) (p q a b : List ℕ) → t ≡ same p q → p ≡ a → q ≡ b → t ≡ same a b
 same-is t p q a b e f g = cc
 
+-- the same for the first list alone
 pub same-first : (t : Bool) (p q a : List ℕ) → t ≡ same p q → p ≡ a → t ≡ same a q
 same-first t p q a e f = cc
 
+-- the same for the second list alone
 pub same-second : (t : Bool) (p q b : List ℕ) → t ≡ same p q → q ≡ b → t ≡ same p b
 same-second t p q b e f = cc
 

@@ -19,6 +19,7 @@ use Rattle.base.proofs.Put.{put-first}
 
 -- ---- copying: what is left to put from here makes the whole
 
+-- a copy on its way: the first i of the bytes stand at their place, and nothing else has changed
 pub record Copying (old : List ℕ) (at : ℕ) (s out : List ℕ) (i : ℕ) : Type 0 where
   pub fits : at + length s ≤ length old
   pub size : length out ≡ length old
@@ -50,6 +51,7 @@ copying-more old at s out i c h =
 pub copying-all : (old : List ℕ) (at : ℕ) (s out : List ℕ) (i : ℕ) → Copying old at s out i → length s ≤ i → out ≡ putAt old at s
 copying-all old at s out i c h = sym (ap (putAt out (at + i)) (drop-of-length-le s h) ∙ put-none out (at + i)) ∙ c .left
 
+-- all that a loop which copies has to show
 pub ruleset copying = (copying-none, copying-more, copying-all, needs)
 
 -- ---- words: the bytes of one, side by side

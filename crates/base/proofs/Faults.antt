@@ -13,6 +13,7 @@ unfolding orElse
 or-first f g =
     if-case (λ (h : Fault). h .number ≡ 0 → f .number ≡ 0) (eqb (f .number) 0) g f (λ e _. eqb-true (f .number) 0 e) (λ _ q. q)
 
+-- without a fault of either, the second has none
 pub or-second : (f g : Fault) → orElse f g .number ≡ 0 → g .number ≡ 0
 unfolding orElse
 or-second f g =

@@ -18,6 +18,7 @@ unfolding value
 value-append acc [] t = refl
 value-append acc (x ∷ s) t = value-append (acc * 10 + (x - 48)) s t
 
+-- behind digits, what follows decides whether all are digits
 pub digits-append : (s t : List ℕ) → allDigits s ≡ true → allDigits (s ++ t) ≡ allDigits t
 unfolding allDigits
 digits-append [] t h = refl
@@ -25,6 +26,7 @@ digits-append (x ∷ s) t h =
     if-case (λ (b : Bool). b ≡ true → ifB (isDigit x) (allDigits (s ++ t)) false ≡ allDigits t) (isDigit x) (allDigits s) false
     (λ e q. if-true _ _ _ e ∙ digits-append s t q) (λ e q. absurd (false≢true q)) h
 
+-- a number written with w digits is w bytes long
 pub length-digits : (w n : ℕ) → length (digits w n) ≡ w
 unfolding digits
 length-digits zero n = refl

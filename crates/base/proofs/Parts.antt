@@ -12,6 +12,7 @@ use Rattle.base.specs.Part.{part, putAt}
 pub counted : (n : ℕ) (s : List ℕ) → n ≤ length s → n ≡ length (take n s)
 counted n s h = sym (length-take-le n s h)
 
+-- a part that lies inside has its length
 pub length-part : (a n : ℕ) (s : List ℕ) → a + n ≤ length s → length (part a n s) ≡ n
 unfolding part
 length-part a n s h = simp (length-take, length-drop) (omega arith)
@@ -21,6 +22,7 @@ pub part-to-end : (a : ℕ) (s : List ℕ) → part a (length s - a) s ≡ drop 
 unfolding part
 part-to-end a s = take-all (length s - a) (drop a s) (simp length-drop (omega arith))
 
+-- a part behind a places is a part a places further on
 pub part-drop : (a b n : ℕ) (s : List ℕ) → part b n (drop a s) ≡ part (a + b) n s
 unfolding part
 part-drop a b n s = ap (take n) (drop-drop b a s)
@@ -40,10 +42,12 @@ part-part a b m n s h =
 
 -- ---- one list put over another
 
+-- what is put inside leaves the length as it was
 pub length-put : (old : List ℕ) (at : ℕ) (bs : List ℕ) → at + length bs ≤ length old → length (putAt old at bs) ≡ length old
 unfolding putAt
 length-put old at bs h = simp (length-append, length-take, length-drop) (omega arith)
 
+-- putting nothing changes nothing
 pub put-none : (old : List ℕ) (at : ℕ) → putAt old at [] ≡ old
 unfolding putAt
 put-none old at = let e : at + 0 ≡ at = omega arith in simp append-nil (rw e (take-append-drop at old))
@@ -137,6 +141,7 @@ pub part-rest : (a n : ℕ) (s : List ℕ) → length s - a ≤ n → take (leng
 unfolding part
 part-rest a n s h = part-to-end a s ∙ sym (take-all n (drop a s) (simp length-drop (omega arith)))
 
+-- a part given by its two ends
 pub part-within : (a n : ℕ) (s : List ℕ) → take (a + n - a) (drop a s) ≡ part a n s
 unfolding part
 part-within a n s = let e : a + n - a ≡ n = omega arith in rw e

@@ -13,10 +13,12 @@ use lib.ListN.{length, take, drop, getD, length-append, length-drop, take-append
 use lib.Seq.{drop-cons, take-at, drop-at, length-take-le}
 use Rattle.base.specs.Sum.{sum, cutBy}
 
+-- a sum from an index on is the number there and the sum behind it
 pub sum-at : (ns : List ℕ) (i : ℕ) → i < length ns → sum (drop i ns) ≡ getD ns i 0 + sum (drop (i + 1) ns)
 unfolding sum
 sum-at ns i h = rw (add-one, drop-cons ns i 0 h)
 
+-- a sum over two lists end to end
 pub sum-append : (ms ns : List ℕ) → sum (ms ++ ns) ≡ sum ms + sum ns
 unfolding sum
 sum-append [] ns = let e : sum ns ≡ 0 + sum ns = omega arith in e
@@ -65,15 +67,18 @@ pub ruleset pieces = (taken-none, taken-more, taken-over, taken-all, needs)
 
 -- ---- lists laid end to end, and cut again by their lengths
 
+-- a function on each element leaves the number of elements as it was
 pub length-map : {A B : Type 0} (f : A → B) (xs : List A) → length (map f xs) ≡ length xs
 length-map f [] = refl
 length-map f (x ∷ xs) = ap suc (length-map f xs)
 
+-- parts laid end to end are as long as their lengths add up to
 pub sum-lengths : (xs : List (List ℕ)) → sum (map length xs) ≡ length (endToEnd xs)
 unfolding sum endToEnd
 sum-lengths [] = refl
 sum-lengths (x ∷ xs) = ap (λ (n : ℕ). length x + n) (sum-lengths xs) ∙ sym (length-append x (endToEnd xs))
 
+-- parts laid end to end, with anything behind them, are cut into the same parts by their lengths
 pub cut-back : (xs : List (List ℕ)) (s : List ℕ) → cutBy (map length xs) (endToEnd xs ++ s) ≡ xs
 unfolding cutBy endToEnd
 cut-back [] s = refl
@@ -93,6 +98,7 @@ cut-lengths (n ∷ ns) s h =
     let rest : sum ns ≤ length (drop n s) = simp length-drop (omega arith) in
     ap₂ _∷_ (length-take-le n s (omega arith)) (cut-lengths ns (drop n s) rest)
 
+-- what is cut by lengths that add up to its own is the parts end to end
 pub cut-whole : (ns s : List ℕ) → sum ns ≡ length s → endToEnd (cutBy ns s) ≡ s
 unfolding sum cutBy endToEnd
 cut-whole [] [] h = refl

@@ -181,6 +181,7 @@ variable-passes f b r o q s p e z m t =
 
 -- ---- a block of segments
 
+-- of a format that is S, the answer is that of S
 pub segments-named : (f b r o q : ℕ) (s : List ℕ) (x : Outcome) → f ≡ 83 → x ≡ blockOutcome 83 b r o q s
     → x ≡ blockOutcome f b r o q s
 segments-named f b r o q s x e h = h ∙ ap (λ (g : ℕ). blockOutcome g b r o q s) (sym e)

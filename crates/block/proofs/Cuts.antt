@@ -32,6 +32,7 @@ enough (suc k) (suc j) f r s h m =
     cut-one (unitOf f r s) s (λ t. cutF k f r t) (λ t. cutF j f r t)
     (λ i w n e. enough k j f r (drop (w + n) s) (less-behind f r s i w n k e h) (less-behind f r s i w n j e m))
 
+-- a unit at the head is cut off, and then what is behind it
 pub cut-unit : (f r : ℕ) (s : List ℕ) (i w n : ℕ) → unitOf f r s ≡ Of i w n
     → cut f r s ≡ onto (segmentOf i (part w n s)) (cut f r (drop (w + n) s))
 unfolding cut cutF cutOne
@@ -41,6 +42,7 @@ cut-unit f r s i w n e =
     (enough (length s) (suc (length (drop (w + n) s))) f r (drop (w + n) s) (less-behind f r s i w n (length s) e (omega arith))
     (omega arith))
 
+-- without a unit at the head only padding may be left
 pub cut-end : (f r : ℕ) (s : List ℕ) → unitOf f r s ≡ None → cut f r s ≡ ifB (allAre pad s) (some []) none
 unfolding cut cutF cutOne
 cut-end f r s e = ap (λ (u : Unit). cutOne u s (λ t. cutF (length s) f r t)) e

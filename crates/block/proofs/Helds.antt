@@ -35,14 +35,17 @@ use Rattle.block.proofs.Blocks.{If-cut}
 
 -- ---- the records that end with a unit
 
+-- the first segment of a record ends none
 pub ends-begun : (i : ℕ) → i ≡ 1 → endsWith i ≡ 0
 unfolding endsWith
 ends-begun i e = if-true _ _ _ (eq-eqb i 1 e)
 
+-- nor does one in its middle
 pub ends-still : (i : ℕ) → (i ≡ 1 → ⊥) → i ≡ 2 → endsWith i ≡ 0
 unfolding endsWith
 ends-still i a e = if-false _ _ _ (ne-eqb i 1 a) ∙ if-true _ _ _ (eq-eqb i 2 e)
 
+-- any other unit ends a record
 pub ends-one : (i : ℕ) → (i ≡ 1 → ⊥) → (i ≡ 2 → ⊥) → endsWith i ≡ 1
 unfolding endsWith
 ends-one i a b = if-false _ _ _ (ne-eqb i 1 a) ∙ if-false _ _ _ (ne-eqb i 2 b)

@@ -28,6 +28,7 @@ pub unit-variable : (f r : ℕ) (s : List ℕ) → f ≡ 68 → unitOf f r s ≡
 unfolding unitOf
 unit-variable f r s e = if-false _ _ _ (ne-eqb f 70 (λ h. omega arith)) ∙ if-true _ _ _ (eq-eqb f 68 e)
 
+-- the units of an S file are segments
 pub unit-segment : (f r : ℕ) (s : List ℕ) → f ≡ 83 → unitOf f r s ≡ segment s
 unfolding unitOf
 unit-segment f r s e =
@@ -150,16 +151,20 @@ begun s None k g c e z = absurd (z e)
 here : (s : List ℕ) (at k : ℕ) → k ≡ lengthOf (segment (drop at s)) → (k ≡ 0 → ⊥) → Begun (drop at s) k
 here s at k e z = begun (drop at s) (segment (drop at s)) k refl (segment-indicated (drop at s)) e z
 
+-- a segment by the number that the code found: its indicator, and what its control word leaves of its bytes
 pub segment-of : (s : List ℕ) (at k : ℕ) → k ≡ lengthOf (segment (drop at s)) → (k ≡ 0 → ⊥)
     → Of (getD s at 0 - 48) 5 (k - 5) ≡ segment (drop at s)
 segment-of s at k e z = ap (λ (b : ℕ). Of (b - 48) 5 (k - 5)) (sym (head-at s at)) ∙ here s at k e z .is
 
+-- that number counts the control word
 pub segment-least : (s : List ℕ) (at k : ℕ) → k ≡ lengthOf (segment (drop at s)) → (k ≡ 0 → ⊥) → 5 ≤ k
 segment-least s at k e z = here s at k e z .least
 
+-- such a segment begins with a digit
 pub segment-first : (s : List ℕ) (at k : ℕ) → k ≡ lengthOf (segment (drop at s)) → (k ≡ 0 → ⊥) → 48 ≤ getD s at 0
 segment-first s at k e z = let c = here s at k e z in let p = head-at s at in let l = c .low in omega arith
 
+-- and its indicator fits a register
 pub segment-fits : (s : List ℕ) (at k : ℕ) → k ≡ lengthOf (segment (drop at s)) → (k ≡ 0 → ⊥) → Fits w32 (getD s at 0 - 48)
 segment-fits s at k e z = let c = here s at k e z in let p = head-at s at in let h = c .high in omega arith
 

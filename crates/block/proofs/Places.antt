@@ -213,6 +213,7 @@ pub ruleset variables = (variable-short, variable-some, needs)
 
 -- ---- the bytes of a segment
 
+-- the first byte behind a place is the byte at the place
 pub head-at : (s : List ℕ) (at : ℕ) → getD (drop at s) 0 0 ≡ getD s at 0
 head-at s at = let zero-more : at + 0 ≡ at = omega arith in getD-drop at s 0 0 ∙ ap (λ (j : ℕ). getD s j 0) zero-more
 

@@ -82,6 +82,7 @@ unit-any f r s =
     (λ a. if-case (If-any (Stands f r (length s))) (eqb f 68) _ _ (λ b. variable-any f r s)
     (λ b. if-case (If-any (Stands f r (length s))) (eqb f 83) _ None (λ c. segment-any f r s (eqb-true f 83 c)) (λ c. refl)))
 
+-- a unit that is found at the head of some bytes lies within them
 pub unit-stands : (f r : ℕ) (s : List ℕ) (i w n : ℕ) → unitOf f r s ≡ Of i w n → Stands f r (length s) i w n
 unit-stands f r s i w n e = subst (If-any (Stands f r (length s))) e (unit-any f r s)
 

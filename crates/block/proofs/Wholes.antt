@@ -81,14 +81,17 @@ map-any : (P Q : ℕ → ℕ → ℕ → Type 0) → ((i w n : ℕ) → P i w n 
 map-any P Q g (Of i w n) c = g i w n c
 map-any P Q g None c = refl
 
+-- records of F files have no control word
 pub word-fixed : (f : ℕ) → f ≡ 70 → wordOf f ≡ 0
 unfolding wordOf
 word-fixed f e = if-true _ _ _ (eq-eqb f 70 e)
 
+-- those of D files have four bytes of it
 pub word-variable : (f : ℕ) → f ≡ 68 → wordOf f ≡ 4
 unfolding wordOf
 word-variable f e = if-false _ _ _ (ne-eqb f 70 (λ h. omega arith)) ∙ if-true _ _ _ (eq-eqb f 68 e)
 
+-- segments have five
 pub word-segmented : (f : ℕ) → f ≡ 83 → wordOf f ≡ 5
 unfolding wordOf
 word-segmented f e = if-false _ _ _ (ne-eqb f 70 (λ h. omega arith)) ∙ if-false _ _ _ (ne-eqb f 68 (λ h. omega arith))
@@ -136,5 +139,6 @@ whole-by f r (Of i w n) k c z =
     (λ a e. absurd (z e))
 whole-by f r None k c z = λ e. absurd (z e)
 
+-- a number that is not 0 tells a whole record at the head
 pub whole-unit : (f r : ℕ) (s : List ℕ) (k : ℕ) → k ≡ wholeOf r (unitOf f r s) → (k ≡ 0 → ⊥) → Whole f r (unitOf f r s) k
 whole-unit f r s k e z = whole-by f r (unitOf f r s) k (unit-worded f r s) z e

@@ -22,10 +22,12 @@ between-high a z b h = leb-true b z (and-second (leb a b) (leb b z) h)
 
 -- ---- one digit is a byte from 48 to 57
 
+-- a digit is not below `0`
 pub digit-low : (b : ℕ) → isDigit b ≡ true → 48 ≤ b
 unfolding isDigit
 digit-low b h = between-low 48 57 b h
 
+-- a digit is not above `9`
 pub digit-high : (b : ℕ) → isDigit b ≡ true → b ≤ 57
 unfolding isDigit
 digit-high b h = between-high 48 57 b h

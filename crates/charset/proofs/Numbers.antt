@@ -30,6 +30,7 @@ pub number-wrong : (s : List ℕ) → length s ≤ 9 → allDigits s ≡ false �
 unfolding numberIn
 number-wrong s h e = if-true _ _ _ (le-leb (length s) 9 h) ∙ if-false _ _ _ e
 
+-- at most nine digits are a number, with their value
 pub number-value : (s : List ℕ) → length s ≤ 9 → allDigits s ≡ true → numberIn s ≡ Value (value 0 s)
 unfolding numberIn
 number-value s h e = if-true _ _ _ (le-leb (length s) 9 h) ∙ if-true _ _ _ e
@@ -42,6 +43,7 @@ number-digits w n h k =
 
 -- ---- the size of a number: below 10 ^ i behind i digits
 
+-- one digit more, one power of ten more
 pub power-more : (n d i : ℕ) → n < 10 ^ i → d < 10 → n * 10 + d < 10 ^ (i + 1)
 power-more n d i h k = rw (add-one i, pow-suc 10 i) (omega arith)
 

@@ -14,31 +14,37 @@ use Rattle.image.specs.Byte.{Bytes}
 
 -- ---- all of some items can stand in an image
 
+-- the first of items that can stand in an image can
 pub all-first : (x : Item) (xs : List Item) → allItems (x ∷ xs) ≡ true → isItem x ≡ true
 unfolding allItems
 all-first x xs h =
     if-case (λ (b : Bool). b ≡ true → isItem x ≡ true) (isItem x) (allItems xs) false (λ e _. e) (λ _ q. absurd (false≢true q)) h
 
+-- so can those behind it
 pub all-rest : (x : Item) (xs : List Item) → allItems (x ∷ xs) ≡ true → allItems xs ≡ true
 unfolding allItems
 all-rest x xs h =
     if-case (λ (b : Bool). b ≡ true → allItems xs ≡ true) (isItem x) (allItems xs) false (λ _ q. q)
     (λ _ q. absurd (false≢true q)) h
 
+-- two rows of such items, end to end, are one
 pub all-append : (xs ys : List Item) → allItems xs ≡ true → allItems ys ≡ true → allItems (xs ++ ys) ≡ true
 unfolding allItems
 all-append [] ys h k = k
 all-append (x ∷ xs) ys h k = if-true _ _ _ (all-first x xs h) ∙ all-append xs ys (all-rest x xs h) k
 
+-- the front of such a row is one
 pub all-front : (xs ys : List Item) → allItems (xs ++ ys) ≡ true → allItems xs ≡ true
 unfolding allItems
 all-front [] ys h = refl
 all-front (x ∷ xs) ys h = if-true _ _ _ (all-first x (xs ++ ys) h) ∙ all-front xs ys (all-rest x (xs ++ ys) h)
 
+-- and so is what follows it
 pub all-back : (xs ys : List Item) → allItems (xs ++ ys) ≡ true → allItems ys ≡ true
 all-back [] ys h = h
 all-back (x ∷ xs) ys h = all-back xs ys (all-rest x (xs ++ ys) h)
 
+-- items end to end are their bytes end to end
 pub by-append : (bytes : Item → List ℕ) (xs ys : List Item) → encodeBy bytes (xs ++ ys) ≡ encodeBy bytes xs ++ encodeBy bytes ys
 unfolding encodeBy
 by-append bytes [] ys = refl
@@ -51,6 +57,7 @@ abbrev pub Less : (List ℕ → List ℕ) → Type 0
 Less rest = (x : ℕ) (xs : List ℕ) → length (rest (x ∷ xs)) ≤ length xs
 
 module _ (item : List ℕ → Item) (rest : List ℕ → List ℕ) where
+  -- no bytes are no items
   pub read-none : decodeBy item rest [] ≡ []
   unfolding decodeF
   read-none = refl
@@ -69,6 +76,7 @@ module _ (item : List ℕ → Item) (rest : List ℕ → List ℕ) where
         let fewer : length (rest (x ∷ xs)) ≤ length xs = less x xs in
         ap (λ (l : List Item). item (x ∷ xs) ∷ l) (enough f g (rest (x ∷ xs)) (omega arith) (omega arith))
 
+    -- some bytes are the item at their head and the items behind it
     pub read-more : (s : List ℕ) → 0 < length s → decodeBy item rest s ≡ item s ∷ decodeBy item rest (rest s)
     unfolding decodeF
     read-more [] h = absurd (omega arith)
@@ -117,6 +125,7 @@ module _ (item : List ℕ → Item) (rest : List ℕ → List ℕ) where
         ∙ back x (encodeBy bytes xs ++ t) (all-first x xs h)
         ∙ ap (λ (l : List Item). x ∷ l) (items-append xs t (all-rest x xs h))
 
+    -- the bytes of items are read as these items
     pub items-again : (xs : List Item) → allItems xs ≡ true → decodeBy item rest (encodeBy bytes xs) ≡ xs
     items-again xs h =
         ap (decodeBy item rest) (sym (append-nil (encodeBy bytes xs)))

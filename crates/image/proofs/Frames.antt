@@ -43,11 +43,13 @@ pub framed-block : (n r : ℕ) (closed : Bool) (bs : List ℕ) (xs : List Item) 
 unfolding framedFrom
 framed-block n r closed bs xs h = if-false _ _ _ (ne-eqb r mostReels h)
 
+-- a tape mark is passed, and leaves the reel open
 pub framed-mark : (n r : ℕ) (closed : Bool) (xs : List Item) → (r ≡ mostReels → ⊥)
     → framedFrom n r closed (mark ∷ xs) ≡ framedFrom (n + 1) r false xs
 unfolding framedFrom
 framed-mark n r closed xs h = if-false _ _ _ (ne-eqb r mostReels h)
 
+-- the end of a reel is passed, and closes it
 pub framed-reel-end : (n r : ℕ) (closed : Bool) (xs : List Item) → (r ≡ mostReels → ⊥)
     → framedFrom n r closed (reelEnd ∷ xs) ≡ framedFrom (n + 1) (r + 1) true xs
 unfolding framedFrom
@@ -60,10 +62,12 @@ pub record FramedUpTo (s : List ℕ) (whole : Verdict) (at n r : ℕ) (closed : 
   pub reels : r ≤ mostReels
   pub left : framedFrom n r closed (decode (drop at s)) ≡ whole
 
+-- it is so at the beginning
 pub walked-none : (s : List ℕ) (at n r : ℕ) (closed : Bool) → n ≤ mostImage → r ≤ mostReels
     → FramedUpTo s (framedFrom n r closed (decode (drop at s))) at n r closed
 walked-none s at n r closed c e = record { counted = omega arith; reels = e; left = refl }
 
+-- and behind a block
 pub walked-block : (s : List ℕ) (whole : Verdict) (at n r m : ℕ) (closed : Bool) (p : Shape) → FramedUpTo s whole at n r closed
     → at < length s → (r ≡ mostReels → ⊥)
     → p ≡ shape (drop at s) → p ≡ Block m → FramedUpTo s whole (at + 3 + m) (n + 1) r false
@@ -74,6 +78,7 @@ walked-block s whole at n r m closed p w h f e q =
       left = sym (ap (framedFrom n r closed) (decode-block s at m p h e q) ∙ framed-block n r closed _ _ f) ∙ w .left;
     }
 
+-- and behind a tape mark
 pub walked-mark : (s : List ℕ) (whole : Verdict) (at n r : ℕ) (closed : Bool) (p : Shape) → FramedUpTo s whole at n r closed
     → at < length s → (r ≡ mostReels → ⊥)
     → p ≡ shape (drop at s) → p ≡ Mark → FramedUpTo s whole (at + 3) (n + 1) r false
@@ -84,6 +89,7 @@ walked-mark s whole at n r closed p w h f e q =
       left = sym (ap (framedFrom n r closed) (decode-mark s at p h e q) ∙ framed-mark n r closed _ f) ∙ w .left;
     }
 
+-- and behind the end of a reel
 pub walked-reel-end : (s : List ℕ) (whole : Verdict) (at n r : ℕ) (closed : Bool) (p : Shape) → FramedUpTo s whole at n r closed
     → at < length s → (r ≡ mostReels → ⊥)
     → p ≡ shape (drop at s) → p ≡ ReelEnd → FramedUpTo s whole (at + 3) (n + 1) (r + 1) true
@@ -94,11 +100,13 @@ walked-reel-end s whole at n r closed p w h f e q =
       left = sym (ap (framedFrom n r closed) (decode-reel-end s at p h e q) ∙ framed-reel-end n r closed _ f) ∙ w .left;
     }
 
+-- a 17th reel is 2 for the whole image
 pub walked-full : (s : List ℕ) (whole : Verdict) (at n r : ℕ) (closed : Bool) (v : Verdict) → v ≡ verdict 2 n 0
     → FramedUpTo s whole at n r closed → at < length s → r ≡ mostReels → v ≡ whole
 walked-full s whole at n r closed v a w h e =
     a ∙ sym (ap (framedFrom n r closed) (decode-at s at h) ∙ framed-full n r closed _ _ e) ∙ w .left
 
+-- so is what is no item
 pub walked-broken : (s : List ℕ) (whole : Verdict) (at n r : ℕ) (closed : Bool) (p : Shape) (v : Verdict) → v ≡ verdict 2 n 0
     → FramedUpTo s whole at n r closed → at < length s
     → p ≡ shape (drop at s) → p ≡ Broken → v ≡ whole
@@ -112,6 +120,7 @@ unfolding framedFrom
 walked-closed s whole at n r closed v a w h e =
     a ∙ sym (ap (framedFrom n r closed) (decode-past s at h) ∙ if-true _ _ _ e) ∙ w .left
 
+-- and an image that ends within a reel
 pub walked-open : (s : List ℕ) (whole : Verdict) (at n r : ℕ) (closed : Bool) (v : Verdict) → v ≡ verdict 2 n 0
     → FramedUpTo s whole at n r closed → length s ≤ at → closed ≡ false → v ≡ whole
 unfolding framedFrom
@@ -171,6 +180,7 @@ pub record Framed (s : List ℕ) : Type 0 where
   pub headed : take 5 s ≡ head
   pub right : framedFrom 0 0 false (items s) .number ≡ 0
 
+-- an image with a good framing opens as one, and its items are framed
 pub framing-zero : (s : List ℕ) → framing s .number ≡ 0 → Framed s
 unfolding framing verdict
 framing-zero s =
@@ -179,6 +189,7 @@ framing-zero s =
     (λ e q. record { small = ltb-false mostImage (length s) l; headed = same-true (take 5 s) head e; right = q })
     (λ _ q. absurd (omega arith)))
 
+-- each of its items can stand in an image
 pub framing-items : (s : List ℕ) → framing s .number ≡ 0 → allItems (items s) ≡ true
 unfolding items
 framing-items s h = framed-items (drop 5 s) 0 0 false (framing-zero s h .right)
@@ -197,6 +208,7 @@ pub record OpensAs (s : List ℕ) : Type 0 where
   pub small : length s ≤ mostImage
   pub headed : take 5 s ≡ head
 
+-- what opens as an image has its head and its length
 pub opens-right : (s : List ℕ) → opens s ≡ true → OpensAs s
 unfolding opens
 opens-right s =
@@ -204,6 +216,7 @@ opens-right s =
     (λ _ q. absurd (false≢true q))
     (λ l q. record { small = ltb-false mostImage (length s) l; headed = same-true (take 5 s) head q })
 
+-- and is not over the limit
 pub opens-small : (s : List ℕ) (b : Bool) → b ≡ opens s → b ≡ true → length s ≤ mostImage
 opens-small s b e h = opens-right s (sym e ∙ h) .small
 
@@ -215,6 +228,7 @@ framing-opened s =
     (same (take 5 s) head) (λ _ q. absurd (false≢true q))
     (λ l q. if-false _ _ _ l ∙ if-true _ _ _ q)
 
+-- what does not open as an image has no good framing
 pub framing-shut : (s : List ℕ) → opens s ≡ false → framing s .number ≡ 0 → ⊥
 unfolding opens
 framing-shut s e z =

@@ -52,6 +52,7 @@ pub shape-short : (s : List ℕ) (at : ℕ) → length s - at < 3 → Broken ≡
 unfolding shape
 shape-short s at h = sym (if-false _ _ _ (lt-leb 3 (length (drop at s)) (simp length-drop h)))
 
+-- behind the end of an image stands no item
 pub shape-past : (s : List ℕ) (at : ℕ) → length s ≤ at → Broken ≡ shape (drop at s)
 shape-past s at h = shape-short s at (omega arith)
 
@@ -173,6 +174,7 @@ pub shaped : (s : List ℕ) → Shaped s (shape s)
 unfolding shape Shaped
 shaped s = if-case (Shaped s) (leb 3 (length s)) _ _ (λ h. led-shaped s (leb-true 3 (length s) h)) (λ _. tt)
 
+-- a block of n bytes stands where its shape says so
 pub block-at : (s : List ℕ) (n : ℕ) → shape s ≡ Block n → BlockAt s n
 unfolding Shaped
 block-at s n e = subst (Shaped s) e (shaped s)
@@ -198,11 +200,13 @@ pub block-fits : (s : List ℕ) (at n : ℕ) (p : Shape) → p ≡ shape (drop a
     → Fits w64 (at + 3 + n)
 block-fits s at n p e q h = let within : at + 3 + n ≤ length s = block-within s at n p e q in record { fits = omega arith }
 
+-- a tape mark ends inside the image
 pub mark-within : (s : List ℕ) (at : ℕ) (p : Shape) → p ≡ shape (drop at s) → p ≡ Mark → at + 3 ≤ length s
 mark-within s at p e q =
     let room : 3 ≤ length s - at = simp length-drop at (mark-at (drop at s) (sym e ∙ q) .whole) in
     omega arith
 
+-- so does the end of a reel
 pub reel-end-within : (s : List ℕ) (at : ℕ) (p : Shape) → p ≡ shape (drop at s) → p ≡ ReelEnd → at + 3 ≤ length s
 reel-end-within s at p e q =
     let room : 3 ≤ length s - at = simp length-drop at (reel-end-at (drop at s) (sym e ∙ q) .whole) in
@@ -238,6 +242,7 @@ decode-shape : (s : List ℕ) (at : ℕ) (p : Shape) → at < length s → shape
     → decode (drop at s) ≡ itemOf p (drop at s) ∷ decode (behind p (drop at s))
 decode-shape s at p h e = decode-at s at h ∙ ap (λ (q : Shape). itemOf q (drop at s) ∷ decode (behind q (drop at s))) e
 
+-- at a block: its bytes, and the items behind it
 pub decode-block : (s : List ℕ) (at n : ℕ) (p : Shape) → at < length s → p ≡ shape (drop at s) → p ≡ Block n
     → decode (drop at s) ≡ block (part (at + 3) n s) ∷ decode (drop (at + 3 + n) s)
 unfolding itemOf
@@ -245,17 +250,20 @@ decode-block s at n p h e q =
     decode-shape s at (Block n) h (sym e ∙ q)
     ∙ ap₂ (λ (bs l : List ℕ). block bs ∷ decode l) (part-drop at 3 n s) (behind-block s at n)
 
+-- at a tape mark: the mark, and the items behind it
 pub decode-mark : (s : List ℕ) (at : ℕ) (p : Shape) → at < length s → p ≡ shape (drop at s) → p ≡ Mark
     → decode (drop at s) ≡ mark ∷ decode (drop (at + 3) s)
 unfolding itemOf
 decode-mark s at p h e q = decode-shape s at Mark h (sym e ∙ q) ∙ ap (λ (l : List ℕ). mark ∷ decode l) (behind-mark s at)
 
+-- at the end of a reel: that end, and the items behind it
 pub decode-reel-end : (s : List ℕ) (at : ℕ) (p : Shape) → at < length s → p ≡ shape (drop at s) → p ≡ ReelEnd
     → decode (drop at s) ≡ reelEnd ∷ decode (drop (at + 3) s)
 unfolding itemOf
 decode-reel-end s at p h e q =
     decode-shape s at ReelEnd h (sym e ∙ q) ∙ ap (λ (l : List ℕ). reelEnd ∷ decode l) (behind-reel-end s at)
 
+-- where no item stands, nothing is read behind
 pub decode-broken : (s : List ℕ) (at : ℕ) (p : Shape) → at < length s → p ≡ shape (drop at s) → p ≡ Broken
     → decode (drop at s) ≡ broken ∷ []
 unfolding itemOf

@@ -32,9 +32,11 @@ use Rattle.image.proofs.Items.{left-less, decode-more, BlockAt, WordAt,
 pub bytes-given : (s : List ℕ) → ((i : ℕ) → Fits w8 (getD s i 0)) → Bytes s
 bytes-given s f = λ i. f i .fits
 
+-- behind some bytes are bytes
 pub bytes-drop : (n : ℕ) (s : List ℕ) → Bytes s → Bytes (drop n s)
 bytes-drop n s b i = subst (λ (k : ℕ). k < 256) (sym (getD-drop n s i 0)) (b (n + i))
 
+-- and before some
 pub bytes-take : (n : ℕ) (s : List ℕ) → Bytes s → Bytes (take n s)
 bytes-take zero s b i = omega arith
 bytes-take (suc n) [] b i = omega arith
@@ -43,6 +45,7 @@ bytes-take (suc n) (x ∷ s) b (suc i) = bytes-take n s (λ j. b (suc j)) i
 
 -- ---- items one behind the other
 
+-- items end to end are their bytes end to end
 pub encode-append : (xs ys : List Item) → encode (xs ++ ys) ≡ encode xs ++ encode ys
 unfolding encode
 encode-append = by-append bytesOf
@@ -167,10 +170,12 @@ encode-decode =
 
 -- ---- whole images
 
+-- an image made of items holds these items
 pub items-image : (xs : List Item) → allItems xs ≡ true → items (head ++ encode xs) ≡ xs
 unfolding items
 items-image xs h = decode-encode xs h
 
+-- an image with a good framing is made of its items
 pub image-items : (s : List ℕ) → Bytes s → framing s .number ≡ 0 → head ++ encode (items s) ≡ s
 unfolding items
 image-items s b h =

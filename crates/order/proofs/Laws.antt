@@ -130,10 +130,12 @@ kind-is a b h =
 
 -- ---- what holds of all that is due
 
+-- a claim on every turn of a list
 abbrev pub Each : (Kind → Phase → Type 0) → List DueItem → Type 0
 Each P [] = Unit {0}
 Each P (t ∷ ts) = P (t .item) (t .phase) × Each P ts
 
+-- with a first turn and those of labels up to the ninth
 pub nine : (P : Kind → Phase → Type 0) (n : ℕ) (t : DueItem) (ts : List DueItem) → P (t .item) (t .phase) → Each P ts
     → Each P (upToNine n t ts)
 unfolding upToNine

@@ -27,6 +27,7 @@ pub data Stage : Type 0 where
   fileOver : Stage
   reelOver : Stage
 
+-- the stage of a phase
 abbrev pub stage : Phase → Stage
 stage Reel = before
 stage (Volume n) = before
@@ -81,6 +82,7 @@ Numbered Accepted = Unit {0}
 
 -- ---- moves
 
+-- a kind of item that begins or ends no file, section or image, and is no data
 pub record Quiet (k : Kind) : Type 0 where
   pub hdr1 : isKind k (hdr 1) ≡ false
   pub hdr2 : isKind k (hdr 2) ≡ false
@@ -206,6 +208,7 @@ moves ReelClosed h = (record { move = nextReel quiet-reel; numbered = tt }, tt)
 moves Over h = (record { move = finish; numbered = tt }, tt)
 moves Accepted h = tt
 
+-- an item that is due goes from stage to stage in one of the nine ways
 pub due-goes : (p : Phase) (k : Kind) (q : Phase) → Numbered p → dueAfter p k ≡ To q → Goes p k q
 unfolding dueAfter
 due-goes p k q h e = chosen (Goes p) (dues p) k q (moves p h) e

@@ -210,6 +210,7 @@ wrote-wrote {most = most} o a xs p r ys q s w v =
           ∙ put-put o a xs ys (omega (arith, w .place, v .place));
     }
 
+-- for a function that writes one thing behind the other
 pub ruleset writes = (wrote-wrote, put-wrote, needs)
 
 -- four of them
@@ -229,6 +230,7 @@ pub ruleset sames = (wrote-same, needs)
 
 -- ---- a refusal
 
+-- a refusal answers with its number, and leaves the buffer as it was
 pub answers-refused : (n : ℕ) (out : List ℕ) → Answers (refused n out) (refusalOf n) out
 unfolding refused refusalOf
 answers-refused n out = record { said = refl; len = refl; out = refl }

@@ -194,10 +194,12 @@ Owed f r zero rs = legalRecords f r rs ≡ true
 Owed f r (suc n) [] = ⊥
 Owed f r (suc n) (y ∷ ys) = (n + length y ≤ r) × (legalRecords f r ys ≡ true)
 
+-- a segment that is in its turn: which of them it may be, and that it fits
 pub data InTurn (r o i n : ℕ) : Type 0 where
   starts : i ≤ 1 → o ≡ 0 → n ≤ r → InTurn r o i n
   follows : 2 ≤ i → 1 ≤ o → o - 1 + n ≤ r → InTurn r o i n
 
+-- a segment that passes the test of turns is in its turn
 pub in-turn : (r o : ℕ) (head : Bool) (i n : ℕ) → isTurn r o head i n ≡ true → InTurn r o i n
 unfolding isTurn
 in-turn r o head i n =

@@ -58,6 +58,7 @@ module _ (f s : List ℕ) (lf : length f ≡ 80) (ls : length s ≡ 80) where
   length-dates : length (part 35 18 f) ≡ 18
   length-dates = length-part 35 18 f (omega arith)
 
+  -- the fields of a file are 46 bytes
   pub length-entry : length (fieldsFrom f s) ≡ 46
   unfolding fieldsFrom
   length-entry =
@@ -66,6 +67,7 @@ module _ (f s : List ℕ) (lf : length f ≡ 80) (ls : length s ≡ 80) where
       let z : length (part 4 11 s) ≡ 11 = length-part 4 11 s (omega arith) in
       simp length-append (omega arith)
 
+  -- its identifier stands in front, as HDR1 has it
   pub entry-name : (a n : ℕ) → a + n ≤ 17 → part a n (fieldsFrom f s) ≡ part (4 + a) n f
   unfolding fieldsFrom
   entry-name a n h =
@@ -80,6 +82,7 @@ module _ (f s : List ℕ) (lf : length f ≡ 80) (ls : length s ≡ 80) where
       ∙ part-left (part 35 18 f) (part 4 11 s) a n (omega arith)
       ∙ part-part 35 a n 18 f h
 
+  -- its format and lengths stand behind, as HDR2 has them
   pub entry-second : (a n : ℕ) → a + n ≤ 11 → part (17 + (18 + a)) n (fieldsFrom f s) ≡ part (4 + a) n s
   unfolding fieldsFrom
   entry-second a n h =

@@ -61,6 +61,7 @@ end-stage eof1 e = absurd (eqb-false 5 11 refl (ap (λ (k : Kind). k .family) e)
 end-stage eov1 e = absurd (eqb-false 6 11 refl (ap (λ (k : Kind). k .family) e))
 end-stage finish e = refl
 
+-- an image may end only where a file is over
 pub image-end : (p : Phase) → Numbered p → isDue (dueAfter p endOfImage) ≡ true → stage p ≡ fileOver
 unfolding isDue
 image-end p n = by-due (dueAfter p endOfImage) refl
@@ -76,11 +77,13 @@ pub record Kept (s : State) : Type 0 where
   pub numbered : Numbered (s .phase)
   pub holds : Holds (stage (s .phase)) (view s)
 
+-- before the first item all is kept
 pub kept-start : Kept start
 unfolding start
 kept-start =
     record { numbered = tt; holds = record { few = omega arith; idle = λ _. refl; some = λ on. absurd (false≢true on) } }
 
+-- and behind each item without fault
 pub kept-step : (s : State) (x : Item) (p : Phase) → Kept s → Faultless s x p → Kept (stateBehind s x p)
 unfolding stateAfter
 kept-step s x p h f =

@@ -47,6 +47,7 @@ pub record View : Type 0 where
 abbrev pub viewOf : ℕ → Bool → List ℕ → List ℕ → ℕ → View
 viewOf n g f s q = record { files = n; continues = g; hdr1 = f; hdr2 = s; pending = q }
 
+-- what the stages look at of a state
 abbrev pub view : State → View
 view s = viewOf (s .files) (s .continues) (s .hdr1) (s .hdr2) (s .pending)
 
@@ -81,6 +82,7 @@ pub record ReelOver (v : View) : Type 0 where
   pub within : Within v
   pub on : v .continues ≡ true
 
+-- what is true at each stage
 abbrev pub Holds : Stage → View → Type 0
 Holds before v = Outside v
 Holds named v = Named v

@@ -20,6 +20,7 @@ use Rattle.reading.proofs.Stages.{View, view, viewOf, Holds, Promised, 
 
 -- ---- a quiet item changes nothing that the meaning hangs on, and hands out nothing
 
+-- a quiet kind changes nothing of it
 pub view-quiet : (s : State) (q : Phase) (k : Kind) (l : List ℕ) → Quiet k → view (stateAfter s q k l) ≡ view s
 unfolding stateAfter filesAfter continuesAfter hdr1After hdr2After pendingAfter
 view-quiet s q k l c =
@@ -30,16 +31,19 @@ view-quiet s q k l c =
     let pending : pendingAfter s k l ≡ s .pending = if-false _ _ _ (c .datum) in
     λ i. viewOf (files i) (goes-on i) (first i) (second i) (pending i)
 
+-- and hands out nothing
 pub events-quiet : (s : State) (k : Kind) (l : List ℕ) → Quiet k → eventsOf s k l ≡ []
 unfolding eventsOf
 events-quiet s k l c = if-false _ _ _ (c .datum) ∙ if-false _ _ _ (c .hdr2)
 
 -- ---- an item without fault has no fault by itself, and none against what was read before it
 
+-- an item without fault has no fault of its label
 pub label-none : (s : State) (k : Kind) (l : List ℕ) → itemFault s k l .number ≡ 0 → labelFault k l .number ≡ 0
 unfolding itemFault
 label-none s k l h = or-first (labelFault k l) (contextFault s k l) h
 
+-- and none against what was read before
 pub context-none : (s : State) (k : Kind) (l : List ℕ) → itemFault s k l .number ≡ 0 → contextFault s k l .number ≡ 0
 unfolding itemFault
 context-none s k l h = or-second (labelFault k l) (contextFault s k l) h

@@ -45,10 +45,12 @@ parts-enough (suc k) (suc j) w (x ∷ s) z h l =
     let e = length-drop w (x ∷ s) in
     ap (λ (r : List (List ℕ)). take w (x ∷ s) ∷ r) (parts-enough k j w (drop w (x ∷ s)) z (omega arith) (omega arith))
 
+-- nothing is cut into no parts
 pub parts-none : (w : ℕ) → inParts w [] ≡ []
 unfolding inParts inPartsF
 parts-none w = refl
 
+-- the first part, and the parts of the rest
 pub parts-some : (w : ℕ) (s : List ℕ) → 0 < w → 0 < length s → inParts w s ≡ take w s ∷ inParts w (drop w s)
 unfolding inParts inPartsF
 parts-some w [] z h = absurd (omega arith)

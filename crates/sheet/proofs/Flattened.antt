@@ -110,6 +110,7 @@ entries-long set (d ∷ ds) h =
     let t = both _ (legalFiles set ds) h in
     if-true _ _ _ (entry-long set (d .fields) (both (legalEntry set (d .fields)) _ (t .0) .0)) ∙ entries-long set ds (t .1)
 
+-- names that are legal have six bytes each
 pub names-long : (used ns : List (List ℕ)) → freshNames used ns ≡ true → allLong 6 ns ≡ true
 unfolding freshNames allLong
 names-long used [] h = refl

@@ -33,6 +33,7 @@ use Rattle.simh.proofs.RoundTrip.{decode-encode, encode-decode}
 
 -- ---- what number 0 says, in
 
+-- tape files that were taken in: their image, in the buffer and within the limit
 pub record In (tape lengths out : List ℕ) (r : Result) : Type 0 where
   pub sound : Convertible tape lengths
   pub small : length (imageOf tape lengths) ≤ mostImage
@@ -42,6 +43,7 @@ pub record In (tape lengths out : List ℕ) (r : Result) : Type 0 where
 front : (xs o : List ℕ) → take (length xs) (xs ++ drop (length xs) o) ≡ xs
 front xs o = take-append-seam xs (drop (length xs) o)
 
+-- so it is where the number is 0
 pub from-zero : (tape lengths out : List ℕ) → fromSimh tape lengths out .verdict .number ≡ 0
     → In tape lengths out (fromSimh tape lengths out)
 unfolding fromSimh refusedWith placed refused verdict imageIn
@@ -81,6 +83,7 @@ from-done tape lengths out s m r =
 
 -- ---- and out
 
+-- an image that was handed out: its files and their lengths, in the two buffers
 pub record Out (s : List ℕ) (c : Converted) : Type 0 where
   pub framed : framing s .number ≡ 0
   pub done : c .verdict ≡ verdict 0 0 0
@@ -110,6 +113,7 @@ short-number fs out lens e q =
     let ten : stored fs out lens .verdict .number ≡ 10 = ap (λ (c : Converted). c .verdict .number) (if-false _ _ _ e) in
     omega arith
 
+-- so it is where the number is 0
 pub to-zero : (s out lens : List ℕ) → toSimh s out lens .verdict .number ≡ 0 → Out s (toSimh s out lens)
 unfolding toSimh kept verdict
 to-zero s out lens =
@@ -147,6 +151,7 @@ module _ (s : List ℕ) (f : framing s .number ≡ 0) where
   reeled : Reeled 0 false (items s)
   reeled = framed-reels (items s) 0 0 false (omega arith) (framing-zero s f .right)
 
+  -- the files of an image are read as its reels
   pub files-read : reelsIn (endToEnd (filesOf s)) (map length (filesOf s)) ≡ reelsOf (items s)
   unfolding reelsIn filesOf
   files-read =
@@ -217,10 +222,12 @@ module _ (tape lengths : List ℕ) (x : Convertible tape lengths) where
   unfolding reelsIn
   right = all-right (cutBy lengths tape) close
 
+  -- the image of tape files holds their items
   pub converted-items : items (imageOf tape lengths) ≡ endToEnd (reelsIn tape lengths)
   unfolding imageOf
   converted-items = items-image (endToEnd (reelsIn tape lengths)) right
 
+  -- and is well framed
   pub converted-framing : length (imageOf tape lengths) ≤ mostImage → framing (imageOf tape lengths) ≡ verdict 0 0 0
   unfolding imageOf isFew reelsIn
   converted-framing m =
@@ -280,6 +287,7 @@ files-few : (s : List ℕ) → framing s .number ≡ 0 → length (filesOf s) �
 unfolding filesOf
 files-few s f = omega (arith, length-map encode (reelsOf (items s)), reeled s f .few)
 
+-- a buffer that is always long enough for an image
 pub room-in : (tape lengths out : List ℕ) → Bytes tape → tapeVerdict tape lengths .number ≡ 0 → length (imageOf tape lengths) ≤ mostImage
     → 5 + length tape ≤ length out → fromSimh tape lengths out .verdict ≡ verdict 0 0 0
 room-in tape lengths out b z m r = from-done tape lengths out sound m (omega (arith, shorter, whole)) .done
@@ -293,6 +301,7 @@ room-in tape lengths out b z m r = from-done tape lengths out sound m (omega (ar
     shorter : length (imageOf tape lengths) ≤ 5 + length (encode (endToEnd (reelsIn tape lengths)))
     shorter = image-within tape lengths
 
+-- buffers that are always long enough for tape files
 pub room-out : (s out lens : List ℕ) → Bytes s → framing s .number ≡ 0 → 5 * length s / 2 ≤ length out → 16 ≤ length lens
     → toSimh s out lens .verdict ≡ verdict 0 0 0
 room-out s out lens b f r l = to-done s out lens f (omega (arith, longer, size, long)) (omega (arith, count)) .done

@@ -84,6 +84,7 @@ unfolding endToEnd onFirst
 first-joined x [] = refl
 first-joined x (r ∷ rs) = refl
 
+-- the reels of some items, end to end, are these items
 pub reels-joined : (xs : List Item) → endToEnd (reelsOf xs) ≡ xs
 unfolding endToEnd reelsOf
 reels-joined [] = refl

@@ -76,6 +76,7 @@ unfolding Ends further
 further-ends es (ended fs) h = tt
 further-ends es (stopped k i b) h = h
 
+-- where no item has a fault, reading comes to its end
 pub all-ends : (s : State) (xs : List Item) → All MayEnd s xs → Ends (runs s xs)
 unfolding runs next Ends
 all-ends s [] h = subst Ends (sym (if-true (isDue (dueAfter (s .phase) endOfImage)) (ended []) (stopped 3 0 0) h)) tt

@@ -38,6 +38,7 @@ sound-zero : (k : Rattle.order.specs.declared.Kind.Kind) (l : List ℕ) → isS
 unfolding isSound
 sound-zero k l h = eqb-true _ 0 h
 
+-- a legal entry has what HDR1 asks
 pub legal-first : (set e : List ℕ) → legalEntry set e ≡ true → GoodFirst set e
 unfolding legalEntry
 legal-first set e =
@@ -46,6 +47,7 @@ legal-first set e =
     (λ b. both (isSound (labelFault (hdr 1) (madeFirst HDR1 set e 1 1 0))) _
     (λ c d. good-first set e (eqb-true _ _ a) (eqb-true _ _ b) (sound-zero (hdr 1) _ c))))
 
+-- and what HDR2 asks
 pub legal-second : (set e : List ℕ) → legalEntry set e ≡ true → GoodSecond e
 unfolding legalEntry
 legal-second set e =
@@ -103,6 +105,7 @@ format-one e =
     go false false true p q r h = isS (byte 83 r)
     go false false false p q r h = absurd (false≢true h)
 
+-- its lengths suit its format
 pub suited : (e : List ℕ) → GoodSecond e → Suited (formatFrom e) (blockLengthFrom e) (recordLengthFrom e)
 unfolding blockLengthFrom recordLengthFrom
 suited e g =

@@ -324,6 +324,7 @@ read-last names files f s c r h =
       framed = λ n closed. if-false _ _ _ (not-full r h);
     }
 
+-- a legal first file: its entry, its records, and the files behind it
 pub legal-file : {A : Type 0} (set : List ℕ) (d : File) (ds : List File) → legalFiles set (d ∷ ds) ≡ true
     → (legalEntry set (d .fields) ≡ true
     → legalRecords (formatFrom (d .fields)) (recordLengthFrom (d .fields)) (d .records) ≡ true

@@ -58,6 +58,7 @@ segment-some b u n k e h d = omega arith
 segment-room : (b u n k : ℕ) → k ≡ min n (min (b - u - 5) 9994) → u + 5 + min 1 n ≤ b → (k ≡ n → ⊥) → 6 ≤ b
 segment-room b u n k e h d = omega arith
 
+-- what it means that a record enters a block
 pub entered : (f b u n : ℕ) → enters f b u n ≡ true → Entered f b u n
 entered f b u n h = by-test (eqb f 83) segmented whole
   where
@@ -206,6 +207,7 @@ pub blocks-finished : (f b : ℕ) → blocksLeft f b finished ≡ []
 unfolding blocksLeft blocksF weight
 blocks-finished f b = refl
 
+-- the blocks of what is left: one that is filled, and those behind it
 pub blocks-going : (f b t : ℕ) (x : List ℕ) (xs : List (List ℕ)) → RoomEach f b (x ∷ xs)
     → blocksLeft f b (going t x xs) ≡ fill f b 0 t x xs ∷ blocksLeft f b (after f b 0 t x xs)
 unfolding blocksLeft blocksF weight weights

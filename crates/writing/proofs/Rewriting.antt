@@ -18,6 +18,7 @@ pub record LegalReels (quota : ℕ) (names : List ℕ) : Type 0 where
   pub room : legalQuota quota ≡ true
   pub named : legalNames (inParts 6 names) ≡ true
 
+-- reels that have no number are legal
 pub reels-legal : (quota : ℕ) (names : List ℕ) → reelsNumber quota names ≡ 0 → LegalReels quota names
 unfolding reelsNumber
 reels-legal quota names =
@@ -38,6 +39,7 @@ reels-legal quota names =
     eleven : _≡_ {A = ℕ} 11 0 → ⊥
     eleven h = omega arith
 
+-- an accepted image makes a legal sheet
 pub image-legal : (s : List ℕ) (quota : ℕ) (names : List ℕ) → imageVerdict s .number ≡ 0 → reelsNumber quota names ≡ 0
     → legalSheet (sheetFrom s quota names) ≡ true
 unfolding sheetFrom

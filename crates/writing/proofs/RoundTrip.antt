@@ -40,6 +40,7 @@ use Rattle.writing.proofs.Laying.{read-label, ReadToEnd, IsLaid, ends-p
 
 -- ---- what a legal sheet says
 
+-- what a legal sheet is, by its parts
 pub record LegalSheet (s : Sheet) : Type 0 where
   pub some : 1 ≤ s .quota
   pub most : s .quota ≤ 999999
@@ -62,6 +63,7 @@ legal-meaning m h k =
     both (leb 1 (length (m .files))) _
     (λ one f. both (leb (length (m .files)) mostFiles) _ (λ few files. k (leb-true _ _ one) (leb-true _ _ few) files) f) h
 
+-- a sheet that passes the test is one
 pub legal-sheet : (s : Sheet) → legalSheet s ≡ true → LegalSheet s
 unfolding legalQuota legalNames
 legal-sheet s h =

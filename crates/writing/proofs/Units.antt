@@ -136,6 +136,7 @@ control-S f i k e =
     let another : f ≡ 68 → ⊥ = λ q. omega arith in
     if-false _ _ _ (ne-eqb f 70 other) ∙ if-false _ _ _ (ne-eqb f 68 another)
 
+-- a control word has the bytes that its format asks
 pub length-control : (f i k : ℕ) → length (controlWord f i k) ≡ wordOf f
 unfolding controlWord wordOf
 length-control f i k =
@@ -152,6 +153,7 @@ indicator-small t k n =
     (λ _. if-case (λ (i : ℕ). i ≤ 3) (eqb t 0) 0 3 (λ _. omega arith) (λ _. omega arith))
     (λ _. if-case (λ (i : ℕ). i ≤ 3) (eqb t 0) 1 2 (λ _. omega arith) (λ _. omega arith))
 
+-- a record that is one segment has indicator 0
 pub indicator-whole : (t k n : ℕ) → t ≡ 0 → k ≡ n → indicatorOf t k n ≡ 0
 unfolding indicatorOf
 indicator-whole t k n e h = if-true _ _ _ (eq-eqb k n h) ∙ if-true _ _ _ (eq-eqb t 0 e)
@@ -162,6 +164,7 @@ pub length-taken : (f b u : ℕ) (x : List ℕ) → enters f b u (length x) ≡ 
     → length (take (taken f b u (length x)) x) ≡ taken f b u (length x)
 length-taken f b u x h = length-take-le _ x (entered f b u (length x) h .most)
 
+-- a unit is its control word and what it takes of its record
 pub length-unit : (f b u t : ℕ) (x : List ℕ) → enters f b u (length x) ≡ true
     → length (unitIn f b u t x) ≡ wordOf f + taken f b u (length x)
 unfolding unitIn
