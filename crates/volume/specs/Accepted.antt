@@ -92,4 +92,4 @@ pub record Placed (number byte : ℕ) : Type 0 where
   pub known : number ≤ 9
   pub field : 4 ≤ number → number ≤ 6 → 1 ≤ byte
   pub before : number < 4 → byte ≡ 0
-  pub stateBehind : 6 < number → byte ≡ 0
+  pub behind : 6 < number → byte ≡ 0

@@ -79,11 +79,11 @@ fn pending_after(
     start: usize,
     len: usize,
 ) -> usize
-    ensures { λ r. ⌜ r ≡ ifB (isKind k dataBlock) (outcomeIn (labelAt (now (image .entry)) second) pending (part start len (now (image .entry))) .pending) pending ⌝ }
+    ensures { λ r. ⌜ r ≡ ifB (isKind k dataBlock) (outcomeIn (labelAt (now (image .entry)) hdr2) pending (part start len (now (image .entry))) .pending) pending ⌝ }
 {
     if is(k, DATA_BLOCK, 0) {
         let o = outcome_in(
-            part_of(image, second, 80),
+            part_of(image, hdr2, 80),
             pending,
             part_of(image, start, len),
         );

@@ -127,20 +127,20 @@ fn volume_fault(image: &[u8], names: &[usize], l: &[u8]) -> Fault
 }
 
 // Whether a new file has the set identifier of the file before, where there is one.
-fn is_same_set(files: u32, first: &[u8], l: &[u8]) -> bool
-    ensures { λ r. ⌜ r ≡ ifB (eqb files 0) true (same (setOf (now (l .entry))) (setOf (now (first .entry)))) ⌝ }
+fn is_same_set(files: u32, hdr1: &[u8], l: &[u8]) -> bool
+    ensures { λ r. ⌜ r ≡ ifB (eqb files 0) true (same (setOf (now (l .entry))) (setOf (now (hdr1 .entry)))) ⌝ }
 {
     if files == 0 {
         return true;
     }
-    equal(set_of(l), set_of(first))
+    equal(set_of(l), set_of(hdr1))
 }
 
 // The BP at which the first HDR1 of a file is wrong against the file before, or 0.
-fn new_file_place(files: u32, first: &[u8], l: &[u8]) -> u32
-    ensures { λ r. ⌜ r ≡ newFilePlace files (now (first .entry)) (now (l .entry)) ⌝ }
+fn new_file_place(files: u32, hdr1: &[u8], l: &[u8]) -> u32
+    ensures { λ r. ⌜ r ≡ newFilePlace files (now (hdr1 .entry)) (now (l .entry)) ⌝ }
 {
-    if is_same_set(files, first, l) {
+    if is_same_set(files, hdr1, l) {
         if says(1, section_of(l)) {
             if says(files as u64 + 1, sequence_of(l)) {
                 return 0;
@@ -153,10 +153,10 @@ fn new_file_place(files: u32, first: &[u8], l: &[u8]) -> u32
 }
 
 // The BP of the section number, where it is not one higher than in the section before, or 0.
-fn section_place(first: &[u8], l: &[u8]) -> u32
-    ensures { λ r. ⌜ r ≡ ifB (says (valueOf (sectionOf (now (first .entry))) + 1) (sectionOf (now (l .entry)))) 0 28 ⌝ }
+fn section_place(hdr1: &[u8], l: &[u8]) -> u32
+    ensures { λ r. ⌜ r ≡ ifB (says (valueOf (sectionOf (now (hdr1 .entry))) + 1) (sectionOf (now (l .entry)))) 0 28 ⌝ }
 {
-    let before = value_of(section_of(first)) as u64;
+    let before = value_of(section_of(hdr1)) as u64;
     if says(before + 1, section_of(l)) {
         return 0;
     }
@@ -164,10 +164,10 @@ fn section_place(first: &[u8], l: &[u8]) -> u32
 }
 
 // The BP at which HDR1 of a later section is wrong against the section before, or 0.
-fn later_place(first: &[u8], l: &[u8]) -> u32
-    ensures { λ r. ⌜ r ≡ laterPlace (now (first .entry)) (now (l .entry)) ⌝ }
+fn later_place(hdr1: &[u8], l: &[u8]) -> u32
+    ensures { λ r. ⌜ r ≡ laterPlace (now (hdr1 .entry)) (now (l .entry)) ⌝ }
 {
-    lower(unequal_section_first(first, l), section_place(first, l))
+    lower(unequal_section_first(hdr1, l), section_place(hdr1, l))
 }
 
 // The fault of a file behind that many others: the 65th is refused.
@@ -181,21 +181,21 @@ fn file_fault(files: u32) -> Fault
 }
 
 // The fault of HDR1, of a later section or of a new file.
-fn hdr1_fault(continues: bool, files: u32, first: &[u8], l: &[u8]) -> Fault
-    ensures { λ r. ⌜ r ≡ hdr1Fault continues files (now (first .entry)) (now (l .entry)) ⌝ }
+fn hdr1_fault(continues: bool, files: u32, hdr1: &[u8], l: &[u8]) -> Fault
+    ensures { λ r. ⌜ r ≡ hdr1Fault continues files (now (hdr1 .entry)) (now (l .entry)) ⌝ }
 {
     if continues {
-        return crossed(later_place(first, l));
+        return crossed(later_place(hdr1, l));
     }
-    or_else(crossed(new_file_place(files, first, l)), file_fault(files))
+    or_else(crossed(new_file_place(files, hdr1, l)), file_fault(files))
 }
 
 // The fault of HDR2, which a later section has as the section before.
-fn hdr2_fault(continues: bool, second: &[u8], l: &[u8]) -> Fault
-    ensures { λ r. ⌜ r ≡ hdr2Fault continues (now (second .entry)) (now (l .entry)) ⌝ }
+fn hdr2_fault(continues: bool, hdr2: &[u8], l: &[u8]) -> Fault
+    ensures { λ r. ⌜ r ≡ hdr2Fault continues (now (hdr2 .entry)) (now (l .entry)) ⌝ }
 {
     if continues {
-        return crossed(unequal_section_second(second, l));
+        return crossed(unequal_section_second(hdr2, l));
     }
     Fault { number: 0, byte: 0 }
 }
@@ -211,10 +211,10 @@ fn count_place(count: usize, l: &[u8]) -> u32
 }
 
 // The fault of EOV1 or EOF1 against the HDR1 and the blocks of its section.
-fn trailer1_fault(first: &[u8], count: usize, l: &[u8]) -> Fault
-    ensures { λ r. ⌜ r ≡ trailer1Fault (now (first .entry)) count (now (l .entry)) ⌝ }
+fn trailer1_fault(hdr1: &[u8], count: usize, l: &[u8]) -> Fault
+    ensures { λ r. ⌜ r ≡ trailer1Fault (now (hdr1 .entry)) count (now (l .entry)) ⌝ }
 {
-    crossed(lower(unequal_trailer_first(first, l), count_place(count, l)))
+    crossed(lower(unequal_trailer_first(hdr1, l), count_place(count, l)))
 }
 
 // The fault of a file that ends with a record open.
@@ -228,56 +228,56 @@ fn open_fault(pending: usize) -> Fault
 }
 
 // The fault of EOF1: that of a first trailer label, then an open record.
-fn file_end_fault(first: &[u8], count: usize, pending: usize, l: &[u8]) -> Fault
-    ensures { λ r. ⌜ r ≡ fileEndFault (now (first .entry)) count pending (now (l .entry)) ⌝ }
+fn file_end_fault(hdr1: &[u8], count: usize, pending: usize, l: &[u8]) -> Fault
+    ensures { λ r. ⌜ r ≡ fileEndFault (now (hdr1 .entry)) count pending (now (l .entry)) ⌝ }
 {
-    or_else(trailer1_fault(first, count, l), open_fault(pending))
+    or_else(trailer1_fault(hdr1, count, l), open_fault(pending))
 }
 
 // The fault of EOV2 or EOF2 against the HDR2 of its section.
-fn trailer2_fault(second: &[u8], l: &[u8]) -> Fault
-    ensures { λ r. ⌜ r ≡ trailer2Fault (now (second .entry)) (now (l .entry)) ⌝ }
+fn trailer2_fault(hdr2: &[u8], l: &[u8]) -> Fault
+    ensures { λ r. ⌜ r ≡ trailer2Fault (now (hdr2 .entry)) (now (l .entry)) ⌝ }
 {
-    crossed(unequal_trailer_second(second, l))
+    crossed(unequal_trailer_second(hdr2, l))
 }
 
 // The fault of an item of kind k that is a trailer label; any other has none here.
 fn trailer_fault(hdr1: &[u8], hdr2: &[u8], count: usize, pending: usize, k: Kind, l: &[u8]) -> Fault
-    ensures { λ r. ⌜ r ≡ ifB (isKind k (eov 1)) (trailer1Fault (now (first .entry)) count (now (l .entry)))
-        (ifB (isKind k (eof 1)) (fileEndFault (now (first .entry)) count pending (now (l .entry)))
-        (ifB (isKind k (eov 2)) (trailer2Fault (now (second .entry)) (now (l .entry)))
-        (ifB (isKind k (eof 2)) (trailer2Fault (now (second .entry)) (now (l .entry))) (fault 0 0)))) ⌝ }
+    ensures { λ r. ⌜ r ≡ ifB (isKind k (eov 1)) (trailer1Fault (now (hdr1 .entry)) count (now (l .entry)))
+        (ifB (isKind k (eof 1)) (fileEndFault (now (hdr1 .entry)) count pending (now (l .entry)))
+        (ifB (isKind k (eov 2)) (trailer2Fault (now (hdr2 .entry)) (now (l .entry)))
+        (ifB (isKind k (eof 2)) (trailer2Fault (now (hdr2 .entry)) (now (l .entry))) (fault 0 0)))) ⌝ }
 {
     if is(k, EOV, 1) {
-        return trailer1_fault(first, count, l);
+        return trailer1_fault(hdr1, count, l);
     }
     if is(k, EOF, 1) {
-        return file_end_fault(first, count, pending, l);
+        return file_end_fault(hdr1, count, pending, l);
     }
     if is(k, EOV, 2) {
-        return trailer2_fault(second, l);
+        return trailer2_fault(hdr2, l);
     }
     if is(k, EOF, 2) {
-        return trailer2_fault(second, l);
+        return trailer2_fault(hdr2, l);
     }
     Fault { number: 0, byte: 0 }
 }
 
 // The answer on a data block, by the lengths in the HDR2 of its section.
-pub(crate) fn outcome_in(second: &[u8], pending: usize, l: &[u8]) -> Outcome
-    ensures { λ r. ⌜ r ≡ outcomeIn (now (second .entry)) pending (now (l .entry)) ⌝ }
+pub(crate) fn outcome_in(hdr2: &[u8], pending: usize, l: &[u8]) -> Outcome
+    ensures { λ r. ⌜ r ≡ outcomeIn (now (hdr2 .entry)) pending (now (l .entry)) ⌝ }
 {
-    let block = value_of(block_length(second)) as usize;
-    let size = value_of(record_length(second));
-    let offset = value_of(offset_length(second)) as usize;
-    block_outcome(format_of(second), block, size, offset, pending, l)
+    let block = value_of(block_length(hdr2)) as usize;
+    let size = value_of(record_length(hdr2));
+    let offset = value_of(offset_length(hdr2)) as usize;
+    block_outcome(format_of(hdr2), block, size, offset, pending, l)
 }
 
 // The fault of a data block.
-fn block_fault(second: &[u8], pending: usize, l: &[u8]) -> Fault
-    ensures { λ r. ⌜ r ≡ blockFault (now (second .entry)) pending (now (l .entry)) ⌝ }
+fn block_fault(hdr2: &[u8], pending: usize, l: &[u8]) -> Fault
+    ensures { λ r. ⌜ r ≡ blockFault (now (hdr2 .entry)) pending (now (l .entry)) ⌝ }
 {
-    let outcome = outcome_in(second, pending, l);
+    let outcome = outcome_in(hdr2, pending, l);
     Fault {
         number: outcome.number,
         byte: 0,
@@ -300,35 +300,35 @@ fn context_fault(
           volumes = namesAt (now (image .entry)) (now (names .entry));
           files = st .files;
           continues = st .continues;
-          hdr1 = now (first .entry);
-          hdr2 = now (second .entry);
+          hdr1 = now (hdr1 .entry);
+          hdr2 = now (hdr2 .entry);
           count = st .count;
           pending = st .pending;
         }) k (now (l .entry)) ⌝ }
 {
     if is(k, DATA_BLOCK, 0) {
-        return block_fault(second, st.pending, l);
+        return block_fault(hdr2, st.pending, l);
     }
     if is(k, VOL, 1) {
         return volume_fault(image, names, l);
     }
     if is(k, HDR, 1) {
-        return hdr1_fault(st.continues, st.files, first, l);
+        return hdr1_fault(st.continues, st.files, hdr1, l);
     }
     if is(k, HDR, 2) {
-        return hdr2_fault(st.continues, second, l);
+        return hdr2_fault(st.continues, hdr2, l);
     }
-    trailer_fault(first, second, st.count, st.pending, k, l)
+    trailer_fault(hdr1, hdr2, st.count, st.pending, k, l)
 }
 
 // Its first fault: 4 and 5 of its label by itself, then the others.
 pub(crate) fn item_fault(image: &[u8], names: &[usize], st: Reading, k: Kind, l: &[u8]) -> Fault
     ensures { λ r. ⌜ r ≡ itemFault (contents (now (image .entry)) (now (names .entry)) st) k (now (l .entry)) ⌝ }
 {
-    let first = label_at(image, st.hdr1);
-    let second = label_at(image, st.hdr2);
+    let hdr1 = label_at(image, st.hdr1);
+    let hdr2 = label_at(image, st.hdr2);
     or_else(
         label_fault(k, l),
-        context_fault(image, names, st, first, second, k, l),
+        context_fault(image, names, st, hdr1, hdr2, k, l),
     )
 }

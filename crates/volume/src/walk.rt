@@ -242,14 +242,14 @@ fn take_turn(image: &[u8], names: &[usize], x: Spot) -> Turn
 }
 
 // The lengths of the blocks of a section, as its HDR2 gives them.
-fn lengths_of(second: &[u8]) -> Lengths
-    ensures { λ r. ⌜ Given r (now (second .entry)) ⌝ }
+fn lengths_of(hdr2: &[u8]) -> Lengths
+    ensures { λ r. ⌜ Given r (now (hdr2 .entry)) ⌝ }
 {
     Lengths {
-        format: format_of(second),
-        block: value_of(block_length(second)) as usize,
-        size: value_of(record_length(second)),
-        offset: value_of(offset_length(second)) as usize,
+        format: format_of(hdr2),
+        block: value_of(block_length(hdr2)) as usize,
+        size: value_of(record_length(hdr2)),
+        offset: value_of(offset_length(hdr2)) as usize,
     }
 }
 
