@@ -3,10 +3,12 @@ use mathlib.Core.Path.{_≡_, refl, sym, ap, _∙_}
 use mathlib.Core.Bool.{Bool, true, false, false≢true, _&&_, _||_}
 use Rattle.base.specs.If.{ifB}
 
+-- a test that holds gives the first
 pub if-true {ℓ} : {A : Type ℓ} (t : Bool) (a b : A) → t ≡ true → ifB t a b ≡ a
 unfolding ifB
 if-true t a b p = ap (λ (s : Bool). ifB s a b) p
 
+-- one that does not gives the second
 pub if-false {ℓ} : {A : Type ℓ} (t : Bool) (a b : A) → t ≡ false → ifB t a b ≡ b
 unfolding ifB
 if-false t a b p = ap (λ (s : Bool). ifB s a b) p
@@ -39,15 +41,19 @@ if-itself false = refl
 pub so-true : (p x : Bool) → p ≡ x → p ≡ true → x ≡ true
 so-true p x e h = sym e ∙ h
 
+-- the same where it does not hold
 pub so-false : (p x : Bool) → p ≡ x → p ≡ false → x ≡ false
 so-false p x e h = sym e ∙ h
 
+-- both hold
 pub and-true : (a b : Bool) → a ≡ true → b ≡ true → a && b ≡ true
 and-true a b p q = ap (λ (s : Bool). s && b) p ∙ q
 
+-- the first does not hold
 pub and-left : (a b : Bool) → a ≡ false → a && b ≡ false
 and-left a b p = ap (λ (s : Bool). s && b) p
 
+-- the second does not hold
 pub and-right : (a b : Bool) → b ≡ false → a && b ≡ false
 and-right true b p = p
 and-right false b p = refl
@@ -57,16 +63,20 @@ pub and-first : (a b : Bool) → a && b ≡ true → a ≡ true
 and-first true b h = refl
 and-first false b h = h
 
+-- of two that hold, the second does
 pub and-second : (a b : Bool) → a && b ≡ true → b ≡ true
 and-second true b h = h
 and-second false b h = absurd (false≢true h)
 
+-- the first holds
 pub or-left : (a b : Bool) → a ≡ true → a || b ≡ true
 or-left a b p = ap (λ (s : Bool). s || b) p
 
+-- the second holds
 pub or-right : (a b : Bool) → b ≡ true → a || b ≡ true
 or-right true b p = refl
 or-right false b p = p
 
+-- neither holds
 pub or-false : (a b : Bool) → a ≡ false → b ≡ false → a || b ≡ false
 or-false a b p q = ap (λ (s : Bool). s || b) p ∙ q

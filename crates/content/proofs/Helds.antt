@@ -36,7 +36,7 @@ use Rattle.content.specs.declared.holding.FileHeld.{FileHeld}
 use Rattle.content.specs.declared.section.Extent.{Extent}
 use Rattle.content.specs.declared.section.Extent.the-variants.{At as Block, Nowhere}
 use Rattle.content.specs.declared.unit.Taken.{Taken}
-use Rattle.content.proofs.Parts.{by-place, Ahead}
+use Rattle.content.proofs.Parts.{by-place, BlockAhead}
 use Rattle.content.proofs.Sections.{data-within}
 use Rattle.content.proofs.Searches.{Follows, Leads, data-leads}
 use Rattle.content.proofs.Blocks.{Hands, turns-shut, joined-whole, joined-one, joined-two, open-one, open-two, units-of, units-empty}
@@ -136,7 +136,7 @@ summing-none s w h l e =
 
 -- the block that was found, and what it holds
 record More (s : List ℕ) (w : Walk) (h : Held) (at start n : ℕ) (k : Held) : Type 0 where
-  ahead : Ahead s at start n
+  ahead : BlockAhead s at start n
   is : k ≡ heldIn (w .format) (w .size) (w .offset) (part start n s)
   fits : Fitting k n
 

@@ -171,8 +171,9 @@ by-place s P each at = by-room s P each (suc (length s - at)) at (omega arith)
 
 -- ---- the parts from an item on
 
+-- the position at a place: the last HDR1, the phase, and whether the next HDR1 goes on with a file
 abbrev pub stands : ℕ → ℕ → Phase → Bool → Position
-stands at hdr1 p g = record { at = at; hdr1 = hdr1; phase = p; resumes = g }
+stands at hdr1 p g = record { at = at; hdr1 = hdr1; phase = p; continues = g }
 
 -- an item of kind k and n bytes
 pub parts-seen : (s : List ℕ) (c : Position) (n : ℕ) (k : Kind) (x : Seen) → x ≡ seenAt s (c .phase) (c .at) → x ≡ Of k n
@@ -273,7 +274,7 @@ pub search-found : (s : List ℕ) (from : Position) (sections blocks : Bool) (at
     (g′ b : Bool) → Searching s from sections blocks at hdr1 p g → x ≡ seenAt s p at → x ≡ Of k n → d ≡ ledTo g p k → d ≡ To r
     → part′ ≡ partIn g hdr1 (at + 3) n k → hdr1′ ≡ firstBehind hdr1 (at + 3) k → g′ ≡ continuesBehind g k
     → b ≡ isWanted sections blocks part′ → b ≡ true
-    → _≡_ {A = PartAt} (record { part = part′; behind = record { at = at + 3 + n; hdr1 = hdr1′; phase = r; resumes = g′ } })
+    → _≡_ {A = PartAt} (record { part = part′; behind = record { at = at + 3 + n; hdr1 = hdr1′; phase = r; continues = g′ } })
     (firstFrom from sections blocks (partsAt s from))
 search-found s from sections blocks at hdr1 n p r g k x d part′ hdr1′ g′ b c e q u w m i j f t =
     sym (ap (firstFrom from sections blocks) (search-step s at hdr1 n p r g k x d part′ hdr1′ g′ e q u w m i j)
@@ -335,15 +336,15 @@ found-part c sections blocks (p ∷ ps) = by-wanted (isWanted sections blocks (p
 -- ---- a part is further on, and inside the image
 
 -- n bytes from place `start` on, behind place `at`
-pub record Ahead (s : List ℕ) (at start n : ℕ) : Type 0 where
+pub record BlockAhead (s : List ℕ) (at start n : ℕ) : Type 0 where
   pub onward : at + 3 ≤ start
   pub within : start + n ≤ length s
 
 -- a block, or the HDR2 of a file or section
 abbrev pub IsAhead : List ℕ → ℕ → Part → Type 0
-IsAhead s at (File a b) = Ahead s at b 80
-IsAhead s at (Section a b) = Ahead s at b 80
-IsAhead s at (Block start n) = Ahead s at start n
+IsAhead s at (File a b) = BlockAhead s at b 80
+IsAhead s at (Section a b) = BlockAhead s at b 80
+IsAhead s at (Block start n) = BlockAhead s at start n
 IsAhead s at None = Unit {0}
 
 ahead-more : (s : List ℕ) (at m : ℕ) (p : Part) → at < m → IsAhead s m p → IsAhead s at p
@@ -379,11 +380,12 @@ first-map sections blocks (Section a b) c ps = refl
 first-map sections blocks (Block a n) c ps = refl
 first-map sections blocks None c ps = unfold isWanted ifB in refl
 
+-- what is found from a place on stands no earlier
 pub first-ahead : (s : List ℕ) (sections blocks : Bool) (at hdr1 : ℕ) (p : Phase) (g : Bool)
     → IsAhead s at (firstIn sections blocks (parts (stands at hdr1 p g) (decode (drop at s))))
 first-ahead s sections blocks at = by-place s P each at
   where
-    hdr1 : Position → Part
+    first : Position → Part
     first c = firstIn sections blocks (parts c (decode (drop (c .at) s)))
 
     P : ℕ → Type 0

@@ -207,7 +207,7 @@ same-lengths second l h =
 
 -- an open file has a record length of 1 or more
 abbrev Sized : Stage → Bool → List ℕ → Type 0
-Sized a g hdr2 = isOpen a g ≡ true → valueOf (recordLengthOf second) ≡ 0 → ⊥
+Sized a g second = isOpen a g ≡ true → valueOf (recordLengthOf second) ≡ 0 → ⊥
 
 sized-step : (t : State) (r : Phase) (l : List ℕ) {k : Kind} {a b : Stage} → Move k a b → Sized a (t .continues) (t .hdr2)
     → itemFault t k l .number ≡ 0

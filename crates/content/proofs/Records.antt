@@ -128,6 +128,7 @@ handed-any s w =
     (λ _. if-case (λ (x : Record). If-ends (Passes s w) (handed s x)) (isInside s w) (begunBy s (w .size) (unitFrom s w)) nothing
     (λ a. begun-passes s w (unitFrom s w) (inside-true s w true (sym a) refl) refl) (λ _. refl))
 
+-- a record that is handed out is passed, and its bytes are those of the record
 pub handed-passes : (s : List ℕ) (w : Walk) (r : List ℕ) (v : Walk) → handed s (recordAt s w) ≡ ends r v → Passes s w r v
 handed-passes s w r v e = subst (If-ends (Passes s w)) e (handed-any s w)
 
@@ -255,27 +256,33 @@ handed-split s n v nothing e = let z : _≡_ {A = ℕ} 0 1 = cc in absurd (omega
 pub measured-nothing : (s : List ℕ) (w : Walk) (m : Measured) → m ≡ measuredBy (recordAt s w) → m ≡ None → recordsAt s w ≡ []
 measured-nothing s w m e q = records-over s w (handed-nothing s (recordAt s w) (sym e ∙ q))
 
+-- behind a whole record are the records of the walk behind it
 pub measured-whole : (s : List ℕ) (w : Walk) (start n : ℕ) (v : Walk) (m : Measured) → m ≡ measuredBy (recordAt s w)
     → m ≡ Whole start n v
     → recordsAt s w ≡ part start n s ∷ recordsAt s v
 measured-whole s w start n v m e q = records-more s w (part start n s) v (handed-whole s start n v (recordAt s w) (sym e ∙ q))
 
+-- and so behind a split one
 pub measured-split : (s : List ℕ) (w : Walk) (n : ℕ) (v : Walk) (m : Measured) → m ≡ measuredBy (recordAt s w) → m ≡ Split n v
     → recordsAt s w ≡ recordBytes (recordAt s w) ∷ recordsAt s v
 measured-split s w n v m e q = records-more s w (recordBytes (recordAt s w)) v (handed-split s n v (recordAt s w) (sym e ∙ q) .0)
 
+-- without a record the walk ends where it stands
 pub measured-end-nothing : (s : List ℕ) (w : Walk) (m : Measured) → m ≡ measuredBy (recordAt s w) → m ≡ None
     → endOf s w ≡ w .at + w .left
 measured-end-nothing s w m e q = end-over s w (handed-nothing s (recordAt s w) (sym e ∙ q))
 
+-- a whole record leaves the end of the walk where it is
 pub measured-end-whole : (s : List ℕ) (w : Walk) (start n : ℕ) (v : Walk) (m : Measured) → m ≡ measuredBy (recordAt s w)
     → m ≡ Whole start n v → endOf s w ≡ endOf s v
 measured-end-whole s w start n v m e q = end-more s w (part start n s) v (handed-whole s start n v (recordAt s w) (sym e ∙ q))
 
+-- and so does a split one
 pub measured-end-split : (s : List ℕ) (w : Walk) (n : ℕ) (v : Walk) (m : Measured) → m ≡ measuredBy (recordAt s w) → m ≡ Split n v
     → endOf s w ≡ endOf s v
 measured-end-split s w n v m e q = end-more s w (recordBytes (recordAt s w)) v (handed-split s n v (recordAt s w) (sym e ∙ q) .0)
 
+-- a split record is as long as it was measured
 pub split-long : (s : List ℕ) (w : Walk) (n : ℕ) (v : Walk) (m : Measured) → m ≡ measuredBy (recordAt s w) → m ≡ Split n v
     → length (recordBytes (recordAt s w)) ≡ n
 split-long s w n v m e q = handed-split s n v (recordAt s w) (sym e ∙ q) .1
@@ -311,6 +318,7 @@ record-within s w =
     (λ _. if-case (Within s) (isInside s w) (begunBy s (w .size) (unitFrom s w)) nothing
     (λ a. begun-within s w (unitFrom s w) (inside-true s w true (sym a) refl) refl) (λ _. refl))
 
+-- a whole record lies inside the image
 pub whole-within : (s : List ℕ) (w : Walk) (start n : ℕ) (v : Walk) (m : Measured) → m ≡ measuredBy (recordAt s w)
     → m ≡ Whole start n v → start + n ≤ length s
 whole-within s w start n v m e q = subst (If-whole (λ a k. a + k ≤ length s)) (sym e ∙ q) (record-within s w)
@@ -355,6 +363,7 @@ first-some s w k u m t e q f h =
     let c = split-stands s w k u m k e q (omega arith) in
     split-not-nothing s w k (unitFrom s w) c refl (sym (if-true _ _ _ (inside-is s w (c .inside))) ∙ sym f ∙ h)
 
+-- a record that goes on to its end has a next segment
 pub next-some : (s : List ℕ) (w : Walk) (t : Taken) → Inside s w → isEnded (restAt s (w .size) w) ≡ true → t ≡ nextSegment s w
     → t ≡ Nothing → ⊥
 unfolding nextSegment

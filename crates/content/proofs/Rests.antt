@@ -33,6 +33,7 @@ use Rattle.content.proofs.Units.{unit-at}
 -- ---- a unit is further on and inside the image, the walk behind it is over the same file, and from its block on the same file
 -- follows
 
+-- a unit that was found behind a walk, and the walk behind it
 pub record UnitBehind (s : List ℕ) (w : Walk) (start n : ℕ) (v : Walk) : Type 0 where
   pub onward : w .at < v .at
   pub bytes : w .at + n ≤ v .at
@@ -135,9 +136,11 @@ unfolding orNext
 or-any s w (One i start n v) u a b = a
 or-any s w Nothing u a b = b
 
+-- the first unit of the next block is one
 pub next-behind : (s : List ℕ) (w : Walk) (i start n : ℕ) (v : Walk) → unitNext s w ≡ One i start n v → UnitBehind s w start n v
 next-behind s w i start n v e = subst (If-one (UnitBehind s w)) e (next-any s w)
 
+-- and so is the unit at the walk's place
 pub from-behind : (s : List ℕ) (w : Walk) (i start n : ℕ) (v : Walk) → Inside s w → unitFrom s w ≡ One i start n v
     → UnitBehind s w start n v
 unfolding unitFrom unitHere

@@ -40,10 +40,10 @@ use Rattle.content.proofs.Parts.{by-place, start-fits, end-fits}
 -- ---- the item at a place
 
 pub item-made : (g h start n : ℕ) (k : Kind) → h ≡ groupAfter g k
-    → _≡_ {A = ItemAt} (record { family = k .family; number = k .number; group = h; start = start; len = n; stateBehind = start + n }) (itemOf g k start n)
+    → _≡_ {A = ItemAt} (record { family = k .family; number = k .number; group = h; start = start; len = n; behind = start + n }) (itemOf g k start n)
 unfolding itemOf
 item-made g h start n k e =
-    λ i. record { family = k .family; number = k .number; group = e i; start = start; len = n; stateBehind = start + n }
+    λ i. record { family = k .family; number = k .number; group = e i; start = start; len = n; behind = start + n }
 
 pub rest-end : (s : List ℕ) (g at : ℕ) (r : ItemAt) → r ≡ itemOf g endOfImage at 0 → length s ≤ at → r ≡ restAt s g at
 unfolding restAt

@@ -349,7 +349,7 @@ two-put s old v h k j new c l p =
 pub two-first : (s : List ℕ) (v h : Walk) (k j : ℕ) → TwoAt s v k h j → 5 ≤ k
 two-first s v h k j c = begun-word s v k (c .begun)
 
-hdr2 : (s : List ℕ) (v h : Walk) (k j : ℕ) → TwoAt s v k h j → SegmentAt s (v .left - k) h j
+second : (s : List ℕ) (v h : Walk) (k j : ℕ) → TwoAt s v k h j → SegmentAt s (v .left - k) h j
 second s v h k j c =
     segment-stands s (v .left - k) h j (closes s v h (moved h (h .at + j) (h .left - j)) k j c refl .turn .is) (c .some)
 

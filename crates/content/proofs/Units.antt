@@ -43,6 +43,7 @@ inside-left s w h = sym (if-true _ _ _ (le-leb (w .at) (length s) h))
 
 pub ruleset insides = (inside-not, inside-left, needs)
 
+-- what the test finds inside lies inside
 pub inside-true : (s : List ℕ) (w : Walk) (b : Bool) → b ≡ isInside s w → b ≡ true → Inside s w
 unfolding isInside
 inside-true s w b e t =

@@ -202,13 +202,13 @@ told-over s w = record { owed = nothing-owed s w; comes = record { filed = refl;
 
 told : {s second : List ℕ} {q : ℕ} {ps : List Part} {es : List Event} → Read s second q ps es
     → FilesTold s (walkFrom second 0) q ps es
-told {s = s} {hdr2 = second} readOver = told-over s (walkFrom second 0)
-told {s = s} {hdr2 = second} (readFile {a = a} {b = b} l m {ps = ps} {es = es} c h) =
+told {s = s} {second = second} readOver = told-over s (walkFrom second 0)
+told {s = s} {second = second} (readFile {a = a} {b = b} l m {ps = ps} {es = es} c h) =
     told-file s a b l m ps es c (told h) (walkFrom second 0)
 told {s = s} {q = q} (readSection {a = a} {b = b} l m {ps = ps} {es = es} _ _ e h) =
     subst (λ (w : Walk). FilesTold s w q (Section a b ∷ ps) (resumes l m ∷ es)) e
     (told-section s (walkFrom m 0) q a b l m ps es (told h))
-told {s = s} {hdr2 = second} {q = q} (readBlock {start = start} {n = n} {ps = ps} {es = es} c h) =
+told {s = s} {second = second} {q = q} (readBlock {start = start} {n = n} {ps = ps} {es = es} c h) =
     told-block s second q start n ps es c (told h)
 
 -- ---- the files of an accepted image

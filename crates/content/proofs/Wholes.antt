@@ -247,6 +247,7 @@ record-whole s w v k e m z =
 
 -- ---- as the code finds it
 
+-- a number that is not 0 measures the record
 pub measured-whole : (s : List ℕ) (w v u : Walk) (k c : ℕ) → v ≡ atBlock s w → k ≡ wholeAt s v → (k ≡ 0 → ⊥)
     → c ≡ wordOf (v .format)
     → u ≡ moved v (v .at + k) (v .left - k) → Whole (v .at + c) (k - c) u ≡ measuredBy (recordAt s w)
@@ -255,12 +256,15 @@ measured-whole s w v u k c e m z p q =
     ap (Whole (v .at + c) (k - c)) q ∙ ap (λ (j : ℕ). Whole (v .at + j) (k - j) (moved v (v .at + k) (v .left - k))) p
     ∙ sym (ap measuredBy (record-whole s w v k e m z))
 
+-- it counts the control word
 pub word-least : (s : List ℕ) (v : Walk) (k c : ℕ) → k ≡ wholeAt s v → (k ≡ 0 → ⊥) → c ≡ wordOf (v .format) → c ≤ k
 word-least s v k c m z p = omega (arith, standing s v k m z .least)
 
+-- it is not more than what is left of the block
 pub whole-left : (s : List ℕ) (v : Walk) (k : ℕ) → k ≡ wholeAt s v → (k ≡ 0 → ⊥) → k ≤ v .left
 whole-left s v k m z = standing s v k m z .left
 
+-- the place of such a record fits a register
 pub whole-start : (s : List ℕ) (v : Walk) (k c : ℕ) → k ≡ wholeAt s v → (k ≡ 0 → ⊥) → c ≡ wordOf (v .format)
     → length s < 18446744073709551616 → Fits w64 (v .at + c)
 whole-start s v k c m z p h =
@@ -270,6 +274,7 @@ whole-start s v k c m z p h =
     let d = g .inside in
     omega arith
 
+-- and so does the place behind it
 pub whole-end : (s : List ℕ) (v : Walk) (k : ℕ) → k ≡ wholeAt s v → (k ≡ 0 → ⊥) → length s < 18446744073709551616
     → Fits w64 (v .at + k)
 whole-end s v k m z h =

@@ -69,15 +69,15 @@ fileFrom s c = fileIn s (parts c (decode (drop (c .at) s)))
 
 -- the first file; no HDR1 yet is a place past the end
 unfoldable pub firstFile : List ℕ → NextFile
-firstFile s = fileFrom s (record { at = 5; hdr1 = length s; phase = Reel; resumes = false })
+firstFile s = fileFrom s (record { at = 5; hdr1 = length s; phase = Reel; continues = false })
 
 -- the file behind one, from behind that file's HDR2 on
 unfoldable pub nextFile : List ℕ → FileAt → NextFile
-nextFile s f = fileFrom s (record { at = f .hdr2 + 80; hdr1 = f .hdr1; phase = Header 2; resumes = false })
+nextFile s f = fileFrom s (record { at = f .hdr2 + 80; hdr1 = f .hdr1; phase = Header 2; continues = false })
 
 -- the file behind one, from a place between two items of that file's data on
 unfoldable pub fileBehind : List ℕ → FileAt → ℕ → NextFile
-fileBehind s f at = fileFrom s (record { at = at; hdr1 = f .hdr1; phase = Data; resumes = false })
+fileBehind s f at = fileFrom s (record { at = at; hdr1 = f .hdr1; phase = Data; continues = false })
 
 -- ---- files by their numbers
 

@@ -29,7 +29,7 @@ torn = kind 12 0
 -- an item of kind k in a group, its bytes, and what is stateBehind it
 unfoldable pub itemOf : ℕ → Kind → ℕ → ℕ → ItemAt
 itemOf g k start n =
-    record { family = k .family; number = k .number; group = groupAfter g k; start = start; len = n; stateBehind = start + n }
+    record { family = k .family; number = k .number; group = groupAfter g k; start = start; len = n; behind = start + n }
 
 -- what a block is in a group: among data blocks data, else a label
 unfoldable pub kindAmong : ℕ → List ℕ → Kind

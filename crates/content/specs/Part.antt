@@ -33,15 +33,15 @@ placeBehind at x = at + 3 + length (bytesIn x)
 
 -- an item of kind k begins a file: HDR2, but not of a file that goes on
 unfoldable pub beginsFile : Bool → Kind → Bool
-beginsFile resumes k = ifB (isKind k (hdr 2)) (not resumes) false
+beginsFile continues k = ifB (isKind k (hdr 2)) (not continues) false
 
 -- where an item leads: one that begins a file right behind its HDR2, any other where it is due
 unfoldable pub ledTo : Bool → Phase → Kind → Due
-ledTo resumes p k = ifB (beginsFile resumes k) (To (Header 2)) (dueAfter p k)
+ledTo continues p k = ifB (beginsFile continues k) (To (Header 2)) (dueAfter p k)
 
 -- whether the next HDR1 goes on with a file
 unfoldable pub continuesBehind : Bool → Kind → Bool
-continuesBehind resumes k = ifB (isKind k (eov 1)) true (ifB (isKind k (eof 1)) false resumes)
+continuesBehind continues k = ifB (isKind k (eov 1)) true (ifB (isKind k (eof 1)) false continues)
 
 -- the place of the last HDR1, behind an item whose bytes begin at `start`
 unfoldable pub firstBehind : ℕ → ℕ → Kind → ℕ
@@ -54,13 +54,13 @@ after c k n q =
       at = c .at + 3 + n;
       hdr1 = firstBehind (c .hdr1) (c .at + 3) k;
       phase = q;
-      resumes = continuesBehind (c .continues) k;
+      continues = continuesBehind (c .continues) k;
     }
 
 -- which part an item of kind k is, with its n bytes from `start` on, or none
 unfoldable pub partIn : Bool → ℕ → ℕ → ℕ → Kind → Part
-partIn resumes hdr1 start n k =
-    ifB (isKind k dataBlock) (Block start n) (ifB (isKind k (hdr 2)) (ifB resumes (Section hdr1 start) (File hdr1 start)) None)
+partIn continues hdr1 start n k =
+    ifB (isKind k dataBlock) (Block start n) (ifB (isKind k (hdr 2)) (ifB continues (Section hdr1 start) (File hdr1 start)) None)
 
 -- ---- all parts
 

@@ -17,7 +17,7 @@ use Rattle.content.specs.declared.section.Extent.the-variants.{At, Nowhe
 
 -- a place in a file; the place of its HDR1 does not matter
 abbrev pub inFile : Phase → ℕ → Position
-inFile p at = record { at = at; hdr1 = 0; phase = p; resumes = false }
+inFile p at = record { at = at; hdr1 = 0; phase = p; continues = false }
 
 -- a part as a data block
 unfoldable pub asBlock : Part → Extent

@@ -4,7 +4,7 @@ pub mod Refusals
 pub mod Records
 pub mod Normal
 pub mod Tapes
-pub mod Met
+pub mod Ours
 pub mod Requests
 pub mod Witness
 pub mod Wrong

@@ -29,7 +29,7 @@ use Rattle.volume.specs.Fault.{says, valueOf, lower, crossed, isAmong, volumeFa
 use Rattle.volume.specs.Meaning.{onFirst, joined, fieldsFrom, collect, setFrom, meaningOf, handedOut, content}
 use Rattle.volume.specs.Run.{further, next, runs, answerOf, imageVerdict}
 use Rattle.volume.specs.State.{start}
-use Rattle.volume.specs.Step.{isDue, kindIn, bytesIn, namesAfter, filesAfter, continuesAfter, hdr1After, hdr2After, countAfter, pendingAfter, stateAfter, segmentsOf, segmentsIn, eventsOf, judged, ordered, step}
+use Rattle.volume.specs.Step.{isDue, kindIn, bytesIn, volumesAfter, filesAfter, continuesAfter, hdr1After, hdr2After, countAfter, pendingAfter, stateAfter, segmentsOf, segmentsIn, eventsOf, judged, ordered, step}
 use Rattle.sheet.specs.Flat.{inPartsF, inParts}
 use Rattle.reading.specs.Legal.{formatFrom, blockLengthFrom}
 use Rattle.writing.specs.Lay.{reelsOf, laid, put, headers, fileEnd, volumeEnd, rest, layFiles, layOn, lay}
@@ -91,5 +91,5 @@ pub new-year :
     -- a trailer with section 0001's date below a header with another
     × (imageVerdict (imageOf (ledger " 86001 86365" " 85365 86365" " 85365 86365")) ≡ verdict 6 17 42)
     × (imageVerdict (imageOf (ledger " 85365 87001" " 85365 86365" " 85365 86365")) ≡ verdict 6 17 48)
-unfolding first reel ledger newYear oldYear imageOf ifB part same allAre isDigit allDigits value digits fault verdict orElse isA classOf allA isCentury isYearDay isDate numberIn framedFrom items framing word ledBy shape itemOf behind decodeF decode three bytesOf encodeBy encode upToNine dues choose dueAfter isKind volumeOf setOf sectionOf sequenceOf countOf formatOf blockLengthOf recordLengthOf offsetOf leastRecord suits suitsBoth isLength isRecordLength isPositive isFormat hasRecordLength good firstBad goodAt agreeAt accessOf accessAt fieldFault labelFault required family numbered optional orNamed namedBy kindOf fieldsOf bytes onto cutOne cutF cut someUnits units outcome isTurn openAfter turnsFrom turned blockOutcome fixed measured variable segment unitOf lengthOf says valueOf lower crossed isAmong volumeFault newFilePlace laterPlace fileFault hdr1Fault hdr2Fault trailer1Fault openFault fileEndFault trailer2Fault outcomeIn blockFault contextFault itemFault onFirst joined fieldsFrom collect setFrom meaningOf handedOut content further next runs answerOf imageVerdict start isDue kindIn bytesIn namesAfter filesAfter continuesAfter hdr1After hdr2After countAfter pendingAfter stateAfter segmentsOf segmentsIn eventsOf judged ordered step putAt isDated undated undatedIn undatedBehind undatedFrom fitted filled madeVolume madeFirst madeSecond formatFrom blockLengthFrom inPartsF inParts enters taken indicatorOf controlWord startOf unitIn fill after weights weight blocksF blocksLeft blocksOf put headers fileEnd volumeEnd rest layFiles layOn reelsOf lay sheetFrom wordOf
+unfolding first reel ledger newYear oldYear imageOf ifB part same allAre isDigit allDigits value digits fault verdict orElse isA classOf allA isCentury isYearDay isDate numberIn framedFrom items framing word ledBy shape itemOf behind decodeF decode three bytesOf encodeBy encode upToNine dues choose dueAfter isKind volumeOf setOf sectionOf sequenceOf countOf formatOf blockLengthOf recordLengthOf offsetOf leastRecord suits suitsBoth isLength isRecordLength isPositive isFormat hasRecordLength good firstBad goodAt agreeAt accessOf accessAt fieldFault labelFault required family numbered optional orNamed namedBy kindOf fieldsOf bytes onto cutOne cutF cut someUnits units outcome isTurn openAfter turnsFrom turned blockOutcome fixed measured variable segment unitOf lengthOf says valueOf lower crossed isAmong volumeFault newFilePlace laterPlace fileFault hdr1Fault hdr2Fault trailer1Fault openFault fileEndFault trailer2Fault outcomeIn blockFault contextFault itemFault onFirst joined fieldsFrom collect setFrom meaningOf handedOut content further next runs answerOf imageVerdict start isDue kindIn bytesIn volumesAfter filesAfter continuesAfter hdr1After hdr2After countAfter pendingAfter stateAfter segmentsOf segmentsIn eventsOf judged ordered step putAt isDated undated undatedIn undatedBehind undatedFrom fitted filled madeVolume madeFirst madeSecond formatFrom blockLengthFrom inPartsF inParts enters taken indicatorOf controlWord startOf unitIn fill after weights weight blocksF blocksLeft blocksOf put headers fileEnd volumeEnd rest layFiles layOn reelsOf lay sheetFrom wordOf
 new-year = (refl, refl, refl, refl, refl, refl, refl, refl)

@@ -234,7 +234,7 @@ file-given s ds d es a e =
     record {
       begun = ap (λ (b : Begun). beginningOf b .verdict) begun;
       fields =
-          is .fields ∙ ap (λ (b : Begun). fieldsFrom (part (beginningOf b .first) 80 s) (part (beginningOf b .second) 80 s))
+          is .fields ∙ ap (λ (b : Begun). fieldsFrom (part (beginningOf b .hdr1) 80 s) (part (beginningOf b .hdr2) 80 s))
           (sym begun);
       walked =
           subst (λ (b : Begun). Steps ours s (beginningOf b .walk) (d .records)) (sym begun)
@@ -293,12 +293,12 @@ pub first-begun : (s : List ℕ) → Accepted s → ours .first s ≡ ours .begi
 first-begun s a = ap beginningOf (first-begun-by s a)
 
 -- the search looks at the two places of a file alone
-next-at : (s : List ℕ) (f : FileAt) → nextFile s (record { first = f .first; second = f .second; walk = noWalk }) ≡ nextFile s f
+next-at : (s : List ℕ) (f : FileAt) → nextFile s (record { hdr1 = f .hdr1; hdr2 = f .hdr2; walk = noWalk }) ≡ nextFile s f
 unfolding nextFile
 next-at s f = refl
 
 pub further-begun : (s : List ℕ) (n : ℕ) → ours .begin s n .verdict .number ≡ 0
-    → ours .further s (ours .begin s n .first) (ours .begin s n .second) ≡ ours .begin s (n + 1)
+    → ours .further s (ours .begin s n .hdr1) (ours .begin s n .hdr2) ≡ ours .begin s (n + 1)
 unfolding begunAt beginningOf
 further-begun s n =
     if-case (λ (b : Begun). Goal b) (eqb (imageVerdict s .number) 0) _ _ (λ e. by-file e (fileNumbered s n) refl)
@@ -307,7 +307,7 @@ further-begun s n =
     Goal : Begun → Type 0
     Goal b =
         beginningOf b .verdict .number ≡ 0
-        → ours .further s (beginningOf b .first) (beginningOf b .second) ≡ ours .begin s (n + 1)
+        → ours .further s (beginningOf b .hdr1) (beginningOf b .hdr2) ≡ ours .begin s (n + 1)
 
     next-begun : eqb (imageVerdict s .number) 0 ≡ true → begunAt s (n + 1) ≡ begunBy (fileNumbered s (n + 1))
     next-begun e = if-true (eqb (imageVerdict s .number) 0) _ _ e

@@ -31,7 +31,7 @@ use Rattle.demands.specs.Operations.{ours}
 use Rattle.demands.specs.Terms.{Fits, Torn}
 use Rattle.demands.proofs.Tapes.{tape-torn, image-holds, image-accepted, equal-files, files-mean}
 use Rattle.demands.specs.Demands.{Normal}
-use Rattle.demands.proofs.Met.{demand-3}
+use Rattle.demands.proofs.Ours.{demand-3}
 
 -- ---- P1
 

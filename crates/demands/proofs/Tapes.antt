@@ -22,7 +22,7 @@ use Rattle.volume.specs.State.{start}
 use Rattle.volume.specs.Run.{runs}
 use Rattle.volume.specs.Accepted.{All, MayEnd, Accepted}
 use Rattle.volume.specs.Meaning.{meaningOf, handedOut, content}
-use Rattle.demands.specs.Terms.{isIn}
+use Rattle.demands.specs.Terms.{isIn, Torn}
 
 -- ---- the image of a set of files
 

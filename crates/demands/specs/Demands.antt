@@ -117,7 +117,7 @@ pub record Demand2 (p : Operations) : Type 0 where
   -- From file to file it is the same way as by their numbers. Ruled out: a search that stays at its file (`same-file-again`).
   pub first : (s : List ℕ) → Accepted s → p .first s ≡ p .begin s 1
   pub further : (s : List ℕ) (n : ℕ) → p .begin s n .verdict .number ≡ 0
-      → p .further s (p .begin s n .first) (p .begin s n .second) ≡ p .begin s (n + 1)
+      → p .further s (p .begin s n .hdr1) (p .begin s n .hdr2) ≡ p .begin s (n + 1)
   -- From item to item these are the items of the set, each of the kind by which it was judged; on any bytes the definition
   -- decides, and which field holds a byte, the tables of the labels.
   pub items : (s : List ℕ) → Accepted s → Met (p .item s) s 5 amongLabels start (items s)

@@ -111,7 +111,7 @@ ours =
       check = imageVerdict;
       begin = λ s n. beginningOf (begunAt s n);
       first = λ s. fileOf (firstFile s);
-      further = λ s hdr1 hdr2. fileOf (nextFile s (record { first = hdr1; second = hdr2; walk = noWalk }));
+      further = λ s hdr1 hdr2. fileOf (nextFile s (record { hdr1 = hdr1; hdr2 = hdr2; walk = noWalk }));
       find = λ s n r old. record { at = recordOf (foundAt s n r (length old)); left = leftAt s n r old };
       step = λ s w old. record { answer = steppedOf w (stepAt s (length old) w); left = joinAt s old w };
       steps = λ s w places lengths. listing places lengths (stepsIn s places lengths w);

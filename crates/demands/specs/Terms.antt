@@ -100,7 +100,7 @@ rowBy p s (suc room) w = rowOn w (p .step s w [] .answer) (λ v. rowBy p s room 
 -- file n of image s is d: its labels have its fields; a walk over it, and asking by number, give its records and no other
 pub record FileGiven (p : Operations) (s : List ℕ) (n : ℕ) (d : File) : Type 0 where
   pub begun : p .begin s n .verdict ≡ verdict 0 0 0
-  pub fields : d .fields ≡ fieldsFrom (part (p .begin s n .first) 80 s) (part (p .begin s n .second) 80 s)
+  pub fields : d .fields ≡ fieldsFrom (part (p .begin s n .hdr1) 80 s) (part (p .begin s n .hdr2) 80 s)
   pub walked : Steps p s (p .begin s n .walk) (d .records)
   pub asked : (rs : List (List ℕ)) (r : List ℕ) (ts : List (List ℕ)) → d .records ≡ rs ++ (r ∷ ts)
       → (w : Walk) × (passed s (length rs) (p .begin s n .walk) ≡ At w)

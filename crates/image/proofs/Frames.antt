@@ -57,6 +57,7 @@ framed-reel-end n r closed xs h = if-false _ _ _ (ne-eqb r mostReels h)
 
 -- ---- the loop: at a place, with n items and r reels before it, from which the framing is that of the whole
 
+-- the framing from here on, behind n items and r reels, is that of the whole image
 pub record FramedUpTo (s : List ℕ) (whole : Verdict) (at n r : ℕ) (closed : Bool) : Type 0 where
   pub counted : n ≤ mostImage + at
   pub reels : r ≤ mostReels

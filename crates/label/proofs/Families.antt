@@ -53,6 +53,7 @@ kind-label l =
     (λ _. optional-label (part 0 3 l) (getD l 3 0)) (λ _. required-label (part 0 4 l)))
     (λ _. refl)
 
+-- a block is of no kind that labels do not have
 pub kind-other : (l : List ℕ) (f n : ℕ) → 7 < f → isKind (kindOf l) (kind f n) ≡ false
 unfolding isKind
 kind-other l f n h = and-left _ _ (ne-eqb (kindOf l .family) f (λ e. omega (arith, leb-true (kindOf l .family) 7 (kind-label l))))

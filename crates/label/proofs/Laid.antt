@@ -115,6 +115,7 @@ pub eighty-vol1 : widths vol1 ≡ 80
 unfolding widths
 eighty-vol1 = refl
 
+-- the fields of HDR1 fill 80 bytes
 pub eighty-hdr1 : widths hdr1 ≡ 80
 unfolding widths
 eighty-hdr1 = refl
@@ -123,6 +124,7 @@ pub eighty-trailer1 : widths trailer1 ≡ 80
 unfolding widths
 eighty-trailer1 = refl
 
+-- those of HDR2 too
 pub eighty-hdr2 : widths hdr2 ≡ 80
 unfolding widths
 eighty-hdr2 = refl

@@ -39,6 +39,7 @@ module _ (name set e : List ℕ) (a q c : ℕ) where
   first-field k h =
       filled-back hdr1 (firstFields name set e a q c) k ∙ fitted-all (widthOf hdr1 k) (fieldAt k (firstFields name set e a q c)) h
 
+  -- HDR1, EOV1 and EOF1 have 80 bytes
   pub length-first : length (madeFirst name set e a q c) ≡ 80
   unfolding madeFirst
   length-first = length-laid hdr1 _ ∙ eighty-hdr1
@@ -49,19 +50,23 @@ module _ (name set e : List ℕ) (a q c : ℕ) where
   access-first = if-true _ _ _ (ap (λ (l : List ℕ). same l (32 ∷ [])) (filled-back hdr1 (firstFields name set e a q c) accessRow))
 
 module _ (name e : List ℕ) where
+  -- each field of HDR2, EOV2 or EOF2 is read back
   pub second-field : (k : ℕ) → length (fieldAt k (secondFields name e)) ≡ widthOf hdr2 k
       → field hdr2 k (madeSecond name e) ≡ fieldAt k (secondFields name e)
   unfolding madeSecond
   second-field k h = filled-back hdr2 (secondFields name e) k ∙ fitted-all (widthOf hdr2 k) (fieldAt k (secondFields name e)) h
 
+  -- and these have 80 bytes
   pub length-second : length (madeSecond name e) ≡ 80
   unfolding madeSecond
   length-second = length-laid hdr2 _ ∙ eighty-hdr2
 
+-- the volume identifier of VOL1 is read back
 pub volume-back : (n : List ℕ) → length n ≡ 6 → volumeOf (madeVolume n) ≡ n
 unfolding volumeOf madeVolume
 volume-back n h = filled-back vol1 _ volumeRow ∙ fitted-all 6 n h
 
+-- VOL1 has 80 bytes
 pub length-volume : (n : List ℕ) → length (madeVolume n) ≡ 80
 unfolding madeVolume
 length-volume n = length-laid vol1 _ ∙ eighty-vol1
@@ -76,14 +81,17 @@ kind-named l name k h n r o =
     let p : required (part 0 4 l) ≡ k = ap required n ∙ r in
     if-true _ _ _ (eq-eqb (length l) 80 h) ∙ if-false _ _ _ (ap (λ (j : Kind). isKind j other) p ∙ o) ∙ p
 
+-- VOL1 is read as VOL1
 pub kind-volume : (n : List ℕ) → kindOf (madeVolume n) ≡ vol 1
 unfolding required same isKind ifB madeVolume
 kind-volume n = kind-named _ VOL1 (vol 1) (length-volume n) (filled-back vol1 _ 0 ∙ fitted-all 4 VOL1 refl) refl refl
 
+-- the first label of a group is read as its name says
 pub kind-first : (name set e : List ℕ) (a q c : ℕ) (k : Kind) → length name ≡ 4 → required name ≡ k → isKind k other ≡ false
     → kindOf (madeFirst name set e a q c) ≡ k
 kind-first name set e a q c k h = kind-named _ name k (length-first name set e a q c) (first-field name set e a q c 0 h)
 
+-- and so is the second
 pub kind-second : (name e : List ℕ) (k : Kind) → length name ≡ 4 → required name ≡ k → isKind k other ≡ false
     → kindOf (madeSecond name e) ≡ k
 kind-second name e k h = kind-named _ name k (length-second name e) (second-field name e 0 h)

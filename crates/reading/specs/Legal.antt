@@ -96,4 +96,4 @@ unfoldable pub legalQuota : ℕ → Bool
 legalQuota q = ifB (leb 1 q) (leb q 999999) false
 
 unfoldable pub legalSheet : Sheet → Bool
-legalSheet s = ifB (legalQuota (s .quota)) (ifB (legalNames (s .volumes)) (legalMeaning (s .meaning)) false) false
+legalSheet s = ifB (legalQuota (s .quota)) (ifB (legalNames (s .names)) (legalMeaning (s .meaning)) false) false

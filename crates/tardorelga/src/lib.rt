@@ -75,7 +75,7 @@ pub extern "C" fn tardorelga_first_file(image: &[u8]) -> Beginning
 // The file behind the one whose HDR1 and HDR2 stand at these places, be they right or forged; in an accepted set the file of the next number.
 #[no_mangle]
 pub extern "C" fn tardorelga_next_file(image: &[u8], hdr1: u64, hdr2: u64) -> Beginning
-    ensures { λ x. ⌜ x ≡ fileOf (nextFile (now (image .entry)) (record { first = hdr1; second = hdr2; walk = noWalk })) ⌝ }
+    ensures { λ x. ⌜ x ≡ fileOf (nextFile (now (image .entry)) (record { hdr1 = hdr1; hdr2 = hdr2; walk = noWalk })) ⌝ }
 {
     let walk = Walk {
         format: 0,
@@ -85,8 +85,8 @@ pub extern "C" fn tardorelga_next_file(image: &[u8], hdr1: u64, hdr2: u64) -> Be
         left: 0,
     };
     let f = FileAt {
-        first: hdr1 as usize,
-        second: hdr2 as usize,
+        hdr1: hdr1 as usize,
+        hdr2: hdr2 as usize,
         walk,
     };
     file_of(next_file(image, f))

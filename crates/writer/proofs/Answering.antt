@@ -360,7 +360,7 @@ write-right x out n a p e z m =
 -- where the files of a sheet begin
 abbrev first : Place
 first =
-    record { nth = 0; first = 0; byte = 0; file = record { first = 0; second = 0; walk = record { format = 0; size = 0; offset = 0; at = 0; left = 0 } }; on = true }
+    record { nth = 0; first = 0; byte = 0; file = record { hdr1 = 0; hdr2 = 0; walk = record { format = 0; size = 0; offset = 0; at = 0; left = 0 } }; on = true }
 
 module _ (set files counts lengths bytes : List ℕ) (quota : ℕ) (names : List ℕ) (n : ℕ)
     (e : n ≡ sheetNumber (flat set files counts lengths bytes quota names)) (z : n ≡ 0)

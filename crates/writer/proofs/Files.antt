@@ -5,7 +5,7 @@ use mathlib.Core.List.{List, [], _∷_, _++_}
 use Prim.Native.Nat.{ℕ, _+_, _≤_}
 use native.Mathlib.Omega.{arith}
 use borrow.Author.Needs.{needs}
-use mir.Val.{EndsWithin as FitsIn}
+use mir.Val.{Fits as FitsIn}
 use mir.Syntax.{w64}
 use lib.ListN.{length, length-append}
 use Rattle.base.specs.If.{ifB}

@@ -192,7 +192,7 @@ module _ (s : List ℕ) (quota : ℕ) (names : List ℕ) (h : imageVerdict s .nu
   no-file out a n e q = absurd (some-file n e q)
 
   module _ (v : NextFile) (f : FileAt) (there : v ≡ firstFile s) (found : v ≡ At f) (files counts lengths set l : List ℕ)
-      (p : l ≡ part (f .first) 80 s) (q : set ≡ setOf l)
+      (p : l ≡ part (f .hdr1) 80 s) (q : set ≡ setOf l)
     where
       e : firstFile s ≡ At f
       e = sym there ∙ found

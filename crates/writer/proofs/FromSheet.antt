@@ -246,7 +246,7 @@ module _ (set files counts lengths bytes : List ℕ) (quota : ℕ) (names : List
   nowhere = record { format = 0; size = 0; offset = 0; at = 0; left = 0 }
 
   abbrev start : Place
-  start = place (record { first = 0; second = 0; walk = nowhere }) 0 0 0 true
+  start = place (record { hdr1 = 0; hdr2 = 0; walk = nowhere }) 0 0 0 true
 
   is-from : from ≡ listed files counts
   unfolding originOf

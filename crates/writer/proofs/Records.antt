@@ -6,7 +6,7 @@ use Prim.Native.Nat.{ℕ, _+_, _-_, _≤_, _<_, min}
 use native.Mathlib.Omega.{arith}
 use borrow.Author.Needs.{needs}
 use borrow.Author.Tests.{eq-eqb, ne-eqb, eqb-true, le-leb, leb-true}
-use mir.Val.{EndsWithin as FitsIn}
+use mir.Val.{Fits as FitsIn}
 use mir.Syntax.{w64}
 use lib.Dec.{eqb, leb}
 use lib.ListN.{length, take, drop, length-append, drop-of-length-le}

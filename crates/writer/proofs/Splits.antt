@@ -6,7 +6,7 @@ use Prim.Native.Nat.{ℕ, _+_, _-_, _≤_, _<_}
 use native.Mathlib.Omega.{arith}
 use borrow.Author.Needs.{needs}
 use borrow.Author.Tests.{eqb-true, eqb-false}
-use mir.Val.{EndsWithin as FitsIn}
+use mir.Val.{Fits as FitsIn}
 use mir.Syntax.{w64}
 use lib.Dec.{eqb}
 use lib.ListN.{length, take, drop, length-append}
@@ -21,7 +21,7 @@ use Rattle.content.specs.declared.unit.Taken.the-variants.{One, Nothing}
 use Rattle.content.specs.declared.measuring.Measured.the-variants.{Split}
 use Rattle.content.proofs.Units.{inside-true}
 use Rattle.content.proofs.Rests.{UnitBehind, next-behind, from-behind}
-use Rattle.content.proofs.Joins.{PiecesLeft as First, JoinGoing}
+use Rattle.content.proofs.Joins.{Splitting as First, JoinGoing}
 use Rattle.content.proofs.Records.{split-long, first-split, first-some, next-going, next-some}
 use Rattle.writing.specs.Pack.{going}
 use Rattle.writing.specs.code.Room.{RoomEach}

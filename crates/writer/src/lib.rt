@@ -159,8 +159,8 @@ pub fn write(
         first: 0,
         byte: 0,
         file: FileAt {
-            first: 0,
-            second: 0,
+            hdr1: 0,
+            hdr2: 0,
             walk,
         },
         on: true,
@@ -196,7 +196,7 @@ fn rewrite_accepted(image: &[u8], quota: u64, names: &[u8], out: &mut [u8]) -> W
                 file: f,
                 on: true,
             };
-            let set = set_of(part_of(image, f.first, LABEL));
+            let set = set_of(part_of(image, f.hdr1, LABEL));
             write_quota(
                 set,
                 set,

@@ -84,8 +84,8 @@ fn entered(labels: Labels, files: &[u8], bytes: &[u8], image: bool, g: Place) ->
     numbered[SEQUENCE] = (i + 1) as u8;
     if image {
         let f = g.file;
-        let first = part_of(bytes, f.first, LABEL);
-        let second = part_of(bytes, f.second, LABEL);
+        let first = part_of(bytes, f.hdr1, LABEL);
+        let second = part_of(bytes, f.hdr2, LABEL);
         let named = with_part(numbered, 0, part_of(first, 4, 17));
         let dated = with_part(named, 17, part_of(first, 35, 18));
         return with_part(dated, 35, part_of(second, 4, 11));

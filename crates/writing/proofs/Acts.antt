@@ -34,7 +34,7 @@ use Rattle.block.specs.Turn.{outcome, turned, blockOutcome}
 use Rattle.block.specs.declared.Outcome.{Outcome}
 use Rattle.volume.specs.State.{State}
 use Rattle.volume.specs.Fault.{says, valueOf, lower, crossed, isAmong, volumeFault, newFilePlace, laterPlace, fileFault, hdr1Fault, hdr2Fault, trailer1Fault, openFault, fileEndFault, trailer2Fault, outcomeIn, blockFault, contextFault, itemFault}
-use Rattle.volume.specs.Step.{begins, resumes, holds, isDue, kindIn, bytesIn, namesAfter, filesAfter, continuesAfter, hdr1After, hdr2After, countAfter, pendingAfter, stateAfter, segmentsOf, segmentsIn, eventsOf, go, judged, ordered, step}
+use Rattle.volume.specs.Step.{begins, resumes, holds, isDue, kindIn, bytesIn, volumesAfter, filesAfter, continuesAfter, hdr1After, hdr2After, countAfter, pendingAfter, stateAfter, segmentsOf, segmentsIn, eventsOf, go, judged, ordered, step}
 use Rattle.reading.specs.Legal.{formatFrom, blockLengthFrom, recordLengthFrom}
 use Rattle.writing.proofs.Packed.{Block}
 use Rattle.writing.proofs.Labels.{GoodFirst, GoodSecond, header-sound, header-kind, volume-end-sound, volume-end-kind, file-end-sound, file-end-kind, section-back, sequence-back, count-back, set-back, trailer-agrees, section-agrees, second-agrees, second-section-agrees, format-back, block-back, record-back, offset-back, second-header-sound, second-header-kind, second-volume-end-sound, second-volume-end-kind, second-file-end-sound, second-file-end-kind}
@@ -60,13 +60,13 @@ labelled s l k p d e h a c =
 
 pub act-mark : (p z : Phase) (names : List (List ℕ)) (files : ℕ) (on : Bool) (f s : List ℕ) (c o : ℕ) → dueAfter p tapeMark ≡ To z
     → step (at p names files on f s c o) mark ≡ go (at z names files on f s c o) []
-unfolding step ordered judged kindIn bytesIn itemFault orElse labelFault fieldFault fieldsOf firstBad accessOf accessAt contextFault fault isKind ifB stateAfter namesAfter filesAfter continuesAfter hdr1After hdr2After countAfter pendingAfter eventsOf
+unfolding step ordered judged kindIn bytesIn itemFault orElse labelFault fieldFault fieldsOf firstBad accessOf accessAt contextFault fault isKind ifB stateAfter volumesAfter filesAfter continuesAfter hdr1After hdr2After countAfter pendingAfter eventsOf
 act-mark p z names files on f s c o h = ap (ordered (at p names files on f s c o) tapeMark []) h
 
 pub act-reel-end : (p z : Phase) (names : List (List ℕ)) (files : ℕ) (on : Bool) (f s : List ℕ) (c o : ℕ)
     → dueAfter p endOfReel ≡ To z
     → step (at p names files on f s c o) reelEnd ≡ go (at z names files on f s c o) []
-unfolding step ordered judged kindIn bytesIn itemFault orElse labelFault fieldFault fieldsOf firstBad accessOf accessAt contextFault fault isKind ifB stateAfter namesAfter filesAfter continuesAfter hdr1After hdr2After countAfter pendingAfter eventsOf
+unfolding step ordered judged kindIn bytesIn itemFault orElse labelFault fieldFault fieldsOf firstBad accessOf accessAt contextFault fault isKind ifB stateAfter volumesAfter filesAfter continuesAfter hdr1After hdr2After countAfter pendingAfter eventsOf
 act-reel-end p z names files on f s c o h = ap (ordered (at p names files on f s c o) endOfReel []) h
 
 -- ---- the volume label
@@ -82,7 +82,7 @@ volume-fault names n h m d =
 pub act-volume : (names : List (List ℕ)) (files : ℕ) (on : Bool) (f s : List ℕ) (c o : ℕ) (n : List ℕ)
     → length n ≡ 6 → labelFault (vol 1) (madeVolume n) .number ≡ 0 → length names < 16 → isAmong n names ≡ false
     → step (at Reel names files on f s c o) (block (madeVolume n)) ≡ go (at (Volume 1) (names ++ (n ∷ [])) files on f s c o) []
-unfolding dueAfter dues choose isDue contextFault isKind ifB stateAfter namesAfter filesAfter continuesAfter hdr1After hdr2After countAfter pendingAfter eventsOf
+unfolding dueAfter dues choose isDue contextFault isKind ifB stateAfter volumesAfter filesAfter continuesAfter hdr1After hdr2After countAfter pendingAfter eventsOf
 act-volume names files on f s c o n h a m d =
     labelled (at Reel names files on f s c o) (madeVolume n) (vol 1) (Volume 1) refl (kind-volume n) refl a
     (volume-fault names n h m d)
@@ -92,7 +92,7 @@ act-volume names files on f s c o n h a m d =
 
 -- the set identifier is that of the file before, if there is one
 abbrev pub OneSet : ℕ → List ℕ → List ℕ → Type 0
-OneSet files set hdr1 = ifB (eqb files 0) true (same set (setOf first)) ≡ true
+OneSet files set first = ifB (eqb files 0) true (same set (setOf first)) ≡ true
 
 new-place : (files : ℕ) (set e f : List ℕ) → GoodFirst set e → OneSet files set f → files < 64
     → newFilePlace files f (madeFirst HDR1 set e 1 (suc files) 0) ≡ 0
@@ -125,7 +125,7 @@ pub act-header : (p : Phase) (names : List (List ℕ)) (files : ℕ) (f s : List
     → files < 64
     → step (at p names files false f s c o) (block (madeFirst HDR1 set e 1 (suc files) 0))
     ≡ go (at FirstHeader names files false (madeFirst HDR1 set e 1 (suc files) 0) s 0 o) []
-unfolding contextFault hdr1Fault isKind ifB stateAfter namesAfter filesAfter continuesAfter hdr1After hdr2After countAfter pendingAfter eventsOf
+unfolding contextFault hdr1Fault isKind ifB stateAfter volumesAfter filesAfter continuesAfter hdr1After hdr2After countAfter pendingAfter eventsOf
 act-header p names files f s c o set e d h g one few =
     labelled (at p names files false f s c o) (madeFirst HDR1 set e 1 (suc files) 0) (hdr 1) FirstHeader d
     (header-kind set e 1 (suc files)) h
@@ -149,7 +149,7 @@ pub act-header-later : (names : List (List ℕ)) (files : ℕ) (s : List ℕ) (c
     → a < 9999
     → step (at (Volume 1) names files true (madeFirst HDR1 set e a q 0) s c o) (block (madeFirst HDR1 set e (suc a) q 0))
     ≡ go (at FirstHeader names files true (madeFirst HDR1 set e (suc a) q 0) s 0 o) []
-unfolding dueAfter dues choose upToNine isDue contextFault hdr1Fault isKind ifB stateAfter namesAfter filesAfter continuesAfter hdr1After hdr2After countAfter pendingAfter eventsOf
+unfolding dueAfter dues choose upToNine isDue contextFault hdr1Fault isKind ifB stateAfter volumesAfter filesAfter continuesAfter hdr1After hdr2After countAfter pendingAfter eventsOf
 act-header-later names files s c o set e a q g h =
     labelled (at (Volume 1) names files true (madeFirst HDR1 set e a q 0) s c o) (madeFirst HDR1 set e (suc a) q 0)
     (hdr 1) FirstHeader refl
@@ -161,7 +161,7 @@ act-header-later names files s c o set e a q g h =
 pub act-second : (names : List (List ℕ)) (files : ℕ) (f s : List ℕ) (c o : ℕ) (e : List ℕ) → GoodSecond e
     → step (at FirstHeader names files false f s c o) (block (madeSecond HDR2 e))
     ≡ go (at (Header 2) names (suc files) false f (madeSecond HDR2 e) c o) (begins f (madeSecond HDR2 e) ∷ [])
-unfolding dueAfter dues choose isDue contextFault hdr2Fault fault isKind ifB stateAfter namesAfter filesAfter continuesAfter hdr1After hdr2After countAfter pendingAfter eventsOf
+unfolding dueAfter dues choose isDue contextFault hdr2Fault fault isKind ifB stateAfter volumesAfter filesAfter continuesAfter hdr1After hdr2After countAfter pendingAfter eventsOf
 act-second names files f s c o e g =
     labelled (at FirstHeader names files false f s c o) (madeSecond HDR2 e) (hdr 2) (Header 2) refl (second-header-kind e) refl
     (number-none _ (second-header-sound e g)) refl
@@ -171,7 +171,7 @@ act-second names files f s c o e g =
 pub act-second-later : (names : List (List ℕ)) (files : ℕ) (f : List ℕ) (c o : ℕ) (e : List ℕ) → GoodSecond e
     → step (at FirstHeader names files true f (madeSecond HDR2 e) c o) (block (madeSecond HDR2 e))
     ≡ go (at (Header 2) names files true f (madeSecond HDR2 e) c o) (resumes f (madeSecond HDR2 e) ∷ [])
-unfolding dueAfter dues choose isDue contextFault hdr2Fault isKind ifB stateAfter namesAfter filesAfter continuesAfter hdr1After hdr2After countAfter pendingAfter eventsOf
+unfolding dueAfter dues choose isDue contextFault hdr2Fault isKind ifB stateAfter volumesAfter filesAfter continuesAfter hdr1After hdr2After countAfter pendingAfter eventsOf
 act-second-later names files f c o e g =
     labelled (at FirstHeader names files true f (madeSecond HDR2 e) c o) (madeSecond HDR2 e) (hdr 2) (Header 2) refl
     (second-header-kind e) refl
@@ -192,7 +192,7 @@ pub act-eof1 : (names : List (List ℕ)) (files : ℕ) (on : Bool) (s : List ℕ
     → c < 1000000
     → step (at Trailer names files on (madeFirst HDR1 set e a q 0) s c 0) (block (madeFirst EOF1 set e a q c))
     ≡ go (at FirstEof names files false (madeFirst HDR1 set e a q 0) s c 0) []
-unfolding dueAfter dues choose isDue contextFault fileEndFault openFault isKind ifB stateAfter namesAfter filesAfter continuesAfter hdr1After hdr2After countAfter pendingAfter eventsOf
+unfolding dueAfter dues choose isDue contextFault fileEndFault openFault isKind ifB stateAfter volumesAfter filesAfter continuesAfter hdr1After hdr2After countAfter pendingAfter eventsOf
 act-eof1 names files on s set e a q c g h =
     labelled (at Trailer names files on (madeFirst HDR1 set e a q 0) s c 0) (madeFirst EOF1 set e a q c) (eof 1) FirstEof refl
     (file-end-kind set e a q c) refl (number-none _ (file-end-sound set e a q c g))
@@ -202,7 +202,7 @@ pub act-eov1 : (names : List (List ℕ)) (files : ℕ) (on : Bool) (s : List ℕ
     → c < 1000000
     → step (at Trailer names files on (madeFirst HDR1 set e a q 0) s c o) (block (madeFirst EOV1 set e a q c))
     ≡ go (at FirstEov names files true (madeFirst HDR1 set e a q 0) s c o) []
-unfolding dueAfter dues choose isDue contextFault isKind ifB stateAfter namesAfter filesAfter continuesAfter hdr1After hdr2After countAfter pendingAfter eventsOf
+unfolding dueAfter dues choose isDue contextFault isKind ifB stateAfter volumesAfter filesAfter continuesAfter hdr1After hdr2After countAfter pendingAfter eventsOf
 act-eov1 names files on s set e a q c o g h =
     labelled (at Trailer names files on (madeFirst HDR1 set e a q 0) s c o) (madeFirst EOV1 set e a q c) (eov 1) FirstEov refl
     (volume-end-kind set e a q c) refl (number-none _ (volume-end-sound set e a q c g))
@@ -211,7 +211,7 @@ act-eov1 names files on s set e a q c o g h =
 pub act-eof2 : (names : List (List ℕ)) (files : ℕ) (on : Bool) (f e : List ℕ) (c o : ℕ) → GoodSecond e
     → step (at FirstEof names files on f (madeSecond HDR2 e) c o) (block (madeSecond EOF2 e))
     ≡ go (at (Eof 2) names files on f (madeSecond HDR2 e) c o) []
-unfolding dueAfter dues choose isDue contextFault trailer2Fault isKind ifB stateAfter namesAfter filesAfter continuesAfter hdr1After hdr2After countAfter pendingAfter eventsOf
+unfolding dueAfter dues choose isDue contextFault trailer2Fault isKind ifB stateAfter volumesAfter filesAfter continuesAfter hdr1After hdr2After countAfter pendingAfter eventsOf
 act-eof2 names files on f e c o g =
     labelled (at FirstEof names files on f (madeSecond HDR2 e) c o) (madeSecond EOF2 e) (eof 2) (Eof 2) refl
     (second-file-end-kind e) refl
@@ -220,7 +220,7 @@ act-eof2 names files on f e c o g =
 pub act-eov2 : (names : List (List ℕ)) (files : ℕ) (on : Bool) (f e : List ℕ) (c o : ℕ) → GoodSecond e
     → step (at FirstEov names files on f (madeSecond HDR2 e) c o) (block (madeSecond EOV2 e))
     ≡ go (at (Eov 2) names files on f (madeSecond HDR2 e) c o) []
-unfolding dueAfter dues choose isDue contextFault trailer2Fault isKind ifB stateAfter namesAfter filesAfter continuesAfter hdr1After hdr2After countAfter pendingAfter eventsOf
+unfolding dueAfter dues choose isDue contextFault trailer2Fault isKind ifB stateAfter volumesAfter filesAfter continuesAfter hdr1After hdr2After countAfter pendingAfter eventsOf
 act-eov2 names files on f e c o g =
     labelled (at FirstEov names files on f (madeSecond HDR2 e) c o) (madeSecond EOV2 e) (eov 2) (Eov 2) refl
     (second-volume-end-kind e) refl
@@ -257,7 +257,7 @@ pub act-block : (names : List (List ℕ)) (files : ℕ) (on : Bool) (f e b : Lis
     → Block (formatFrom e) (blockLengthFrom e) (recordLengthFrom e) o p b g
     → step (at Data names files on f (madeSecond HDR2 e) c o) (block b)
     ≡ go (at Data names files on f (madeSecond HDR2 e) (suc c) p) (holds b g ∷ [])
-unfolding outcome isKind ifB stateAfter namesAfter filesAfter continuesAfter hdr1After hdr2After countAfter pendingAfter eventsOf
+unfolding outcome isKind ifB stateAfter volumesAfter filesAfter continuesAfter hdr1After hdr2After countAfter pendingAfter eventsOf
 act-block names files on f e b c o p g s h =
     let out : outcomeIn (madeSecond HDR2 e) o b ≡ outcome 0 p = block-outcome e b o p g s h in
     data-block (at Data names files on f (madeSecond HDR2 e) c o) b refl (ap (λ (x : Outcome). x .number) out)

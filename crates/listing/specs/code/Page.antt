@@ -1,7 +1,7 @@
 -- Writing text into a lent buffer. Places are counted up to 2^63: no buffer has so many bytes.
 use mathlib.Core.List.{List}
 use Prim.Native.Nat.{ℕ}
-use Rattle.output.specs.Output.{PageWrote as WroteUpTo}
+use Rattle.output.specs.Output.{Wrote as WroteUpTo}
 
 abbrev pub endless : ℕ
 endless = 9223372036854775808
