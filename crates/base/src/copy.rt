@@ -1,5 +1,6 @@
-// Bytes written into a lent buffer, where they have room. Records come by the million, most of them short: a loop over a few bytes asks at run time whether
-// the two parts overlap, and ends byte by byte, so they go as words, of which the last may meet the one before.
+// Bytes written into a lent buffer, where they have room. Records come by the million, most of them short: a loop over a few
+// bytes asks at run time whether the two parts overlap, and ends byte by byte, so they go as words, of which the last may meet
+// the one before.
 ghost use mathlib.Core.Path.{_≡_};
 ghost use Prim.Native.Nat.{_+_, _≤_, _<_};
 ghost use lib.ListN.{length};
@@ -176,8 +177,8 @@ fn copy_some(out: &mut [u8], at: usize, s: &[u8])
     copy_by_64(out, at, s);
 }
 
-// Writes the first 64 bytes of s, and 64 from where the places become multiples of 16 on: a write across two lines of the cache takes longer. Says how many
-// bytes are written.
+// Writes the first 64 bytes of s, and 64 from where the places become multiples of 16 on: a write across two lines of the cache
+// takes longer. Says how many bytes are written.
 fn put_first(out: &mut [u8], at: usize, s: &[u8]) -> usize
     requires { ⌜ 128 ≤ length (now s) ⌝ }
     requires { ⌜ at + length (now s) ≤ length (now out) ⌝ }

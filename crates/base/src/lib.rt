@@ -1,5 +1,5 @@
-// What every layer answers with, the two questions that every layer asks of byte strings, whether numbers that a caller gave add up, and how bytes get into a
-// lent buffer. It knows no rule of a label, a block or an image.
+// What every layer answers with, the two questions that every layer asks of byte strings, whether numbers that a caller gave add
+// up, and how bytes get into a lent buffer. It knows no rule of a label, a block or an image.
 mod copy; // copy.rt: bytes into a lent buffer
 
 pub use copy::put_few;

@@ -1,6 +1,5 @@
 -- Cutting a data block into units. Document 01, "Blocks and records": a data block is at most B bytes, and at least O. Skip O
--- bytes. Then come
--- one or more units, then only bytes 5E hexadecimal.
+-- bytes. Then come one or more units, then only bytes 5E hexadecimal.
 -- `cut` counts down a number that is large enough; `cut-unit` and `cut-end` (proofs/Cuts.antt) are its equations.
 use mathlib.Core.Bool.{Bool, true, false}
 use mathlib.Core.List.{List, [], _∷_}

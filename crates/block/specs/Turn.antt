@@ -1,12 +1,9 @@
 -- The turns of segments, and the answer on one data block. Document 01, "Blocks and records": 0 is a whole record, 1 begins one,
--- 2 goes on,
--- 3 ends it. A 1 or 2 is the last unit of its block; the next block of that file begins with 2 or 3. Nowhere else may 2 or 3
--- stand. A record,
--- whole or joined, is at most R bytes. In one block 7 goes before 8, wherever the bad unit stands.
+-- 2 goes on, 3 ends it. A 1 or 2 is the last unit of its block; the next block of that file begins with 2 or 3. Nowhere else may
+-- 2 or 3 stand. A record, whole or joined, is at most R bytes. In one block 7 goes before 8, wherever the bad unit stands.
 --
 -- What is open is 0, or one more than the bytes of the open record so far. A 2 or a 3 stands only at the head of a block and only
--- where
--- something is open; a 0 or a 1 only where nothing is. So no unit can follow a 1 or a 2 in its block.
+-- where something is open; a 0 or a 1 only where nothing is. So no unit can follow a 1 or a 2 in its block.
 -- Units of F and D have indicator 0 and at most R bytes, so the same turns hold of them.
 use mathlib.Core.Bool.{Bool, true, false}
 use mathlib.Core.List.{List, [], _∷_}

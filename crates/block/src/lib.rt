@@ -129,8 +129,9 @@ fn code_of(b: u8) -> u32
     b as u32
 }
 
-// The number that four digits mean: of products side by side, since a walk waits for it before the next record is found. What the codes of the first
-// three are too high, 48 each, is taken off the sum; the last is a value, or the compiler reads all four into one wide register, for which the walk waits longer.
+// The number that four digits mean: of products side by side, since a walk waits for it before the next record is found. What the
+// codes of the first three are too high, 48 each, is taken off the sum; the last is a value, or the compiler reads all four into
+// one wide register, for which the walk waits longer.
 fn four_digits(a: u8, b: u8, c: u8, d: u8) -> Number
     ensures { λ r. ⌜ r ≡ numberIn (a ∷ b ∷ c ∷ d ∷ []) ⌝ }
 {
@@ -173,7 +174,8 @@ fn left_of(s: &[u8], at: usize) -> usize
     s.len() - at
 }
 
-// The bytes of the fixed-length record at a place, or 0 where there is none. Most records differ from padding in their first byte.
+// The bytes of the fixed-length record at a place, or 0 where there is none. Most records differ from padding in their first
+// byte.
 fn fixed_length(size: u32, s: &[u8], at: usize) -> usize
     ensures { λ r. ⌜ r ≡ lengthOf (fixed size (drop at (now (s .entry)))) ⌝ }
 {
@@ -194,7 +196,8 @@ fn fixed_length(size: u32, s: &[u8], at: usize) -> usize
     n
 }
 
-// The bytes of a unit led by a control word of `word` bytes whose length field says `n`, at most `longest`, with `left` bytes there; or 0.
+// The bytes of a unit led by a control word of `word` bytes whose length field says `n`, at most `longest`, with `left` bytes
+// there; or 0.
 fn measured_length(word: u32, longest: u32, left: usize, n: Number) -> usize
     ensures { λ r. ⌜ r ≡ lengthOf (measured 0 word longest left n) ⌝ }
 {
@@ -457,7 +460,8 @@ fn whole_outcome(cuts: bool, pending: usize) -> Outcome
     answer(7, 0)
 }
 
-// The answer on the segments from a place on, at which `pending` was open; those before `begin` are known to stand in their turns, with `carried` open there.
+// The answer on the segments from a place on, at which `pending` was open; those before `begin` are known to stand in their
+// turns, with `carried` open there.
 // Where one is out of turn, a unit that cannot be cut goes before it, wherever it stands.
 fn segments_outcome(
     size: u32,
@@ -592,7 +596,8 @@ fn ends_with(digit: u8) -> usize
     1
 }
 
-// What a block holds whose units end at a place: so many, with control words of `word` bytes, in which so many records end. Behind them must be padding.
+// What a block holds whose units end at a place: so many, with control words of `word` bytes, in which so many records end.
+// Behind them must be padding.
 fn held_up_to(s: &[u8], offset: usize, at: usize, word: usize, units: usize, records: usize) -> Held
     requires { ⌜ Reached (now s) offset at word units ⌝ }
     ensures { λ r. ⌜ r ≡ heldUpTo (now (s .entry)) offset at word units records ⌝ }

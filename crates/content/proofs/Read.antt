@@ -1,6 +1,5 @@
 -- The parts of an accepted image are what its reading hands out, in order: a file that begins, by its labels, and the segments of
--- each data block, by the lengths
--- of its section's HDR2. Assumes nothing.
+-- each data block, by the lengths of its section's HDR2. Assumes nothing.
 use mathlib.Core.Path.{_≡_, refl, sym, ap, ap₂, _∙_, subst}
 use mathlib.Core.Bool.{Bool, true, false, false≢true}
 use mathlib.Core.List.{List, [], _∷_, _++_}

@@ -1,6 +1,5 @@
 -- The segment that stands at the head of what is left of a block, or of the next block: one number tells it, and it is the unit
--- with which a record begins or
--- goes on. Assumes nothing.
+-- with which a record begins or goes on. Assumes nothing.
 use mathlib.Core.Path.{_≡_, refl, sym, ap, ap₂, _∙_, subst}
 use mathlib.Core.Bool.{true}
 use mathlib.Core.List.{List}

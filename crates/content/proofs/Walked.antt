@@ -1,6 +1,5 @@
 -- The law of the files and of the walks: on an accepted image, going from file to file meets exactly the files of the meaning, in
--- order, and the walk
--- over each hands out exactly its records, in order, and then 13.
+-- order, and the walk over each hands out exactly its records, in order, and then 13.
 -- What is told of all that is still handed out goes backwards over the parts (`Read`). Assumes nothing.
 use mathlib.Core.Path.{_≡_, refl, sym, ap, ap₂, _∙_, subst}
 use mathlib.Core.Bool.{false}
@@ -256,8 +255,7 @@ started s k h =
     ∙ ap (λ (j : ℕ). fromFile (firstFile s) (λ f. filesOn s j f)) e)
 
 -- On an accepted image, each file is found by its number, with its fields of the meaning, and the walk over it hands out exactly
--- its records, in
--- order, and then 13.
+-- its records, in order, and then 13.
 pub walk-records : (s : List ℕ) (ds : List File) (d : File) (es : List File) → imageVerdict s .number ≡ 0
     → content s .files ≡ ds ++ (d ∷ es)
     → (f : FileAt) × (begunAt s (length ds + 1) ≡ Started f) × FileIs s f d

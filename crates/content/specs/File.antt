@@ -1,6 +1,5 @@
 -- The files of a set, one after the other: each by the places of its first HDR1 and HDR2, and the walk at its first record, which
--- stands at the data
--- of the file's first section and has the format and lengths of that HDR2.
+-- stands at the data of the file's first section and has the format and lengths of that HDR2.
 -- Document 01, "Handing out records": a walk covers one file; beginning it gives the image's own number, then 13.
 -- Read first: `fileFrom`, the next file from a place on; `firstFile` and `nextFile` are that search from the beginning and from a
 -- file on.

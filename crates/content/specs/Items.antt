@@ -1,6 +1,5 @@
 -- An image item by item, for whoever shows or lists it: what stands at a place, whatever stood before it, accepted or not. Of an
--- accepted set these are its
--- items, with the kinds by which it was checked (`Met` below; `items-met` in proofs/Shown.antt).
+-- accepted set these are its items, with the kinds by which it was checked (`Met` below; `items-met` in proofs/Shown.antt).
 -- The first item stands at place 5 among labels; the next one stateBehind it, in the group that the answer names.
 use mathlib.Core.Path.{_≡_}
 use mathlib.Core.List.{List, [], _∷_}

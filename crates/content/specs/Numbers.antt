@@ -1,6 +1,5 @@
 -- An answer with cases, in document 01's numbers: for each case the number given back and its values. A promise of such an answer
--- says both, the case and
--- its numbers (`Said`); what C and Rust get are the numbers alone.
+-- says both, the case and its numbers (`Said`); what C and Rust get are the numbers alone.
 use mathlib.Core.Path.{_≡_}
 use Rattle.base.specs.Answer.{verdict}
 use Rattle.content.specs.File.{begunBy}

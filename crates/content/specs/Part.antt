@@ -1,8 +1,6 @@
 -- The parts of an image from a place on, in order: a file begins, a section of it begins, a data block. Document 01, "What a reel
--- holds, in order": what
--- stands between them is passed as the order of a reel has it; what is not due there ends the search. Whatever the bytes are,
--- accepted or not, a file begins at
--- an HDR2 where none goes on.
+-- holds, in order": what stands between them is passed as the order of a reel has it; what is not due there ends the search.
+-- Whatever the bytes are, accepted or not, a file begins at an HDR2 where none goes on.
 -- Read first: `partsFrom`, all parts from a place on; files, sections, blocks and so records are found by the first of them that
 -- is wanted.
 use mathlib.Core.Bool.{Bool, true, false, not}

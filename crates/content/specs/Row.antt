@@ -1,6 +1,5 @@
 -- StepRow taken one after the other, as long as each hands out a part of the image. A record that has to be joined, and the
--- refusal behind the last record, are left
--- to a single step: from the walk behind these it gives what it gives.
+-- refusal behind the last record, are left to a single step: from the walk behind these it gives what it gives.
 use mathlib.Core.List.{List, [], _∷_}
 use Prim.Native.Nat.{ℕ, zero, suc, min}
 use lib.ListN.{length}

@@ -1,8 +1,7 @@
 -- The next data block of a file, from a place between two items of its data on: the next part that is no section. A file that
 -- begins ends the one before it.
 -- Document 01, "What a reel holds, in order": behind the last block of a section stand a mark and the trailer labels; with EOV
--- the file goes on at the next
--- reel, with EOF it ends.
+-- the file goes on at the next reel, with EOF it ends.
 use mathlib.Core.Bool.{true, false}
 use mathlib.Core.List.{List}
 use Prim.Native.Nat.{ℕ}

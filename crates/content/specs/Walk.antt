@@ -1,10 +1,9 @@
 -- A step of a walk over a file's records. Document 01, "Handing out records": a forward walk takes one step a record; from a
--- state that no walk
--- reaches the same definition decides: no record where none, by the state's own format and lengths, stands at its place.
+-- state that no walk reaches the same definition decides: no record where none, by the state's own format and lengths, stands at
+-- its place.
 --
 -- A walk has the format, the record length (R, `size`) and the offset length of its file, the place of what is left of the
--- current block and how
--- many bytes of it are left; with none left the place is that of the next item.
+-- current block and how many bytes of it are left; with none left the place is that of the next item.
 -- Read first: `recordAt`, the record that stands there: whole, a part of the image; or split, the bytes of its segments; and the
 -- walk behind it.
 -- `restAt` counts down a number that is large enough; `rest-at` (proofs/Rests.antt) is its equation.

@@ -52,8 +52,7 @@ pub record Amounts (s : List ℕ) (f : FileAt) (d : File) : Type 0 where
   pub behind : fileBehind s f (fileHeld s (f .walk) .end) ≡ nextFile s f
 
 -- a file of the meaning where it stands: its first HDR1 and HDR2 lie within the image and have its fields, the walk hands out its
--- records, and what
--- follows the file is found from the end of its records on, too
+-- records, and what follows the file is found from the end of its records on, too
 pub record FileIs (s : List ℕ) (f : FileAt) (d : File) : Type 0 where
   pub firstWithin : f .hdr1 + 80 ≤ length s
   pub secondWithin : f .hdr2 + 80 ≤ length s

@@ -1,4 +1,5 @@
-// An image item by item, whatever its bytes: what stands at a place, and where the next item does. It knows the groups of items, and no fault.
+// An image item by item, whatever its bytes: what stands at a place, and where the next item does. It knows the groups of items,
+// and no fault.
 ghost use mathlib.Core.Path.{_≡_};
 ghost use Prim.Native.Nat.{_+_, _<_};
 ghost use Rattle.content.specs.Items.{itemOf, kindAmong, restAt, itemAt};
@@ -15,7 +16,8 @@ use order::group_after;
 // The family of what is no item: its length is none, or the image ends within it.
 pub const TORN: u32 = 12;
 
-// An item: its kind by family and number, the group in which the next one stands, the place and the number of its bytes, and the place behind it.
+// An item: its kind by family and number, the group in which the next one stands, the place and the number of its bytes, and the
+// place behind it.
 #[repr(C)]
 pub struct ItemAt {
     pub family: u32,

@@ -1,4 +1,5 @@
-// Joining: the segments of one record, end to end, in the front of a lent buffer. It knows no refusal: whoever calls it knows that all of it fits.
+// Joining: the segments of one record, end to end, in the front of a lent buffer. It knows no refusal: whoever calls it knows
+// that all of it fits.
 ghost use mathlib.Core.Path.{_≡_};
 ghost use mathlib.Core.List.{_++_};
 ghost use Prim.Native.Nat.{_+_, _≤_};

@@ -1,5 +1,5 @@
-// Records handed out: by number, and by a walk over one file. It knows where a record stands and how its segments are joined; what is right in a
-// set it leaves to the layers below.
+// Records handed out: by number, and by a walk over one file. It knows where a record stands and how its segments are joined;
+// what is right in a set it leaves to the layers below.
 mod counting; // counting.rt: how many records, and how long
 mod file; // file.rt: the files of a set, one after the other
 mod holding; // holding.rt: what a file holds, block by block
@@ -68,8 +68,8 @@ use unit::Place;
 use unit::moved;
 use volume::check;
 
-// A walk over the records of one file: the format, the record length and the offset length of the file, the place of what is left of the
-// current block, and how many bytes of it are left. With none left the place is that of the next item.
+// A walk over the records of one file: the format, the record length and the offset length of the file, the place of what is left
+// of the current block, and how many bytes of it are left. With none left the place is that of the next item.
 #[repr(C)]
 pub struct Walk {
     pub format: u32,
@@ -79,8 +79,8 @@ pub struct Walk {
     pub left: usize,
 }
 
-// A step of a walk: a record that is a part of the image, by its place and length, or one that was joined into the front of the buffer, by its
-// length, each with the walk behind it; or 13 or 10.
+// A step of a walk: a record that is a part of the image, by its place and length, or one that was joined into the front of the
+// buffer, by its length, each with the walk behind it; or 13 or 10.
 pub enum Step {
     InImage(usize, usize, Walk),
     Joined(usize, Walk),
@@ -148,7 +148,8 @@ fn step_units(image: &[u8], w: Walk, join: &mut [u8]) -> Step
     }
 }
 
-// The record that begins with the segment, of k bytes with its control word, at the head of what is left of the current block: measured, then joined.
+// The record that begins with the segment, of k bytes with its control word, at the head of what is left of the current block:
+// measured, then joined.
 fn step_segments(image: &[u8], v: Walk, k: usize, join: &mut [u8]) -> Step
     requires { ⌜ BegunAt (now image) v k ⌝ }
     ensures { λ r. ⌜ r ≡ stepAt (now (image .entry)) (length (now (join .entry))) v ⌝ }
@@ -169,8 +170,8 @@ fn step_segments(image: &[u8], v: Walk, k: usize, join: &mut [u8]) -> Step
     }
 }
 
-// A record of two segments: the first, of k bytes with its control word, at the head of what is left of the current block, and the second, of j, at the head h of
-// the next.
+// A record of two segments: the first, of k bytes with its control word, at the head of what is left of the current block, and
+// the second, of j, at the head h of the next.
 fn step_two(image: &[u8], v: Walk, k: usize, h: Walk, j: usize, join: &mut [u8]) -> Step
     requires { ⌜ TwoAt (now image) v k h j ⌝ }
     ensures { λ r. ⌜ r ≡ stepAt (now (image .entry)) (length (now (join .entry))) v ⌝ }
@@ -186,8 +187,8 @@ fn step_two(image: &[u8], v: Walk, k: usize, h: Walk, j: usize, join: &mut [u8])
     Step::Joined(total, moved(h, h.at + j, h.left - j))
 }
 
-// The record that begins with the segment, of k bytes with its control word, at the head of what is left of the current block. Most often the next block stands right
-// behind, and the segment at its head ends the record.
+// The record that begins with the segment, of k bytes with its control word, at the head of what is left of the current block.
+// Most often the next block stands right behind, and the segment at its head ends the record.
 fn step_begun(image: &[u8], v: Walk, k: usize, join: &mut [u8]) -> Step
     requires { ⌜ BegunAt (now image) v k ⌝ }
     ensures { λ r. ⌜ r ≡ stepAt (now (image .entry)) (length (now (join .entry))) v ⌝ }
@@ -301,7 +302,8 @@ fn found_from(image: &[u8], begun: Begun, r: u64, join: &mut [u8]) -> Found
 }
 
 // Record r of file n, both from 1: the image's own number, then 13, then 10, the latter two with place 0.
-// A record of one unit is a part of the image and changes no byte of the buffer; one of several is joined into the front of the buffer.
+// A record of one unit is a part of the image and changes no byte of the buffer; one of several is joined into the front of the
+// buffer.
 pub fn record(image: &[u8], file: u64, r: u64, join: &mut [u8]) -> Found
     ensures { λ f. ⌜ Said recordOf f (foundAt (now (image .entry)) file r (length (now (join .entry)))) ⌝ }
     ensures { λ f. ⌜ now (join .exit) ≡ leftAt (now (image .entry)) file r (now (join .entry)) ⌝ }

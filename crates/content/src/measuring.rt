@@ -24,14 +24,16 @@ pub enum Tail {
     Fails,
 }
 
-// A record that is one unit, by its place and length, or one of several segments, by its length, each with the walk behind it; or none.
+// A record that is one unit, by its place and length, or one of several segments, by its length, each with the walk behind it; or
+// none.
 pub enum Measured {
     Whole(usize, usize, Walk),
     Split(usize, Walk),
     Nothing,
 }
 
-// The walk at the head of the next block, where nothing is left of the current one and a block stands there; else the walk itself.
+// The walk at the head of the next block, where nothing is left of the current one and a block stands there; else the walk
+// itself.
 pub fn at_block(image: &[u8], w: Walk) -> Walk
     ensures { λ r. ⌜ r ≡ atBlock (now (image .entry)) w ⌝ }
 {
@@ -51,8 +53,8 @@ pub fn at_block(image: &[u8], w: Walk) -> Walk
     }
 }
 
-// The bytes, with its control word, of the whole record at the head of what is left of a block; or 0. It is asked for each record, and so takes its walk
-// as numbers.
+// The bytes, with its control word, of the whole record at the head of what is left of a block; or 0. It is asked for each
+// record, and so takes its walk as numbers.
 pub fn whole_at(image: &[u8], format: u32, size: u32, at: usize, left: usize) -> usize
     ensures { λ r. ⌜ r ≡ wholeIn (now (image .entry)) (standsAt format size at left) ⌝ }
 {
@@ -72,8 +74,8 @@ pub fn whole_at(image: &[u8], format: u32, size: u32, at: usize, left: usize) ->
     whole_length(format as u8, size, &image[at..end], 0)
 }
 
-// The bytes, with its control word, of the segment at the head of what is left of a block of an S file, where `before` bytes are left of the block before it:
-// none have to be. Or 0.
+// The bytes, with its control word, of the segment at the head of what is left of a block of an S file, where `before` bytes are
+// left of the block before it: none have to be. Or 0.
 pub(crate) fn segment_in(image: &[u8], before: usize, format: u32, at: usize, left: usize) -> usize
     ensures { λ r. ⌜ r ≡ segmentIn (now (image .entry)) before (standsAt format 0 at left) ⌝ }
 {
@@ -202,8 +204,8 @@ fn measure_begun(image: &[u8], v: Walk, k: usize) -> Measured
     }
 }
 
-// The record at a walk's place, for a caller who knows that no whole one stands in the current block, nor at the head of the next: most often one begins
-// there.
+// The record at a walk's place, for a caller who knows that no whole one stands in the current block, nor at the head of the
+// next: most often one begins there.
 pub fn measure_far(image: &[u8], w: Walk) -> Measured
     ensures { λ r. ⌜ r ≡ measuredBy (recordAt (now (image .entry)) w) ⌝ }
 {

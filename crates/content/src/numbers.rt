@@ -19,7 +19,8 @@ pub struct Located {
     pub len: u64,
 }
 
-// A file by its number: the places of its first HDR1 and HDR2 in the image, and the walk at its first record; with a refusal it stands nowhere.
+// A file by its number: the places of its first HDR1 and HDR2 in the image, and the walk at its first record; with a refusal it
+// stands nowhere.
 #[repr(C)]
 pub struct Beginning {
     pub verdict: Verdict,

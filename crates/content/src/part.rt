@@ -1,4 +1,5 @@
-// The parts of an image, one after the other: the one search over its items, whatever its bytes. It knows the order of a reel and the kinds of labels.
+// The parts of an image, one after the other: the one search over its items, whatever its bytes. It knows the order of a reel and
+// the kinds of labels.
 ghost use mathlib.Core.Path.{_≡_};
 ghost use Rattle.content.specs.Part.{beginsFile, ledTo, continuesBehind, firstBehind, partIn, partsAt, isWanted, firstFrom, nextPart};
 ghost use Rattle.content.specs.code.Seen.{seenAt};
@@ -23,8 +24,8 @@ pub enum Seen {
     Nothing,
 }
 
-// What a search has to know to go on: the place between two items, the place of the last HDR1, what is due there, and whether the next HDR1 goes on with
-// a file.
+// What a search has to know to go on: the place between two items, the place of the last HDR1, what is due there, and whether the
+// next HDR1 goes on with a file.
 pub struct Position {
     pub at: usize,
     pub hdr1: usize,
@@ -32,8 +33,8 @@ pub struct Position {
     pub continues: bool,
 }
 
-// A part of an image: a file that begins and a section that goes on with one, by the places of their HDR1 and HDR2, and a data block, by the place of its
-// first byte and its length; or none.
+// A part of an image: a file that begins and a section that goes on with one, by the places of their HDR1 and HDR2, and a data
+// block, by the place of its first byte and its length; or none.
 pub enum Part {
     File(usize, usize),
     Section(usize, usize),

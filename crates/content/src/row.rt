@@ -47,8 +47,8 @@ fn whole_from(image: &[u8], w: Walk) -> Taken
     }
 }
 
-// The records from a walk on that are parts of the image, by their places and lengths: as many as both lists have room for, up to the first that must be
-// joined or is not there. What is behind them in the lists stays.
+// The records from a walk on that are parts of the image, by their places and lengths: as many as both lists have room for, up to
+// the first that must be joined or is not there. What is behind them in the lists stays.
 pub fn steps(image: &[u8], from: Walk, places: &mut [u64], lengths: &mut [u64]) -> Row
     ensures { λ r. ⌜ r ≡ rowOf (stepsIn (now (image .entry)) (now (places .entry)) (now (lengths .entry)) from) ⌝ }
     ensures { λ r. ⌜ now (places .exit) ≡ putAt (now (places .entry)) 0 (stepsIn (now (image .entry)) (now (places .entry)) (now (lengths .entry)) from .places) ⌝ }

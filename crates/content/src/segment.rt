@@ -1,4 +1,5 @@
-// The segments of a record one by one, from any walk whatever: for whoever takes a record segment by segment instead of joining it.
+// The segments of a record one by one, from any walk whatever: for whoever takes a record segment by segment instead of joining
+// it.
 ghost use mathlib.Core.Path.{_≡_};
 ghost use Rattle.content.specs.Walk.{firstSegment, nextSegment};
 use crate::Walk;

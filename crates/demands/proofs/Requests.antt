@@ -61,8 +61,7 @@ pub torn-files : (tape lengths : List ℕ) → Torn (tapeVerdict tape lengths)
 torn-files = tape-torn
 
 -- Buffers that are always long enough, so that number 10 need not be met: an image has at most 5 bytes more than its files, these
--- at most 5 bytes for 2 of the image, and 16
--- lengths are those of any set.
+-- at most 5 bytes for 2 of the image, and 16 lengths are those of any set.
 pub import-room : (tape lengths out : List ℕ) → Bytes tape → tapeVerdict tape lengths .number ≡ 0
     → length (imageOf tape lengths) ≤ mostImage
     → 5 + length tape ≤ length out → fromSimh tape lengths out .verdict ≡ verdict 0 0 0
@@ -73,9 +72,8 @@ pub export-room : (s out lens : List ℕ) → Bytes s → framing s .number ≡ 
 export-room = room-out
 
 -- "Demands 2 and 3 are read over the converted image." That image holds the items of the tape files, in order, and nothing else;
--- so it is accepted exactly when these follow
--- the rules, and what the demands say of an accepted set is said of it. Ruled out: a conversion that leaves a reel out, or makes
--- a set right that is not.
+-- so it is accepted exactly when these follow the rules, and what the demands say of an accepted set is said of it. Ruled out: a
+-- conversion that leaves a reel out, or makes a set right that is not.
 module _ (tape lengths out : List ℕ) (z : fromSimh tape lengths out .verdict .number ≡ 0) where
   pub converted-holds : items (imageIn (fromSimh tape lengths out)) ≡ endToEnd (reelsIn tape lengths)
   converted-holds = image-holds tape lengths out z
@@ -118,16 +116,14 @@ equal-files-exactly a b quota names o p x y legal i j e f ls ms za zb =
 -- ---- P2
 
 -- "Number 6 is no longer given for BP 42-53 between sections." Whatever its dates are, HDR1 has the same fault, or none, against
--- what was read before it. Ruled out: a section held
--- to the dates of another.
+-- what was read before it. Ruled out: a section held to the dates of another.
 pub dates-not-compared : (s : State) (l m : List ℕ) → length l ≡ 80 → length m ≡ 80 → undated l ≡ undated m
     → contextFault s (hdr 1) l ≡ contextFault s (hdr 1) m
 unfolding contextFault isKind ifB
 dates-not-compared s l m a b e = header-same l m a b e (s .continues) (s .files) (s .hdr1)
 
 -- "a trailer still equals its own header", in its dates too. The state has the last HDR1, its own section's: HDR1 takes that
--- place, and nothing else does. Ruled out: a trailer
--- held to section 0001, or to no header.
+-- place, and nothing else does. Ruled out: a trailer held to section 0001, or to no header.
 pub its-header : (s : State) (l : List ℕ)
     → (hdr1After s (hdr 1) l ≡ l) × ((k : Kind) → isKind k (hdr 1) ≡ false → hdr1After s k l ≡ s .hdr1)
 unfolding hdr1After isKind ifB

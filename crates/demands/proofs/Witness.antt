@@ -1,6 +1,5 @@
 -- Document 01's whole set meets every condition that the demands ask of a set, a quota and names, and its order sheet every one
--- that they ask of a sheet: so nothing
--- there is said of nothing. What is claimed is computed. Assumes nothing.
+-- that they ask of a sheet: so nothing there is said of nothing. What is claimed is computed. Assumes nothing.
 use mathlib.Core.Path.{_≡_, refl, ap, _∙_}
 use mathlib.Core.List.{List, [], _∷_, _++_}
 use Prim.Native.Nat.{ℕ, _≤_}

@@ -1,6 +1,6 @@
 -- The owner's three demands, in his words and as statements about any operations. `Met.antt` proves that ours meet them,
--- `Wrong.antt` that wrong ones do not;
--- `Terms.antt` has the words that are used here, `Witness.antt` a set of which every condition holds.
+-- `Wrong.antt` that wrong ones do not; `Terms.antt` has the words that are used here, `Witness.antt` a set of which every
+-- condition holds.
 use mathlib.Core.Path.{_≡_}
 use mathlib.Core.Logic.{_↔_}
 use mathlib.Core.List.{List, [], _∷_, _++_}
@@ -39,12 +39,10 @@ use Rattle.demands.specs.Terms.{Answered, noneGiven, OutOf, noRecord, ro
 -- An operation is a function of lists and numbers, and no public function has a `requires`.
 pub record Demand1 (p : Operations) : Type 0 where
   -- "Each refusal has its number and place, and changes no byte of a lent buffer." Reading: 1 to 9, with the byte of a field for
-  -- 4, 5 and 6 and none for another; the item
-  -- is below, in `first-wrong`. All others: the verdict on what was given, or a number without a place, and nothing is handed
-  -- out, moved or written.
+  -- 4, 5 and 6 and none for another; the item is below, in `first-wrong`. All others: the verdict on what was given, or a number
+  -- without a place, and nothing is handed out, moved or written.
   -- Ruled out: a writer that fails half way through its buffer (`half-way`), a step that refuses and has moved the walk
-  -- (`moves-and-refuses`), a number that no table has
-  -- (`unknown-number`).
+  -- (`moves-and-refuses`), a number that no table has (`unknown-number`).
   pub check : (s : List ℕ) → Placed (p .check s .number) (p .check s .byte)
   pub begin : (s : List ℕ) (n : ℕ)
       → Answered (p .check s) (13 ∷ []) (p .begin s n .verdict) (p .begin s n ≡ beginningOf (NotBegun (p .begin s n .verdict)))
@@ -83,10 +81,9 @@ pub record Demand1 (p : Operations) : Type 0 where
       ≡ record { verdict = p .export s out lengths .verdict; len = 0; files = 0; out = out; lengths = lengths })
 
 -- "A set is accepted whole or not at all": of a refused image beginning a file, asking for a record and rewriting answer with its
--- verdict, and the listing is its line. (A step, facts and a part
--- have no place for a verdict: they need a walk or a record that was found. Export goes by the framing alone, as document 02 has
--- it.) Ruled out: a reader that hands over what came before
--- the fault (`hands-over`).
+-- verdict, and the listing is its line. (A step, facts and a part have no place for a verdict: they need a walk or a record that
+-- was found. Export goes by the framing alone, as document 02 has it.) Ruled out: a reader that hands over what came before the
+-- fault (`hands-over`).
 pub record NotAtAll (p : Operations) (s : List ℕ) : Type 0 where
   pub begin : (n : ℕ) → p .begin s n ≡ beginningOf (NotBegun (p .check s))
   pub find : (n r : ℕ) (old : List ℕ) → p .find s n r old ≡ noRecord (p .check s) old
@@ -96,18 +93,16 @@ pub record NotAtAll (p : Operations) (s : List ℕ) : Type 0 where
 
 pub record Demand2 (p : Operations) : Type 0 where
   -- "2. A set is accepted exactly when its image, labels, marks, blocks and cross-checks follow ECMA-13, fourth edition, as cut
-  -- down in document 01;"
-  -- Ruled out: a checker that refuses all sets (`refuses-all`), or accepts all (`accepts-all`), or names a later item
-  -- (`later-fault`).
+  -- down in document 01;" Ruled out: a checker that refuses all sets (`refuses-all`), or accepts all (`accepts-all`), or names a
+  -- later item (`later-fault`).
   pub accepted : (s : List ℕ) → (p .check s ≡ verdict 0 0 0) ↔ Accepted s
   pub first-wrong : (s : List ℕ) → (Accepted s → ⊥) → FirstFault s (p .check s)
   pub whole : (s : List ℕ) → (Accepted s → ⊥) → NotAtAll p s
   -- "the records handed out are exactly those it holds, in order." Each file of the meaning by its number, with its records by a
-  -- walk and by number; 13 for any other. The definitions that the
-  -- promises cite decide where a file stands and, from any walk whatever, what a step gives. Ruled out: a walk that stays at the
-  -- first record (`stands-still`), one file for another (the edit
-  -- `first_file_for_each`), a buffer asked for where the record is one unit (`joins-all`), a step that hands out all of an image,
-  -- whatever it is (`hands-over-all`).
+  -- walk and by number; 13 for any other. The definitions that the promises cite decide where a file stands and, from any walk
+  -- whatever, what a step gives. Ruled out: a walk that stays at the first record (`stands-still`), one file for another (the
+  -- edit `first_file_for_each`), a buffer asked for where the record is one unit (`joins-all`), a step that hands out all of an
+  -- image, whatever it is (`hands-over-all`).
   pub files : (s : List ℕ) (ds : List File) (d : File) (es : List File) → Accepted s → content s .files ≡ ds ++ (d ∷ es)
       → FileGiven p s (length ds + 1) d
   pub no-file : (s : List ℕ) (n : ℕ) → Accepted s → OutOf (length (content s .files)) n
@@ -134,9 +129,8 @@ pub record Demand2 (p : Operations) : Type 0 where
   pub part : (s join : List ℕ) (x : Found) → p .part s join x ≡ partOf s join x
   pub listed : (s out : List ℕ) → Accepted s → p .list s out ≡ fitted (listingOf (content s)) out
   -- "The reel writer turns any order sheet that it doesn't refuse into the image fixed there, which reads back as an accepted set
-  -- with that sheet's meaning." It does not refuse a legal one
-  -- whose image has room. Ruled out: an idle writer (`idle`), one that refuses all (`refuses-sheets`), a made-up trailer count
-  -- (`made-up-count`), 10 for every refusal (`ten-for-all`).
+  -- with that sheet's meaning." It does not refuse a legal one whose image has room. Ruled out: an idle writer (`idle`), one that
+  -- refuses all (`refuses-sheets`), a made-up trailer count (`made-up-count`), 10 for every refusal (`ten-for-all`).
   pub written : (x : Flat) (out : List ℕ) → sheetNumber x ≡ 0 → Fits (sheetOf x) (length out) → p .write x out .number ≡ 0
   pub outcome : (x : Flat) (out : List ℕ) → WriteOutcome (sheetNumber x) (sheetOf x) out (p .write x out)
   pub reads-back : (x : Flat) (out : List ℕ) → p .write x out .number ≡ 0
@@ -153,22 +147,20 @@ pub record Demand2 (p : Operations) : Type 0 where
 -- One accepted set rewritten into buffer o.
 pub record Normal (p : Operations) (s : List ℕ) (quota : ℕ) (names o : List ℕ) : Type 0 where
   -- "Then rewriting refuses neither set, whatever the buffers lent to write into held before." Ruled out: a rewriter that says 12
-  -- always (`twelve`),
-  -- or 10 where the buffer begins with 0 (`ten-at-zero`).
+  -- always (`twelve`), or 10 where the buffer begins with 0 (`ten-at-zero`).
   pub done : p .rewrite s quota names o .verdict ≡ verdict 0 0 0
   -- "Each written image is an accepted set with the same meaning, records included, as the set it was written from." Ruled out:
   -- one fixed set (`fixed`).
   pub means : Means (imageIn (p .rewrite s quota names o)) (content s)
   -- "Each written image, rewritten with that quota and list into another buffer with room enough, gives the same image again,
-  -- byte for byte." (With `rewritten` above
-  -- that follows from `done` and the equality below.)
+  -- byte for byte." (With `rewritten` above that follows from `done` and the equality below.)
   pub again : (other : List ℕ) → length (imageIn (p .rewrite s quota names o)) ≤ length other
       → (p .rewrite (imageIn (p .rewrite s quota names o)) quota names other .verdict ≡ verdict 0 0 0)
       × (imageIn (p .rewrite (imageIn (p .rewrite s quota names o)) quota names other) ≡ imageIn (p .rewrite s quota names o))
 
 -- "3. One meaning, one normal set. Take any two accepted sets, whatever their images hold beyond their meanings. Take any legal
--- reel quota and any legal list of reel names,
--- the same for both, with reels and room enough for each, and neither written image over document 01's limit."
+-- reel quota and any legal list of reel names, the same for both, with reels and room enough for each, and neither written image
+-- over document 01's limit."
 pub record Demand3 (p : Operations) : Type 0 where
   pub normal : (a b : List ℕ) (quota : ℕ) (names o q : List ℕ) → Accepted a → Accepted b → reelsNumber quota names ≡ 0
       → Fits (sheetFrom a quota names) (length o) → Fits (sheetFrom b quota names) (length q)

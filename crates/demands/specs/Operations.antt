@@ -1,9 +1,7 @@
 -- The operations that a caller can reach, each as a function of what it is given: an image, an order sheet, a lent buffer is a
--- list of bytes. `ours` are the
--- definitions that the promises of the public functions cite: what these say of lists, the functions do with slices. The measures
--- of `content` by which these are made, its search from
--- a file's data on and the line of a refusal are no operations of their own: each function's promise is its definition, on any
--- bytes.
+-- list of bytes. `ours` are the definitions that the promises of the public functions cite: what these say of lists, the
+-- functions do with slices. The measures of `content` by which these are made, its search from a file's data on and the line of a
+-- refusal are no operations of their own: each function's promise is its definition, on any bytes.
 use mathlib.Core.List.{List}
 use Prim.Native.Nat.{ℕ}
 use lib.ListN.{length}

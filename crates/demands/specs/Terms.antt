@@ -61,9 +61,8 @@ abbrev pub noRecord : Verdict → List ℕ → Handing
 noRecord v old = record { at = recordOf (NotFound v); left = old }
 
 -- Record r of image s is handed out by f, whatever the joining buffer held. Where x, the record as it stands, is one unit, it is
--- that part of the image, and the buffer, of whatever length,
--- stays; where it is several segments, they are joined in the front of the buffer, and refused with 10 exactly where that is
--- shorter than the record.
+-- that part of the image, and the buffer, of whatever length, stays; where it is several segments, they are joined in the front
+-- of the buffer, and refused with 10 exactly where that is shorter than the record.
 pub data Handed (s r : List ℕ) (f : List ℕ → Handing) (x : Record) : Type 0 where
   one : (start : ℕ) (v : Walk) → x ≡ whole start (length r) v → part start (length r) s ≡ r
       → ((old : List ℕ) → f old ≡ record { at = recordOf (InImage start (length r)); left = old }) → Handed s r f x
@@ -136,8 +135,7 @@ image f = head ++ encode (f .items)
 -- ---- writing
 
 -- What writing sheet x gives, where n is the number of its legality, 0, 9 or 11: the image fixed in document 01 at the front of
--- the buffer, whose other bytes stay, exactly where it fits;
--- else the first of 9 or 11, 12, 14 and 10 that applies.
+-- the buffer, whose other bytes stay, exactly where it fits; else the first of 9 or 11, 12, 14 and 10 that applies.
 pub data WriteOutcome (n : ℕ) (x : Sheet) (out : List ℕ) : Written → Type 0 where
   fits : n ≡ 0 → (f : Fits x (length out))
       → WriteOutcome n x out (record { number = 0; len = length (image f); out = image f ++ drop (length (image f)) out })

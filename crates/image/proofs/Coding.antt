@@ -1,6 +1,5 @@
 -- Items in any container: the equations of reading them one behind the other, and the two round trips. A container says which
--- item stands at the head of
--- some bytes, what is left behind it, and the bytes of an item. Assumes nothing.
+-- item stands at the head of some bytes, what is left behind it, and the bytes of an item. Assumes nothing.
 use mathlib.Core.Path.{_≡_, refl, sym, ap, _∙_}
 use mathlib.Core.Bool.{Bool, true, false, false≢true}
 use mathlib.Core.List.{List, [], _∷_, _++_, append-assoc, append-nil}

@@ -1,6 +1,5 @@
 -- The two round trips of the container: items that can stand in an image are read again from their bytes, and an image in which
--- no item is
--- broken is written again from its items. Assumes nothing.
+-- no item is broken is written again from its items. Assumes nothing.
 use mathlib.Core.Path.{_≡_, refl, sym, ap, ap₂, _∙_, subst}
 use mathlib.Core.Bool.{true, false, false≢true}
 use mathlib.Core.List.{List, [], _∷_, _++_, append-assoc}

@@ -1,8 +1,6 @@
 -- The framing of an image. Document 01, "Numbers given back": over-long is 9; under five bytes, or mark or version wrong, is 1;
--- then, for
--- the whole image, 2: the bad or cut item, the first item of a 17th reel, or the number after the last item where no reel or no
--- end of
--- reel stands; the first of these counts.
+-- then, for the whole image, 2: the bad or cut item, the first item of a 17th reel, or the number after the last item where no
+-- reel or no end of reel stands; the first of these counts.
 use mathlib.Core.Bool.{Bool, true, false}
 use mathlib.Core.List.{List, [], _∷_}
 use Prim.Native.Nat.{ℕ, _+_}

@@ -1,12 +1,9 @@
 -- The image of a set as items. Document 01, "The image of a set" (house): bytes `TGI`, a 16-bit version, high byte first, equal
--- to 1;
--- then items, each led by a 3-byte length, high byte first: 0 is a tape mark, 1 to 99,999 a block of that many bytes, 16,777,215
--- the end
--- of the reel; any other length is wrong.
+-- to 1; then items, each led by a 3-byte length, high byte first: 0 is a tape mark, 1 to 99,999 a block of that many bytes,
+-- 16,777,215 the end of the reel; any other length is wrong.
 --
 -- Read first: `shape`, what stands at the head of some bytes; `decode`, the items of the bytes behind the five-byte head, of
--- which
--- `decode-none` and `decode-more` (proofs/Items.antt) are the equations; `encode`, the bytes of items.
+-- which `decode-none` and `decode-more` (proofs/Items.antt) are the equations; `encode`, the bytes of items.
 -- A wrong length, or an item cut short, is the item `broken`, behind which nothing is read: `decode` is total.
 use mathlib.Core.List.{List, [], _∷_, _++_}
 use Prim.Native.Nat.{ℕ, zero, suc, _+_, _*_, _/_, _%_}
@@ -66,8 +63,7 @@ behind ReelEnd s = drop 3 s
 behind Broken s = []
 
 -- items one behind the other, in any container: which item stands at the head of some bytes, and what is left behind it; this
--- counts down a number that
--- is large enough, the length
+-- counts down a number that is large enough, the length
 unfoldable pub decodeF : (List ℕ → Item) → (List ℕ → List ℕ) → ℕ → List ℕ → List Item
 decodeF item rest zero s = []
 decodeF item rest (suc f) [] = []

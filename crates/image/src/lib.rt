@@ -22,7 +22,8 @@ const MOST_ITEMS: u32 = 16777215;
 
 pub const MOST_REELS: usize = 16;
 
-// What stands at a place of the image: a block and its length, a tape mark, the end of a reel, or a wrong length or an item cut short.
+// What stands at a place of the image: a block and its length, a tape mark, the end of a reel, or a wrong length or an item cut
+// short.
 pub enum Shape {
     Block(usize),
     Mark,
@@ -89,7 +90,8 @@ fn block_led_by(word: usize, n: usize) -> usize
     word
 }
 
-// The length of the block that stands at a place; 0 where none does. A walk past millions of blocks needs no more than this number.
+// The length of the block that stands at a place; 0 where none does. A walk past millions of blocks needs no more than this
+// number.
 pub fn block_length_at(s: &[u8], at: usize) -> usize
     ensures { λ r. ⌜ r ≡ blockLength (shape (drop at (now (s .entry)))) ⌝ }
 {
@@ -177,7 +179,8 @@ fn framed(s: &[u8], from: Frame) -> Verdict
     answer(2, item)
 }
 
-// The framing of what stands from a place on: 2 with its item, or 0; 9 where the image is too long, or more stands before the place than an image holds.
+// The framing of what stands from a place on: 2 with its item, or 0; 9 where the image is too long, or more stands before the
+// place than an image holds.
 pub fn framing_from(s: &[u8], from: Frame) -> Verdict
     ensures { λ r. ⌜ r ≡ framingFrom (now (s .entry)) (from .at) (from .item) (from .reels) (from .closed) ⌝ }
 {

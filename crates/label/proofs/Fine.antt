@@ -1,6 +1,5 @@
 -- Labels laid of fields, against their table: that they have no wrong field, and none that is unequal. A field set anew asks for
--- one fact on its row alone,
--- which a table gives by computing. Assumes nothing.
+-- one fact on its row alone, which a table gives by computing. Assumes nothing.
 use mathlib.Core.Path.{_≡_, refl, sym, ap, ap₂, _∙_, subst}
 use mathlib.Core.Bool.{Bool, true, false, false≢true, not, _&&_}
 use mathlib.Core.List.{List, [], _∷_}

@@ -1,9 +1,7 @@
 -- The fields that are read by name, and what a field of a label may hold. Document 01, "Label fields". A rule sees the field and,
--- for the record length,
--- the whole label.
+-- for the record length, the whole label.
 -- The record length of a D file counts its control word: 8.5.2.6 of ECMA-13 makes it the maximum length of an MDU, and 7.2.3 puts
--- the word
--- into the MDU. So for D it is 5 or more, and a record has at most R - 4 bytes.
+-- the word into the MDU. So for D it is 5 or more, and a record has at most R - 4 bytes.
 use mathlib.Core.Bool.{Bool, true, false, _&&_, _||_}
 use mathlib.Core.List.{List, [], _∷_}
 use Prim.Native.Nat.{ℕ, _+_}

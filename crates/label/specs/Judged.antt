@@ -1,6 +1,5 @@
 -- The judgement of one label: its first wrong field (number 4), its accessibility (5), and the lowest unequal field of two labels
--- (for 6); and the field in
--- which a byte stands, for whoever shows a label.
+-- (for 6); and the field in which a byte stands, for whoever shows a label.
 -- Document 01, "Numbers given back": within one item the smallest number; for 4, 5 and 6 the place is the first BP of the lowest
 -- wrong field.
 use mathlib.Core.Bool.{Bool, true}

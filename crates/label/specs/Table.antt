@@ -1,6 +1,5 @@
 -- The fields of each label, a row a field: its width, the rule of what it may hold, and the scope in which it is one. The widths
--- add up to 80 and the byte
--- position runs along.
+-- add up to 80 and the byte position runs along.
 -- Document 01, "Label fields" (8.3.1, 8.5.1 and 8.5.2 of ECMA-13), and "Cross-checks" for the scopes.
 use mathlib.Core.List.{List, [], _∷_}
 use Prim.Native.Nat.{ℕ, zero, suc, _+_, _-_}

@@ -1,4 +1,5 @@
-// The labels that the writer makes: 80 SPACEs, over which the named fields are set. It knows no rule of a field: what is given is written.
+// The labels that the writer makes: 80 SPACEs, over which the named fields are set. It knows no rule of a field: what is given is
+// written.
 ghost use mathlib.Core.Path.{_≡_};
 ghost use Prim.Native.Nat.{_+_, _≤_};
 ghost use lib.ListN.{getD};

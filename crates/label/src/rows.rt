@@ -1,4 +1,5 @@
-// The one walk over the rows of a table: judging a label, comparing two and finding the field of a byte differ in what is asked of a field.
+// The one walk over the rows of a table: judging a label, comparing two and finding the field of a byte differ in what is asked
+// of a field.
 ghost use mathlib.Core.Path.{_≡_};
 ghost use Prim.Native.Nat.{_≤_, _<_};
 ghost use lib.ListN.{length};
@@ -25,7 +26,8 @@ use order::UTL;
 use order::VOL;
 use order::is;
 
-// What is asked of each field: that it suits its rule; that it is the same in both labels, where it is one in this scope; that it ends before this BP.
+// What is asked of each field: that it suits its rule; that it is the same in both labels, where it is one in this scope; that it
+// ends before this BP.
 pub(crate) enum Ask {
     Suits,
     Agrees(u8),

@@ -1,4 +1,5 @@
-// The fields of each label as tables, the same data as the definitions' lists: a row a field, its width, its rule, and the scope in which it is one.
+// The fields of each label as tables, the same data as the definitions' lists: a row a field, its width, its rule, and the scope
+// in which it is one.
 // Byte positions stand here, once, and nowhere else in the code.
 ghost use mathlib.Core.Path.{_≡_};
 ghost use Rattle.label.specs.Table.{first};

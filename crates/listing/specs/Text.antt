@@ -1,7 +1,6 @@
 -- The listing of a set. Document 01, "One whole set": a heading, and for each file a line with its sequence number, its
--- identifier in 17 columns, its
--- format, its records and its record bytes; counts have no leading zeros. Of a refused set one line says the number and its
--- place.
+-- identifier in 17 columns, its format, its records and its record bytes; counts have no leading zeros. Of a refused set one line
+-- says the number and its place.
 -- Each line ends with a newline (docs/DECISIONS.md).
 use mathlib.Core.List.{List, [], _∷_, _++_, map}
 use Prim.Native.Nat.{ℕ, _+_}

@@ -76,8 +76,8 @@ pub fn refused(v: Verdict, out: &mut [u8]) -> Written
     done(size)
 }
 
-// The listing of an image in a lent buffer, or of a refused one the line that says number and place: 0 and the text's length, or 10, which changes
-// no byte of the buffer.
+// The listing of an image in a lent buffer, or of a refused one the line that says number and place: 0 and the text's length, or
+// 10, which changes no byte of the buffer.
 pub fn listing(image: &[u8], out: &mut [u8]) -> Written
     ensures { λ r. ⌜ Answers (fitted (textOf (now (image .entry))) (now (out .entry))) r (now (out .exit)) ⌝ }
 {

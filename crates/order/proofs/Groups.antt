@@ -53,8 +53,7 @@ abbrev isLabel : Kind → Bool
 isLabel k = not (isKind k dataBlock) && (not (isKind k (eof 1)) && not (isKind k endOfReel))
 
 -- the phase behind an item stands where the groups lead; HDR2 leads right behind it; a data block leads on to data; among the
--- labels a mark leads to
--- the data, and all else is a label
+-- labels a mark leads to the data, and all else is a label
 abbrev Row : Phase → Kind → Phase → Type 0
 Row p k q =
     (groupOf q ≡ groupAfter (groupOf p) k)

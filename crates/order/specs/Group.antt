@@ -1,7 +1,6 @@
 -- Where an item stands, as far as it decides what a block is: among labels (0), among the labels of a header, behind which a mark
--- opens the data (1), or
--- among data blocks (2). Whatever the items before it were, there is one answer: so anything can be shown item by item, whole or
--- damaged.
+-- opens the data (1), or among data blocks (2). Whatever the items before it were, there is one answer: so anything can be shown
+-- item by item, whole or damaged.
 -- `Groups.antt` in proofs/ has that along a set that follows the order the groups are those of its phases.
 use Prim.Native.Nat.{ℕ}
 use lib.Dec.{eqb}

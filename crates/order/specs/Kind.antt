@@ -1,6 +1,5 @@
 -- The kinds of items that the order of a reel speaks of: labels by family and number, a data block, a tape mark, the end of a
--- reel and
--- the end of the image. UHL and UTL have no number here (document 01: their kind is read from BP 1-3).
+-- reel and the end of the image. UHL and UTL have no number here (document 01: their kind is read from BP 1-3).
 use mathlib.Core.Bool.{Bool, _&&_}
 use Prim.Native.Nat.{ℕ}
 use lib.Dec.{eqb}

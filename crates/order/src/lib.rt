@@ -33,8 +33,8 @@ pub const END_OF_REEL: u32 = 10;
 
 pub const END_OF_IMAGE: u32 = 11;
 
-// Where an item stands, as far as it decides what a block is: among labels, among those of a header, behind which a mark opens the data, or among data
-// blocks.
+// Where an item stands, as far as it decides what a block is: among labels, among those of a header, behind which a mark opens
+// the data, or among data blocks.
 pub const AMONG_LABELS: u32 = 0;
 
 pub const AMONG_HEADERS: u32 = 1;

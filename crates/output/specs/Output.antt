@@ -1,10 +1,7 @@
 -- What writing into a lent buffer does, and what is answered. One write lays its bytes down where all of them have room, and else
--- leaves the buffer as it was
--- lent (`Put`). Of several writes, each at the place behind the one before, so much is kept: the length of the buffer, the place
--- behind, and all of the
--- bytes where all of them have room (`Wrote`). Document 01, "Numbers given back": 10 where the buffer is too short; bytes behind
--- what is written stay; a
--- refusal changes no lent byte.
+-- leaves the buffer as it was lent (`Put`). Of several writes, each at the place behind the one before, so much is kept: the
+-- length of the buffer, the place behind, and all of the bytes where all of them have room (`Wrote`). Document 01, "Numbers given
+-- back": 10 where the buffer is too short; bytes behind what is written stay; a refusal changes no lent byte.
 use mathlib.Core.Path.{_≡_}
 use mathlib.Core.List.{List, _++_}
 use Prim.Native.Nat.{ℕ, _+_, _≤_, _<_, min}

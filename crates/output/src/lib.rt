@@ -1,4 +1,5 @@
-// The lent output buffer: bytes written at a place up to a limit, digits, and the answer on what was written. It knows nothing of what the bytes are.
+// The lent output buffer: bytes written at a place up to a limit, digits, and the answer on what was written. It knows nothing of
+// what the bytes are.
 ghost use mathlib.Core.Path.{_≡_};
 ghost use Prim.Native.Nat.{_+_, _*_, _/_, _%_, _<_, min};
 ghost use Rattle.base.specs.Digits.{digits};
@@ -95,8 +96,8 @@ fn tens_of(both: u32) -> u32
     parts % 16 + parts / 65536 * 65536
 }
 
-// The four digits of a number below 10,000; a larger one counts as 9,999. They are found side by side in one word, since a control word is written for each of
-// millions of records.
+// The four digits of a number below 10,000; a larger one counts as 9,999. They are found side by side in one word, since a
+// control word is written for each of millions of records.
 pub fn figures(n: usize) -> [u8; 4]
     ensures { λ r. ⌜ r ≡ digits 4 (min n 9999) ⌝ }
 {

@@ -1,6 +1,5 @@
 -- A reader's place behind each of its functions. Document 01, "Handing out records": after the core, a reader that keeps the lent
--- image together
--- with its place offers the same steps; with 13 or 10 the walk isn't moved.
+-- image together with its place offers the same steps; with 13 or 10 the walk isn't moved.
 use mathlib.Core.List.{List}
 use Prim.Native.Nat.{ℕ}
 use Rattle.base.specs.Answer.{verdict}

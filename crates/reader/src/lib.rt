@@ -1,5 +1,5 @@
-// A reader: it keeps the lent image together with its place, and offers the steps of a walk. It knows no byte of an image: each of its functions
-// takes the reader apart, or makes one for a call, and leaves the work to `content`.
+// A reader: it keeps the lent image together with its place, and offers the steps of a walk. It knows no byte of an image: each
+// of its functions takes the reader apart, or makes one for a call, and leaves the work to `content`.
 ghost use mathlib.Core.Path.{_≡_};
 ghost use lib.ListN.{length};
 ghost use Rattle.content.specs.Numbers.{recordOf, Said};
@@ -125,8 +125,8 @@ pub fn open_file<'s, 'a>(r: &'s mut Reader<'a>, file: u64) -> Verdict
     o.verdict
 }
 
-// The next record, as a step of a walk gives it: a part of the image, or the front of the joining buffer, or 13 or 10. With a refusal the reader
-// stays where it stood, and no byte is changed.
+// The next record, as a step of a walk gives it: a part of the image, or the front of the joining buffer, or 13 or 10. With a
+// refusal the reader stays where it stood, and no byte is changed.
 pub fn next<'s, 'a, 'j>(r: &'s mut Reader<'a>, join: &'j mut [u8]) -> Found
     ensures { λ f. ⌜ Said recordOf f (readAt (now (now (r .entry) .image)) (length (now (join .entry))) (now (r .entry) .walk) .found)
         × (now (join .exit) ≡ joinAt (now (now (r .entry) .image)) (now (join .entry)) (now (r .entry) .walk))

@@ -1,7 +1,6 @@
 -- The records that the segments of accepted blocks make are legal ones. Assumes nothing.
 -- A segment is fair where what its format asks of it holds: every unit that a block is cut into is. What is owed behind a
--- segment, with a
--- record open or not, is carried backwards over the segments.
+-- segment, with a record open or not, is carried backwards over the segments.
 use mathlib.Core.Path.{_≡_, refl, sym, ap, _∙_, subst}
 use mathlib.Core.Bool.{Bool, true, false, not, false≢true}
 use mathlib.Core.List.{List, [], _∷_, _++_}

@@ -1,6 +1,5 @@
 -- Dates are compared between a trailer and its header alone, and those of later sections are no part of the meaning: two accepted
--- sets which are the same
--- without them have one meaning. Assumes nothing.
+-- sets which are the same without them have one meaning. Assumes nothing.
 use mathlib.Core.Path.{_≡_, refl, sym, ap, ap₂, _∙_, subst}
 use mathlib.Core.Bool.{Bool, true, false, false≢true, _&&_}
 use mathlib.Core.List.{List, [], _∷_, _++_}

@@ -1,8 +1,6 @@
 -- The order sheet (a term of document 01): a meaning, a quota of data blocks a reel and 1 to 16 reel names; and which sheets are
--- legal (number
--- 11 else). A field, a name or a record is legal exactly where an accepted set written this way could hold it: a field where the
--- label that the
--- writer makes of it has no fault, by the same judgement as on reading.
+-- legal (number 11 else). A field, a name or a record is legal exactly where an accepted set written this way could hold it: a
+-- field where the label that the writer makes of it has no fault, by the same judgement as on reading.
 use mathlib.Core.Bool.{Bool, true, false, not}
 use mathlib.Core.List.{List, [], _∷_, _++_}
 use Prim.Native.Nat.{ℕ, _+_}
@@ -55,8 +53,7 @@ legalEntry set e =
     false
 
 -- a record in a file of format f and record length r. F: R bytes, not all of them 5E. D: with its control word at most R, and at
--- most the 9,999
--- that four digits can say. S: at most R.
+-- most the 9,999 that four digits can say. S: at most R.
 unfoldable pub legalRecord : ℕ → ℕ → List ℕ → Bool
 legalRecord f r x =
     ifB (eqb f F) (ifB (eqb (length x) r) (not (allAre pad x)) false)

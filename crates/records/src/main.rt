@@ -1,5 +1,5 @@
-// The records program: reads an image from standard input and writes every record of every file, in order and each followed by a newline, to standard
-// output, or the line of its refusal. It takes the records by a reader, one after the other.
+// The records program: reads an image from standard input and writes every record of every file, in order and each followed by a
+// newline, to standard output, or the line of its refusal. It takes the records by a reader, one after the other.
 ghost use mathlib.Core.Path.{_≡_};
 ghost use lib.ListN.{length};
 ghost use Rattle.reader.specs.Read.{readAt};

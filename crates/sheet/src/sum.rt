@@ -1,4 +1,5 @@
-// A number that a caller gave, added to a place: only where it is known that the sum stays within a slice, so that nothing can overflow.
+// A number that a caller gave, added to a place: only where it is known that the sum stays within a slice, so that nothing can
+// overflow.
 ghost use mathlib.Core.Path.{_≡_};
 ghost use Prim.Native.Nat.{_+_, min};
 

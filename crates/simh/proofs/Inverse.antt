@@ -1,6 +1,5 @@
 -- The two conversions are inverse to each other: our image into files and back gives our bytes, files into our image and back
--- give their bytes and their
--- lengths. Assumes nothing.
+-- give their bytes and their lengths. Assumes nothing.
 use mathlib.Core.Path.{_≡_, refl, sym, ap, ap₂, _∙_, subst}
 use mathlib.Core.Bool.{Bool, true, false, _&&_}
 use mathlib.Core.List.{List, [], _∷_, _++_, append-nil, map, flatten as endToEnd}

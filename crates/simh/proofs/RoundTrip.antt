@@ -1,6 +1,5 @@
 -- The two round trips of one file: items that can stand on a reel are read again from their bytes, and a file in which no item is
--- broken is written again
--- from its items. Assumes nothing.
+-- broken is written again from its items. Assumes nothing.
 use mathlib.Core.Path.{_≡_, refl, sym, ap, ap₂, _∙_}
 use mathlib.Core.Bool.{Bool, true, false, false≢true}
 use mathlib.Core.List.{List, [], _∷_, _++_, append-assoc}

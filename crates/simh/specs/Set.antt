@@ -1,6 +1,5 @@
 -- A set of reels in the SIMH form: one file a reel, as one buffer of the files end to end and the list of their lengths; and its
--- conversion into our image
--- and back. Document 02, P1, and its rulings.
+-- conversion into our image and back. Document 02, P1, and its rulings.
 use mathlib.Core.Path.{_≡_}
 use mathlib.Core.Bool.{Bool, _&&_}
 use mathlib.Core.List.{List, [], _∷_, _++_, map, flatten as endToEnd}

@@ -1,8 +1,6 @@
 -- A reel as an emulator keeps it: the SIMH magtape form. Document 02, P1: a 4-byte length, low byte first, the data padded to an
--- even count, the length
--- again; 0 is a tape mark, FFFFFFFF hexadecimal the end of the medium. Of good data records alone: any other length word is
--- wrong, as is a second length
--- that differs, or a pad byte that is not 0.
+-- even count, the length again; 0 is a tape mark, FFFFFFFF hexadecimal the end of the medium. Of good data records alone: any
+-- other length word is wrong, as is a second length that differs, or a pad byte that is not 0.
 --
 -- Read first: `shape`, what stands at the head of some bytes of a file; `decode`, the items of a file; `encode`, the file of
 -- items.

@@ -1,4 +1,5 @@
-// Out: an image with a good framing is measured, and its reels are written as files. Nothing is written before it is certain that all of it has room.
+// Out: an image with a good framing is measured, and its reels are written as files. Nothing is written before it is certain that
+// all of it has room.
 ghost use mathlib.Core.Path.{_≡_};
 ghost use mathlib.Core.Bool.{false};
 ghost use Prim.Native.Nat.{_≤_};
@@ -17,7 +18,8 @@ use image::MOST_REELS;
 use image::Shape;
 use image::shape_at;
 
-// What conversion into files answers: the number given back, with its place, and how many bytes and files were written, both 0 with a refusal.
+// What conversion into files answers: the number given back, with its place, and how many bytes and files were written, both 0
+// with a refusal.
 #[repr(C)]
 pub struct Tapes {
     pub verdict: Verdict,
@@ -175,8 +177,9 @@ fn too_short() -> Tapes
     }
 }
 
-// Converts an image into tape files, one a reel, end to end at the front of a lent buffer, their lengths at the front of a lent list: 9, 1 and 2 as the framing
-// has them, then 10 where the buffer or the list is too short. Nothing but a good framing is asked of the image.
+// Converts an image into tape files, one a reel, end to end at the front of a lent buffer, their lengths at the front of a lent
+// list: 9, 1 and 2 as the framing has them, then 10 where the buffer or the list is too short. Nothing but a good framing is
+// asked of the image.
 pub fn to_simh(image: &[u8], out: &mut [u8], lengths: &mut [u64]) -> Tapes
     ensures { λ r. ⌜ Converts (toSimh (now (image .entry)) (now (out .entry)) (now (lengths .entry))) r (now (out .exit)) (now (lengths .exit)) ⌝ }
 {

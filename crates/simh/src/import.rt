@@ -1,4 +1,5 @@
-// In: the files of a set are checked, one after the other, and written as an image. Nothing is written before all of them are found right and have room.
+// In: the files of a set are checked, one after the other, and written as an image. Nothing is written before all of them are
+// found right and have room.
 ghost use mathlib.Core.Path.{_≡_};
 ghost use Prim.Native.Nat.{_+_, _<_};
 ghost use lib.ListN.{length};
@@ -34,7 +35,8 @@ const MOST_PLACE: u32 = 4294967295;
 
 // ---- the check
 
-// What one file holds: whether it is torn, the number of the item at which it is, or of that behind its last, and the bytes of its items in an image.
+// What one file holds: whether it is torn, the number of the item at which it is, or of that behind its last, and the bytes of
+// its items in an image.
 pub struct Scan {
     pub torn: bool,
     pub item: usize,
@@ -226,8 +228,9 @@ fn put_reels(tape: &[u8], lengths: &[u64], out: &mut [u8])
     }
 }
 
-// Converts a set of tape files, one a reel, which stand end to end and have these lengths, into an image at the front of a lent buffer: 15 with its item, then
-// 2, 14 and 10 with place 0. The papers leave free what 15 says of an item past number 4,294,967,295, which takes a buffer of over 16 GiB: that number.
+// Converts a set of tape files, one a reel, which stand end to end and have these lengths, into an image at the front of a lent
+// buffer: 15 with its item, then 2, 14 and 10 with place 0. The papers leave free what 15 says of an item past number
+// 4,294,967,295, which takes a buffer of over 16 GiB: that number.
 pub fn from_simh(tape: &[u8], lengths: &[u64], out: &mut [u8]) -> Written
     ensures { λ r. ⌜ AnswersAt (fromSimh (now (tape .entry)) (now (lengths .entry)) (now (out .entry))) r (now (out .exit)) ⌝ }
 {

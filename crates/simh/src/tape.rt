@@ -39,7 +39,8 @@ pub(crate) fn span(n: usize) -> usize
     4 + n + n % 2 + 4
 }
 
-// Whether a block of n bytes that begins at a place is there to the end of its second length, which is n again, and is padded with 0.
+// Whether a block of n bytes that begins at a place is there to the end of its second length, which is n again, and is padded
+// with 0.
 fn is_whole(s: &[u8], at: usize, n: usize) -> bool
     requires { ⌜ at ≤ length (now s) ⌝ }
     requires { ⌜ n ≤ mostBytes ⌝ }

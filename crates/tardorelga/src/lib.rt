@@ -72,7 +72,8 @@ pub extern "C" fn tardorelga_first_file(image: &[u8]) -> Beginning
     file_of(first_file(image))
 }
 
-// The file behind the one whose HDR1 and HDR2 stand at these places, be they right or forged; in an accepted set the file of the next number.
+// The file behind the one whose HDR1 and HDR2 stand at these places, be they right or forged; in an accepted set the file of the
+// next number.
 #[no_mangle]
 pub extern "C" fn tardorelga_next_file(image: &[u8], hdr1: u64, hdr2: u64) -> Beginning
     ensures { λ x. ⌜ x ≡ fileOf (nextFile (now (image .entry)) (record { hdr1 = hdr1; hdr2 = hdr2; walk = noWalk })) ⌝ }
@@ -125,7 +126,8 @@ pub extern "C" fn tardorelga_step(image: &[u8], walk: Walk, join: &mut [u8]) -> 
     stepped_of(walk, walk.step(image, join))
 }
 
-// As many steps at once as two lent lists have room for, from any state whatever: the records that are parts of the image, by their places and lengths.
+// As many steps at once as two lent lists have room for, from any state whatever: the records that are parts of the image, by
+// their places and lengths.
 #[no_mangle]
 pub extern "C" fn tardorelga_steps(
     image: &[u8],
@@ -186,7 +188,8 @@ pub extern "C" fn tardorelga_from_simh(tape: &[u8], lengths: &[u64], out: &mut [
     simh::from_simh(tape, lengths, out)
 }
 
-// Converts an image with a good framing into SIMH files, one a reel, end to end in a lent buffer, and their lengths in a lent list.
+// Converts an image with a good framing into SIMH files, one a reel, end to end in a lent buffer, and their lengths in a lent
+// list.
 #[no_mangle]
 pub extern "C" fn tardorelga_to_simh(image: &[u8], out: &mut [u8], lengths: &mut [u64]) -> Tapes
     ensures { λ r. ⌜ Converts (toSimh (now (image .entry)) (now (out .entry)) (now (lengths .entry))) r (now (out .exit)) (now (lengths .exit)) ⌝ }

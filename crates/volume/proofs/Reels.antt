@@ -1,6 +1,6 @@
 -- What is read without fault is well framed: a broken item is never due, a 17th volume label is a fault, and the image may end
--- only stateBehind an end of
--- reel. So the framing of the whole is that of what is left from the first wrong item on. Assumes nothing.
+-- only stateBehind an end of reel. So the framing of the whole is that of what is left from the first wrong item on. Assumes
+-- nothing.
 use mathlib.Core.Path.{_≡_, refl, sym, ap, ap₂, _∙_, subst}
 use mathlib.Core.Bool.{Bool, true, false, not, _&&_, _||_, false≢true}
 use mathlib.Core.List.{List, [], _∷_, _++_}

@@ -1,6 +1,5 @@
 -- An accepted set, as a reader would state it: the framing is good, every item is due where it stands and has no fault against
--- what was read
--- before it, and the image ends where the order of a reel lets it. And a refused one: what its verdict says of it.
+-- what was read before it, and the image ends where the order of a reel lets it. And a refused one: what its verdict says of it.
 use mathlib.Core.Path.{_≡_}
 use mathlib.Core.Bool.{Bool, true, false, not}
 use mathlib.Core.List.{List, [], _∷_}
@@ -70,8 +69,7 @@ isReelEnd reelEnd = true
 isReelEnd broken = false
 
 -- stateBehind r ended reels, with `closed` where the last item was an end of reel: i items may stand, and what follows them may
--- not, or is the end of an image
--- that does not end stateBehind an end of reel
+-- not, or is the end of an image that does not end stateBehind an end of reel
 abbrev pub Unframed : ℕ → Bool → List Item → ℕ → Type 0
 Unframed r closed [] zero = closed ≡ false
 Unframed r closed [] (suc i) = ⊥

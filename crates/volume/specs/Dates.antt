@@ -1,6 +1,5 @@
 -- A set without the dates of its later sections. Document 02, P2: dates belong to a file section, and the meaning takes those of
--- section 0001, so that
--- two accepted sets which are the same without these dates have one meaning (`reading/proofs/Dates.antt`).
+-- section 0001, so that two accepted sets which are the same without these dates have one meaning (`reading/proofs/Dates.antt`).
 use mathlib.Core.Path.{_≡_}
 use mathlib.Core.Bool.{Bool, _&&_, _||_}
 use mathlib.Core.List.{List, [], _∷_}

@@ -1,6 +1,5 @@
 -- The faults of one item that is due, beyond those of its label by itself. Document 01, "Cross-checks" (6), "Blocks and records"
--- (7, 8), the
--- 65th file (9), and a record that is open at EOF1 (8).
+-- (7, 8), the 65th file (9), and a record that is open at EOF1 (8).
 -- Each kind of item has its fault; of two numbers the smaller goes first, and of two fields the one with the lower BP.
 use mathlib.Core.Bool.{Bool, true, false}
 use mathlib.Core.List.{List, [], _∷_}
@@ -58,8 +57,7 @@ volumeFault names l =
     ifB (leb mostReels (length names)) (fault 2 0) (crossed (ifB (isAmong (volumeOf l) names) (bpOf vol1 volumeRow) 0))
 
 -- the first HDR1 of a file, behind `files` others of which `first` was the last HDR1: one set identifier throughout, section
--- 0001, sequence 0001 or
--- one higher than that of the file before
+-- 0001, sequence 0001 or one higher than that of the file before
 unfoldable pub newFilePlace : ℕ → List ℕ → List ℕ → ℕ
 newFilePlace files first l =
     ifB (ifB (eqb files 0) true (same (setOf l) (setOf first)))

@@ -1,6 +1,6 @@
 -- The meaning of a set (a term of document 01): its set identifier and, per file in order, file identifier, generation, version,
--- both dates,
--- format, B, R and the list of records; fields are compared as bytes. The dates are those of section 0001 (document 02, P2).
+-- both dates, format, B, R and the list of records; fields are compared as bytes. The dates are those of section 0001 (document
+-- 02, P2).
 use mathlib.Core.Path.{_≡_}
 use mathlib.Core.List.{List, [], _∷_, _++_}
 use Prim.Native.Nat.{ℕ}
@@ -16,8 +16,7 @@ use Rattle.volume.specs.Run.{Run, ended, stopped, runs}
 use Rattle.volume.specs.Accepted.{Accepted}
 
 -- a file of a meaning: the 46 bytes of its fields as an order sheet has them (17 identifier, 4 generation, 2 version, 6 creation
--- date,
--- 6 expiration date, 1 format, 5 B, 5 R), and its records
+-- date, 6 expiration date, 1 format, 5 B, 5 R), and its records
 pub record File : Type 0 where
   pub fields : List ℕ
   pub records : List (List ℕ)

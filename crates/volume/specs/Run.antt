@@ -1,6 +1,6 @@
 -- The reading of a whole set, and the verdict on an image. Document 01, "Numbers given back": over-long image, then 1, then 2 for
--- the whole
--- image, then the first wrong item; an image that ends too early for the reel order names the number after its last item.
+-- the whole image, then the first wrong item; an image that ends too early for the reel order names the number after its last
+-- item.
 use mathlib.Core.Bool.{Bool, true, false}
 use mathlib.Core.List.{List, [], _∷_, _++_}
 use Prim.Native.Nat.{ℕ, suc, _+_}

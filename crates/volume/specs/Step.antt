@@ -22,8 +22,7 @@ use Rattle.volume.specs.State.{State}
 use Rattle.volume.specs.Fault.{itemFault, outcomeIn, valueOf}
 
 -- what reading hands out: a file begins, with its first HDR1 and HDR2; a later section of it begins, with its own HDR1 and HDR2;
--- a data block of it,
--- with its bytes as they stand on the reel and its segments
+-- a data block of it, with its bytes as they stand on the reel and its segments
 pub data Event : Type 0 where
   begins : List ℕ → List ℕ → Event
   resumes : List ℕ → List ℕ → Event

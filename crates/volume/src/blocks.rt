@@ -1,4 +1,5 @@
-// Data blocks passed in a row: numbers only, since an image may hold millions of them. It knows of a section the lengths that its HDR2 gives.
+// Data blocks passed in a row: numbers only, since an image may hold millions of them. It knows of a section the lengths that its
+// HDR2 gives.
 ghost use mathlib.Core.Path.{_≡_};
 ghost use Rattle.block.specs.Turn.{blockOutcome};
 ghost use Rattle.volume.specs.code.Body.{PlaceInside, Skipped};
@@ -26,7 +27,8 @@ pub struct Between {
     pub pending: usize,
 }
 
-// The answer on a data block. A D block that can be cut and an S block are passed here, short ones with no call: an image may hold millions of them.
+// The answer on a data block. A D block that can be cut and an S block are passed here, short ones with no call: an image may
+// hold millions of them.
 fn outcome_of(h: Lengths, pending: usize, s: &[u8]) -> Outcome
     ensures { λ r. ⌜ r ≡ blockOutcome (h .format) (h .block) (h .size) (h .offset) pending (now (s .entry)) ⌝ }
 {

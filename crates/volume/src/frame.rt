@@ -1,4 +1,5 @@
-// The framing from a spot on: the items before it were read without fault, so they are well framed, and the spot tells how many reels have ended.
+// The framing from a spot on: the items before it were read without fault, so they are well framed, and the spot tells how many
+// reels have ended.
 ghost use mathlib.Core.Path.{_≡_};
 ghost use Rattle.order.specs.Kind.{kind};
 ghost use Rattle.order.specs.Due.{dueAfter};

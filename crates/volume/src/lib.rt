@@ -16,7 +16,8 @@ use image::framing;
 use image::opens;
 use order::Phase;
 
-// What is known behind an item, beside the places of the volume labels: numbers, and places in the image. A place past the end stands for no label.
+// What is known behind an item, beside the places of the volume labels: numbers, and places in the image. A place past the end
+// stands for no label.
 pub struct Reading {
     pub hdr1: usize,
     pub hdr2: usize,
@@ -27,7 +28,8 @@ pub struct Reading {
     pub continues: bool,
 }
 
-// The verdict on an image, whatever its bytes: number 0 exactly for an accepted set, else the number and place of the first wrong item.
+// The verdict on an image, whatever its bytes: number 0 exactly for an accepted set, else the number and place of the first wrong
+// item.
 pub fn check(image: &[u8]) -> Verdict
     ensures { λ r. ⌜ r ≡ imageVerdict (now (image .entry)) ⌝ }
 {

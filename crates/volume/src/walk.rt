@@ -1,4 +1,5 @@
-// The items of an image, one after the other, up to the first wrong one. It knows what a turn does, and asks the layers below what is right.
+// The items of an image, one after the other, up to the first wrong one. It knows what a turn does, and asks the layers below
+// what is right.
 ghost use mathlib.Core.Path.{_≡_};
 ghost use mathlib.Core.List.{[]};
 ghost use Prim.Native.Nat.{_+_, _≤_, _<_};

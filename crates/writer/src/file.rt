@@ -1,4 +1,5 @@
-// A file laid down on reels: its header labels, its records in blocks, and its trailer labels. It knows nothing of the files before and behind.
+// A file laid down on reels: its header labels, its records in blocks, and its trailer labels. It knows nothing of the files
+// before and behind.
 ghost use mathlib.Core.Path.{_≡_};
 ghost use lib.ListN.{length};
 ghost use Rattle.reading.specs.Legal.{blockLengthFrom};
@@ -79,7 +80,8 @@ fn block_length_in(entry: &[u8]) -> usize
     }
 }
 
-// Lays a file: its header labels, its blocks, and its trailer labels. Its entry says the format of its records and the length of its blocks.
+// Lays a file: its header labels, its blocks, and its trailer labels. Its entry says the format of its records and the length of
+// its blocks.
 pub(crate) fn put_file(
     lengths: &[u64],
     bytes: &[u8],

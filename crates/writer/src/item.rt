@@ -1,5 +1,5 @@
-// Labels, tape marks and ends of reels as items of an image, written where they have room. It knows which of them stand together and how long that is, and
-// nothing of when they are due.
+// Labels, tape marks and ends of reels as items of an image, written where they have room. It knows which of them stand together
+// and how long that is, and nothing of when they are due.
 ghost use mathlib.Core.Path.{_≡_};
 ghost use mathlib.Core.List.{[], _∷_, _++_};
 ghost use Prim.Native.Nat.{suc, _+_, _≤_, _<_};
@@ -18,10 +18,12 @@ use label::first_label;
 use label::second_label;
 use label::volume_label;
 
-// What the labels of a file are made of, one behind the other: the file's entry, its number in the set, the set entry, and the names of the reels.
+// What the labels of a file are made of, one behind the other: the file's entry, its number in the set, the set entry, and the
+// names of the reels.
 pub(crate) type Labels = [u8; 149];
 
-// The bytes of the entry, which stands first; the places of the number, of the set entry and of the names; the bytes of the set entry, and of a name.
+// The bytes of the entry, which stands first; the places of the number, of the set entry and of the names; the bytes of the set
+// entry, and of a name.
 pub(crate) const ENTRY: usize = 46;
 
 pub(crate) const SEQUENCE: usize = 46;
@@ -44,8 +46,9 @@ pub(crate) fn with_part(labels: Labels, at: usize, s: &[u8]) -> Labels
     made
 }
 
-// The bytes of a label as an item; of two labels; of two labels and the mark behind them; of a file's trailer labels and the marks around them; of these at
-// the end of a reel; of that and the next reel's volume label; and of all that stands between two blocks on two reels.
+// The bytes of a label as an item; of two labels; of two labels and the mark behind them; of a file's trailer labels and the
+// marks around them; of these at the end of a reel; of that and the next reel's volume label; and of all that stands between two
+// blocks on two reels.
 const LABEL_ITEM: usize = 83;
 
 const TWO_LABELS: usize = 166;

@@ -1,5 +1,5 @@
-// The lent buffer: bytes written at a place where the pass lays. What is laid was measured: nothing is asked for here, and the bytes of a record go by the one
-// copy that asks for itself.
+// The lent buffer: bytes written at a place where the pass lays. What is laid was measured: nothing is asked for here, and the
+// bytes of a record go by the one copy that asks for itself.
 ghost use mathlib.Core.Path.{_≡_};
 ghost use Prim.Native.Nat.{_+_, _≤_, _<_};
 ghost use lib.ListN.{length};

@@ -1,5 +1,5 @@
-// Writing an order sheet as an image, and rewriting an accepted image. It knows in which order the numbers are given back, and asks the layers below
-// for each part.
+// Writing an order sheet as an image, and rewriting an accepted image. It knows in which order the numbers are given back, and
+// asks the layers below for each part.
 mod body; // body.rt: the records of a file
 mod file; // file.rt: a file with its labels
 mod item; // item.rt: labels, marks and ends of reels
@@ -43,8 +43,8 @@ use volume::check;
 // One more than the longest image.
 const OVER_LONG: usize = 16777216;
 
-// Writes a set on reels with rooms, its files from the first on. A first pass finds its reels and its length before the first byte is written; the second
-// writes, and asks for no room.
+// Writes a set on reels with rooms, its files from the first on. A first pass finds its reels and its length before the first
+// byte is written; the second writes, and asks for no room.
 fn write_set(
     files: &[u8],
     counts: &[u64],
@@ -130,7 +130,8 @@ fn write_quota(
     )
 }
 
-// Writes an order sheet into a lent buffer: 9, 11, 12, 14 or 10 with place 0, which change no byte of it, or 0 and the image's length.
+// Writes an order sheet into a lent buffer: 9, 11, 12, 14 or 10 with place 0, which change no byte of it, or 0 and the image's
+// length.
 pub fn write(
     set: &[u8],
     files: &[u8],
@@ -213,8 +214,8 @@ fn rewrite_accepted(image: &[u8], quota: u64, names: &[u8], out: &mut [u8]) -> W
     }
 }
 
-// Rewrites an accepted image into a lent buffer with a quota and reel names: the image's own answer, then 9, 11, 12, 14 or 10 with place 0, all of
-// which change no byte of the buffer, or 0 and the length of the image written.
+// Rewrites an accepted image into a lent buffer with a quota and reel names: the image's own answer, then 9, 11, 12, 14 or 10
+// with place 0, all of which change no byte of the buffer, or 0 and the length of the image written.
 pub fn rewrite(image: &[u8], quota: u64, names: &[u8], out: &mut [u8]) -> Written
     ensures { λ r. ⌜ AnswersAt (rewriting (now (image .entry)) quota (now (names .entry)) (now (out .entry))) r (now (out .exit)) ⌝ }
 {

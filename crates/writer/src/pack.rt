@@ -19,8 +19,8 @@ use crate::unit::word_of;
 use base::put_in;
 use output::four_digits;
 
-// Where the packing of a record is: the pen; the bytes that are left of the record, and of its open unit; the place in the piece; 1 where the record has a
-// unit already; whether a unit is open, and whether there is more to be packed of the piece.
+// Where the packing of a record is: the pen; the bytes that are left of the record, and of its open unit; the place in the piece;
+// 1 where the record has a unit already; whether a unit is open, and whether there is more to be packed of the piece.
 pub struct Flow {
     pub pen: Pen,
     pub left: usize,

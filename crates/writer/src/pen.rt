@@ -1,5 +1,5 @@
-// The pen: where a pass is. It closes a block, changes the reel where there is no more room, and opens the next block; and knows nothing of what a block
-// holds.
+// The pen: where a pass is. It closes a block, changes the reel where there is no more room, and opens the next block; and knows
+// nothing of what a block holds.
 ghost use mathlib.Core.Path.{_≡_};
 ghost use mathlib.Core.Bool.{false};
 ghost use Prim.Native.Nat.{_≤_, _<_};
@@ -15,8 +15,9 @@ use crate::lay::WORD;
 use crate::lay::put_length;
 use base::part_of;
 
-// Where the pass is: the place behind the last closed block, where the length of the open one stands; the bytes of the open block; the blocks for which
-// the reel has room; how many reels are begun; the section and its blocks; whether a block is open, and whether a reel is lacking.
+// Where the pass is: the place behind the last closed block, where the length of the open one stands; the bytes of the open
+// block; the blocks for which the reel has room; how many reels are begun; the section and its blocks; whether a block is open,
+// and whether a reel is lacking.
 pub struct Pen {
     pub at: usize,
     pub used: usize,

@@ -1,5 +1,5 @@
-// All files of a set laid down one after the other, from the first reel to the end of the last. It knows how the slices of a sheet hold a file, and how an
-// image does.
+// All files of a set laid down one after the other, from the first reel to the end of the last. It knows how the slices of a
+// sheet hold a file, and how an image does.
 ghost use mathlib.Core.Path.{_≡_};
 ghost use mathlib.Core.Bool.{true};
 ghost use Prim.Native.Nat.{_+_, _≤_, _<_};
@@ -31,8 +31,8 @@ pub(crate) const LABEL: usize = 80;
 // The bytes of the head of an image and the volume label of its first reel.
 const HEAD: usize = 88;
 
-// A place among the files: how many are passed; of a sheet, the next length and the next byte; of an image, the next file; and whether there is a next file
-// to be laid.
+// A place among the files: how many are passed; of a sheet, the next length and the next byte; of an image, the next file; and
+// whether there is a next file to be laid.
 pub struct Place {
     pub nth: usize,
     pub first: usize,
@@ -93,8 +93,8 @@ fn entered(labels: Labels, files: &[u8], bytes: &[u8], image: bool, g: Place) ->
     with_part(numbered, 0, part_of(files, ENTRY * i, ENTRY))
 }
 
-// The place behind a file, whose lengths end at `stop` and whose records end at `end`, unless a reel is lacking. The next file of an image is looked for from
-// there on.
+// The place behind a file, whose lengths end at `stop` and whose records end at `end`, unless a reel is lacking. The next file of
+// an image is looked for from there on.
 fn behind(
     counts: &[u64],
     bytes: &[u8],

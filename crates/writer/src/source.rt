@@ -1,5 +1,5 @@
-// The records of a file, one after the other, from the slices of an order sheet or from an accepted image: where the next one stands. It knows how each of
-// them holds a record, and nothing of blocks that are written.
+// The records of a file, one after the other, from the slices of an order sheet or from an accepted image: where the next one
+// stands. It knows how each of them holds a record, and nothing of blocks that are written.
 ghost use mathlib.Core.Path.{_≡_};
 ghost use mathlib.Core.Bool.{true};
 ghost use Rattle.writer.specs.code.Source.{walkOf, GoodCursor, stopOf, endAt, nothing, Finds};
@@ -18,8 +18,9 @@ pub(crate) const WHOLE: u8 = 1;
 
 pub(crate) const SPLIT: u8 = 2;
 
-// Where a pass is in a file. Of a sheet: the place of the next record's bytes, the number of records that are left, and the end of the file's lengths. Of an
-// image: the place of what is left of the current block, and how many bytes that is; the offset length, the record length and the format of the file.
+// Where a pass is in a file. Of a sheet: the place of the next record's bytes, the number of records that are left, and the end
+// of the file's lengths. Of an image: the place of what is left of the current block, and how many bytes that is; the offset
+// length, the record length and the format of the file.
 pub struct Cursor {
     pub at: usize,
     pub left: usize,
@@ -30,7 +31,8 @@ pub struct Cursor {
     pub image: bool,
 }
 
-// The next record: where it stands, if in one piece; its length; the cursor's place and what is left behind it; and how it was found.
+// The next record: where it stands, if in one piece; its length; the cursor's place and what is left behind it; and how it was
+// found.
 pub struct Found {
     pub from: usize,
     pub len: usize,

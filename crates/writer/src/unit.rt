@@ -1,5 +1,5 @@
-// The numbers of a unit: whether a record enters a block, how much of it, and the indicator of a segment. It knows the three record formats by their
-// numbers, and writes nothing.
+// The numbers of a unit: whether a record enters a block, how much of it, and the indicator of a segment. It knows the three
+// record formats by their numbers, and writes nothing.
 ghost use mathlib.Core.Path.{_≡_};
 ghost use Prim.Native.Nat.{_+_, _-_, _≤_, min};
 ghost use lib.Dec.{leb};

@@ -1,7 +1,6 @@
 -- The labels that the writer makes, as they are read: that they have no fault by themselves, that a trailer and a later section
--- equal their header, and what
--- is read of them. A label differs from the one that the order sheet is judged by in few fields, and of each of these its row is
--- asked. Assumes nothing.
+-- equal their header, and what is read of them. A label differs from the one that the order sheet is judged by in few fields, and
+-- of each of these its row is asked. Assumes nothing.
 use mathlib.Core.Path.{_≡_, refl, sym, ap, _∙_}
 use mathlib.Core.Bool.{Bool, true, false, false≢true}
 use mathlib.Core.List.{List, [], _∷_}

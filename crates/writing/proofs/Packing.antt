@@ -1,6 +1,5 @@
 -- The packing of a file: the numbers of a unit, one induction over the records of a block for whatever is said of it, and the
--- equation of
--- `blocksLeft` without the number that it counts down. Assumes nothing.
+-- equation of `blocksLeft` without the number that it counts down. Assumes nothing.
 use mathlib.Core.Path.{_≡_, refl, sym, ap, _∙_, subst}
 use mathlib.Core.Bool.{Bool, true, false}
 use mathlib.Core.List.{List, [], _∷_, _++_}

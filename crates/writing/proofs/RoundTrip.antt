@@ -1,6 +1,6 @@
 -- The round trip: what the writer makes of a legal order sheet is an accepted set, and reading it gives the sheet's meaning
--- again. It holds for a legal
--- meaning on any reels that can be written (`set-means`, `set-reads`), and a sheet's are such. Assumes nothing.
+-- again. It holds for a legal meaning on any reels that can be written (`set-means`, `set-reads`), and a sheet's are such.
+-- Assumes nothing.
 use mathlib.Core.Path.{_≡_, refl, sym, ap, ap₂, _∙_, subst}
 use mathlib.Core.Bool.{true, false}
 use mathlib.Core.List.{List, [], _∷_, _++_}

@@ -1,8 +1,6 @@
 -- Laying a meaning down on reels as items. Document 01: the writer makes no optional labels. When a block must be opened and the
--- reel has no room for
--- it, the section ends with EOV and the next named reel is begun. The room of a reel counts its data blocks, over all its files;
--- a quota is the same
--- room for every reel.
+-- reel has no room for it, the section ends with EOV and the next named reel is begun. The room of a reel counts its data blocks,
+-- over all its files; a quota is the same room for every reel.
 --
 -- One pass with what follows as a continuation: `short` where a reel is needed and none is left (number 12).
 use mathlib.Core.List.{List, [], _∷_, _++_}

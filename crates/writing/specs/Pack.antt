@@ -1,9 +1,7 @@
 -- Packing the records of a file into data blocks. Document 01, "Meaning, and the one way to write it": offset 00, no padding. An
--- F or D unit goes
--- into the open block if it fits, else into a new one. In S, with r bytes left: a record without bytes needs r of 5 or more, any
--- other 6 or more,
--- else a new block is opened; a segment takes the smallest of what remains, r less 5, and 9,994. An unfinished record closes its
--- block.
+-- F or D unit goes into the open block if it fits, else into a new one. In S, with r bytes left: a record without bytes needs r
+-- of 5 or more, any other 6 or more, else a new block is opened; a segment takes the smallest of what remains, r less 5, and
+-- 9,994. An unfinished record closes its block.
 --
 -- The three formats differ in three numbers: the bytes of a control word, whether a unit enters the open block, and how many
 -- bytes it takes.

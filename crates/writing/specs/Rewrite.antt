@@ -1,6 +1,5 @@
 -- Rewriting. Document 01, "Meaning, and the one way to write it": rewriting an accepted set is the writer on the sheet with its
--- meaning and the given
--- quota and names; the reading numbers go first, then 9, 11, 12, 14, 10 with place 0.
+-- meaning and the given quota and names; the reading numbers go first, then 9, 11, 12, 14, 10 with place 0.
 use mathlib.Core.List.{List}
 use Prim.Native.Nat.{ℕ}
 use lib.Dec.{eqb}

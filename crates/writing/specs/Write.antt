@@ -1,6 +1,5 @@
 -- Writing an order sheet as an image. Document 01, "Numbers given back": 9, 11, 12, 14, 10, all with place 0; bytes behind the
--- image stay; a
--- refusal changes no lent byte.
+-- image stay; a refusal changes no lent byte.
 use mathlib.Core.List.{List, _++_}
 use Prim.Native.Nat.{ℕ}
 use lib.Dec.{eqb, leb}

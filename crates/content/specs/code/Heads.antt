@@ -17,8 +17,7 @@ abbrev pub wholeAt : List ℕ → Walk → ℕ
 wholeAt s w = wholeIn s (standsAt (w .format) (w .size) (w .at) (w .left))
 
 -- the bytes, with its control word, of the segment at the head of what is left of the current block of an S file, with `before`
--- bytes left of the block before it;
--- 0 where there is none, or something is left there
+-- bytes left of the block before it; 0 where there is none, or something is left there
 unfoldable pub segmentIn : List ℕ → ℕ → Walk → ℕ
 segmentIn s before w = ifB (eqb before 0) (ifB (eqb (w .format) S) (ifB (isInside s w) (lengthOf (segment (leftOf s w))) 0) 0) 0
 

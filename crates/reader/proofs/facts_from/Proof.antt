@@ -1,6 +1,5 @@
 -- `reader::facts_from` meets its contract: a walk of its MIR, by hand. The reader that one call returns is held in a local and
--- passed to the next. All that
--- the proof knows of `new` and of `left` is that each meets its contract.
+-- passed to the next. All that the proof knows of `new` and of `left` is that each meets its contract.
 -- Assumes nothing.
 use mathlib.Core.Path.{_≡_, refl, sym, subst}
 use Prim.Native.Nat.{ℕ}

@@ -1,6 +1,5 @@
 -- `reader::new` meets its contract: a walk of its MIR, by hand. `&[u8]` is Copy, so what it owns is had twice: once for the image
--- at exit, and once
--- inside the result, beside the facts of the walk.
+-- at exit, and once inside the result, beside the facts of the walk.
 -- Assumes nothing.
 use mathlib.Core.Path.{refl}
 use Prim.Native.Nat.{ℕ}

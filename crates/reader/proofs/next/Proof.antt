@@ -1,9 +1,8 @@
 -- `reader::next` meets its contract: a walk of its MIR, by hand. The borrow is opened, `step_at` is called on the image and the
--- walk that the struct
--- holds and on the joining buffer, the walk that it returned is stored, and the borrow is closed at the struct with that walk.
+-- walk that the struct holds and on the joining buffer, the walk that it returned is stored, and the borrow is closed at the
+-- struct with that walk.
 -- The struct is Copy: what it owns is had twice, and one copy goes to the callee, field by field. The buffer goes to the callee
--- at its own lifetime and
--- name, and what says its last bytes comes back.
+-- at its own lifetime and name, and what says its last bytes comes back.
 -- Assumes nothing.
 use mathlib.Core.Path.{_≡_, refl, ap, subst}
 use Prim.Native.Nat.{ℕ}

@@ -1,8 +1,7 @@
 -- `reader::next_at` meets its contract: a walk of its MIR, by hand. The reader that `new` makes is held in a local, and lent to
--- `next` for a lifetime that
--- is made for the call (proofs/Lent.antt). When the lifetime has ended, the local is read at its last value. The buffer goes to
--- `next` at its own lifetime and
--- name, and what says its last bytes comes back. All that the proof knows of the two functions is that each meets its contract.
+-- `next` for a lifetime that is made for the call (proofs/Lent.antt). When the lifetime has ended, the local is read at its last
+-- value. The buffer goes to `next` at its own lifetime and name, and what says its last bytes comes back. All that the proof
+-- knows of the two functions is that each meets its contract.
 -- Assumes nothing.
 use mathlib.Core.Path.{_≡_, refl, sym, ap, subst}
 use Prim.Native.Nat.{ℕ}

@@ -1,8 +1,6 @@
 -- `reader::open_at` meets its contract: a walk of its MIR, by hand. The reader that `new` makes is held in a local, and lent to
--- `open_file` for a lifetime that
--- is made for the call (proofs/Lent.antt). When the lifetime has ended, the local is read at its last value. All that the proof
--- knows of the two functions is
--- that each meets its contract.
+-- `open_file` for a lifetime that is made for the call (proofs/Lent.antt). When the lifetime has ended, the local is read at its
+-- last value. All that the proof knows of the two functions is that each meets its contract.
 -- Assumes nothing.
 use mathlib.Core.Path.{_≡_, refl, sym, ap, subst}
 use Prim.Native.Nat.{ℕ, _<_, _^_}

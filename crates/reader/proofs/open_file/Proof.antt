@@ -1,9 +1,7 @@
 -- `reader::open_file` meets its contract: a walk of its MIR, by hand. The borrow is opened, `begin_at` is called on the image and
--- the walk that the struct
--- holds, the walk that it returned is stored, and the borrow is closed at the struct with that walk.
+-- the walk that the struct holds, the walk that it returned is stored, and the borrow is closed at the struct with that walk.
 -- The struct is Copy: what it owns is had twice, and one copy goes to the callee, field by field. What the image owns is kept,
--- and the facts of the
--- walk are made anew: `again`.
+-- and the facts of the walk are made anew: `again`.
 -- Assumes nothing.
 use mathlib.Core.Path.{_≡_, refl, ap, subst}
 use Prim.Native.Nat.{ℕ, _<_, _^_}

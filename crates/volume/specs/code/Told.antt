@@ -1,6 +1,6 @@
 -- The verdict as a walk finds it: reading goes on to the first wrong item, and from that item on the framing is asked for. All
--- before it was read without
--- fault and is well framed, so this is the verdict on the whole image: `told-whole` (proofs/Reels.antt).
+-- before it was read without fault and is well framed, so this is the verdict on the whole image: `told-whole`
+-- (proofs/Reels.antt).
 use mathlib.Core.Bool.{Bool, false, not}
 use mathlib.Core.List.{List, [], _∷_}
 use Prim.Native.Nat.{ℕ, _+_, _-_}

@@ -1,8 +1,6 @@
 -- How a pass of the writer ends: what the buffer then holds, and where the image ends in it; or that a reel is lacking. A pass
--- that lays writes as it goes
--- on, one that measures only counts. What is left to be written from a pen on is told by the definitions of packing and laying;
--- what follows the file is
--- a continuation, as there.
+-- that lays writes as it goes on, one that measures only counts. What is left to be written from a pen on is told by the
+-- definitions of packing and laying; what follows the file is a continuation, as there.
 use mathlib.Core.Path.{_≡_}
 use mathlib.Core.Bool.{Bool, true, false}
 use mathlib.Core.List.{List, [], _∷_, _++_}
@@ -177,8 +175,7 @@ pub record EndsWithin (w : PassEnd) (size : ℕ) : Type 0 where
   pub most : w .end < overLong
 
 -- the numbers of a pen behind that many groups of labels. Its place is bounded by them and by the blocks for which there was
--- room, of at most 100,002
--- bytes each
+-- room, of at most 100,002 bytes each
 pub record SoundAt (rooms names : List ℕ) (labels : ℕ) (p : Pen) : Type 0 where
   pub reels : Reels rooms names
   pub blocks : p .count + p .room ≤ 999999

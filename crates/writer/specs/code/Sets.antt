@@ -1,6 +1,5 @@
 -- All files of a set laid down. They come from the slices of a sheet or from an accepted image: `filesAt` is what is left of them
--- at a place, and the loop
--- over them knows nothing else.
+-- at a place, and the loop over them knows nothing else.
 use mathlib.Core.Path.{_≡_}
 use mathlib.Core.Bool.{Bool, true, false}
 use mathlib.Core.List.{List, [], _∷_, _++_}

@@ -1,6 +1,6 @@
 -- The records of a file that are left from a cursor on. There are two sources: the slices of an order sheet, and an accepted
--- image, in which a record may
--- stand in several segments. Whoever packs the records knows of a cursor only these, and where the file ends.
+-- image, in which a record may stand in several segments. Whoever packs the records knows of a cursor only these, and where the
+-- file ends.
 use mathlib.Core.Path.{_≡_}
 use mathlib.Core.Bool.{false}
 use mathlib.Core.List.{List, [], _∷_}
