@@ -8,3 +8,4 @@ pub mod Loops
 pub mod Turns
 pub mod Blocks
 pub mod Helds
+pub mod Rooms

@@ -1,5 +1,13 @@
 // One data block: its units for the formats F, D and S, and the turns of segments. It knows no label.
 // `size` is the record length R. It has 32 bits, so that what is pending, which goes by R, fits a usize whatever is handed in.
+mod room; // room.rt: the room in a block that is being filled
+mod word; // word.rt: the control word of a unit
+
+pub use room::enters;
+pub use room::indicator;
+pub use room::smaller;
+pub use room::taken;
+pub use word::put_word;
 ghost use mathlib.Core.Path.{_≡_};
 ghost use mathlib.Core.Bool.{true};
 ghost use mathlib.Core.List.{[], _∷_};

@@ -21,7 +21,8 @@ use Rattle.block.specs.Turn.{outcome, isTurn, openAfter, turnsFrom, turned, blo
 use Rattle.block.specs.Held.{endsWith, recordsEnding, segmentBytes, heldBy, heldIn}
 use Rattle.block.specs.declared.Held.{Held}
 use Rattle.volume.specs.Meaning.{onFirst, joined}
-use Rattle.writing.specs.Pack.{enters, taken, indicatorOf, controlWord, startOf, unitIn, fill, after, weights, weight, blocksF, blocksLeft, blocksOf}
+use Rattle.writing.specs.Pack.{controlWord, startOf, unitIn, fill, after, weights, weight, blocksF, blocksLeft, blocksOf}
+use Rattle.block.specs.Room.{enters, taken, indicatorOf}
 
 pub data Example : Type 0 where
   -- blocks of a file of format f and record length r hold these records

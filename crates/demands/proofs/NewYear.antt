@@ -32,8 +32,10 @@ use Rattle.volume.specs.State.{start}
 use Rattle.volume.specs.Step.{isDue, kindIn, bytesIn, volumesAfter, filesAfter, continuesAfter, hdr1After, hdr2After, countAfter, pendingAfter, stateAfter, segmentsOf, segmentsIn, eventsOf, judged, ordered, step}
 use Rattle.sheet.specs.Flat.{inPartsF, inParts}
 use Rattle.reading.specs.Legal.{formatFrom, blockLengthFrom}
-use Rattle.writing.specs.Lay.{reelsOf, laid, put, headers, fileEnd, volumeEnd, rest, layFiles, layOn, lay}
-use Rattle.writing.specs.Pack.{enters, taken, indicatorOf, controlWord, startOf, unitIn, fill, after, weights, weight, blocksF, blocksLeft, blocksOf}
+use Rattle.writing.specs.Lay.{reelsOf, laid, put, rest, layFiles, layOn, lay}
+use Rattle.sections.specs.Section.{headers, fileEnd, volumeEnd}
+use Rattle.writing.specs.Pack.{controlWord, startOf, unitIn, fill, after, weights, weight, blocksF, blocksLeft, blocksOf}
+use Rattle.block.specs.Room.{enters, taken, indicatorOf}
 use Rattle.writing.specs.Rewrite.{sheetFrom}
 
 -- ---- the sets

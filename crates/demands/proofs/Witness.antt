@@ -35,8 +35,10 @@ use Rattle.volume.specs.Accepted.{Accepted}
 use Rattle.volume.proofs.Accepted.{done-accepted}
 use Rattle.sheet.specs.Flat.{Flat, inPartsF, inParts, filesFrom, addsUp, sheetOf, sheetNumber, reelsNumber}
 use Rattle.reading.specs.Legal.{formatFrom, blockLengthFrom, recordLengthFrom, isSound, legalEntry, legalRecord, legalRecords, legalFile, legalFiles, legalMeaning, legalName, freshNames, legalNames, legalQuota, legalSheet}
-use Rattle.writing.specs.Lay.{reelsOf, laid, put, headers, fileEnd, volumeEnd, rest, layFiles, layOn, lay}
-use Rattle.writing.specs.Pack.{enters, taken, indicatorOf, controlWord, startOf, unitIn, fill, after, weights, weight, blocksF, blocksLeft, blocksOf}
+use Rattle.writing.specs.Lay.{reelsOf, laid, put, rest, layFiles, layOn, lay}
+use Rattle.sections.specs.Section.{headers, fileEnd, volumeEnd}
+use Rattle.writing.specs.Pack.{controlWord, startOf, unitIn, fill, after, weights, weight, blocksF, blocksLeft, blocksOf}
+use Rattle.block.specs.Room.{enters, taken, indicatorOf}
 use Rattle.writing.specs.Rewrite.{sheetFrom}
 use Rattle.content.specs.Part.{placeBehind, beginsFile, ledTo, continuesBehind, firstBehind, partIn, onto as ontoParts, partsBy, partsFrom, isWanted, firstIn}
 use Rattle.content.specs.Section.{asBlock, blockIn, dataFrom}

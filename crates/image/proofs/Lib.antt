@@ -2,3 +2,4 @@ pub mod Coding
 pub mod Items
 pub mod Frames
 pub mod RoundTrip
+pub mod Words

@@ -1,13 +1,14 @@
-// The container of a set: items from bytes. It knows lengths, and nothing of what a block holds.
+// The container of a set: items from bytes, and their length words. It knows lengths, and nothing of what a block holds.
 use base::Verdict;
+use base::put_few;
 use base::wide;
 ghost use mathlib.Core.Path.{_≡_};
 ghost use mathlib.Core.Bool.{false};
-ghost use Prim.Native.Nat.{_≤_, _<_};
+ghost use Prim.Native.Nat.{_≤_, _<_, min};
 ghost use lib.ListN.{length, take, drop};
-ghost use Rattle.base.specs.Part.{same};
+ghost use Rattle.base.specs.Part.{putIn, same};
 ghost use Rattle.base.specs.Answer.{verdict};
-ghost use Rattle.image.specs.Item.{ledBy, shape, blockLength, decode};
+ghost use Rattle.image.specs.Item.{ledBy, shape, blockLength, decode, three};
 ghost use Rattle.image.specs.Framing.{mostImage, mostReels, head, framedFrom, framingFrom, opens, framing};
 
 // The most bytes of a block, and the length word that ends a reel.
@@ -213,4 +214,28 @@ pub fn framing(s: &[u8]) -> Verdict
         return framed(s, first);
     }
     answer(1, 0)
+}
+
+// A length that a word can say.
+fn sayable(n: usize) -> usize
+    ensures { λ r. ⌜ r ≡ min n 16777215 ⌝ }
+{
+    if n < REEL_END_WORD {
+        return n;
+    }
+    REEL_END_WORD
+}
+
+// Writes a length word, the high byte first, if it has room at its place; a length that no word can say as the largest that one
+// can.
+pub fn put_length(out: &mut [u8], at: usize, n: usize)
+    ensures { λ _. ⌜ now (out .exit) ≡ putIn (now (out .entry)) at (three (min n 16777215)) ⌝ }
+{
+    let said = sayable(n);
+    let word = [
+        (said / 65536) as u8,
+        (said / 256 % 256) as u8,
+        (said % 256) as u8,
+    ];
+    put_few(out, at, &word);
 }

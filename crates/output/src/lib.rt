@@ -14,7 +14,7 @@ pub struct Written {
     pub len: u64,
 }
 
-// A refusal.
+// A refusal with place 0.
 pub fn refusal(number: u32) -> Written
     ensures { λ r. ⌜ r ≡ refusalOf number ⌝ }
 {
@@ -26,6 +26,13 @@ pub fn refusal(number: u32) -> Written
         },
         len: 0,
     }
+}
+
+// A refusal with its place.
+pub fn refused(v: Verdict) -> Written
+    ensures { λ r. ⌜ r ≡ record { verdict = v; len = 0 } ⌝ }
+{
+    Written { verdict: v, len: 0 }
 }
 
 // So many bytes are written.

@@ -62,13 +62,12 @@ module _ (tape lengths out : List ℕ) (m : Measure) (x : TapeMeasured (tapeVerd
   number : m .verdict .number ≡ tapeVerdict tape lengths .number
   number = ap (λ (v : Verdict). v .number) (x .said)
 
-  pub from-refused : (m .verdict .number ≡ 0 → ⊥)
-      → AnswersAt (fromSimh tape lengths out) (record { verdict = m .verdict; len = 0 }) out
+  pub from-refused : (a : Answer) → (m .verdict .number ≡ 0 → ⊥) → a ≡ record { verdict = m .verdict; len = 0 }
+      → AnswersAt (fromSimh tape lengths out) a out
   unfolding fromSimh refusedWith
-  from-refused z =
-      subst (λ (w : Result). AnswersAt w (record { verdict = m .verdict; len = 0 }) out)
-      (sym (if-false _ _ _ (ne-eqb _ 0 (λ q. z (number ∙ q)))))
-      (record { said = x .said; len = refl; out = refl })
+  from-refused a z e =
+      subst (λ (w : Result). AnswersAt w a out) (sym (if-false _ _ _ (ne-eqb _ 0 (λ q. z (number ∙ q)))))
+      (record { said = ap (λ (r : Answer). r .verdict) e ∙ x .said; len = ap (λ (r : Answer). r .len) e; out = refl })
 
   module _ (z : m .verdict .number ≡ 0) where
     sound : Convertible tape lengths

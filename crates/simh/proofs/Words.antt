@@ -13,6 +13,7 @@ use Rattle.base.proofs.Ifs.{if-true, if-false, if-case, and-left, and-right, if
 use Rattle.base.specs.Part.{part, putAt, allAre, putIn}
 use Rattle.base.proofs.Parts.{part-drop, length-put, put-none, put-put}
 use Rattle.image.specs.Item.{block, three, bytesOf as imageItem}
+use Rattle.image.proofs.Words.{word-put, kept-in}
 use Rattle.image.specs.declared.Shape.{Shape}
 use Rattle.image.specs.declared.Shape.the-variants.{Broken}
 use Rattle.base.proofs.Put.{put-first}
@@ -105,19 +106,6 @@ pub ruleset shapes = (word-read, shape-past, shape-short, shape-led, word-within
 
 -- ---- writing
 
-pub three-put : (o : List ℕ) (at n : ℕ) → at + 3 ≤ length o
-    → set (set (set o at (n / 65536)) (at + 1) (n / 256 % 256)) (at + 2) (n % 256) ≡ putAt o at (three n)
-unfolding three
-three-put o at n h =
-    let next : at + 1 + 1 ≡ at + 2 = omega arith in
-    let long = length-set o at (n / 65536) in
-    let longer = length-set (set o at (n / 65536)) (at + 1) (n / 256 % 256) in
-    sym (put-first o at (n / 65536) _ (omega arith)
-    ∙ put-first (set o at (n / 65536)) (at + 1) (n / 256 % 256) _ (omega arith)
-    ∙ ap (λ (k : ℕ). putAt (set (set o at (n / 65536)) (at + 1) (n / 256 % 256)) k (n % 256 ∷ [])) next
-    ∙ put-first (set (set o at (n / 65536)) (at + 1) (n / 256 % 256)) (at + 2) (n % 256) [] (omega arith)
-    ∙ put-none _ _)
-
 pub four-put : (o : List ℕ) (at n : ℕ) → at + 4 ≤ length o
     → set (set (set (set o at (n % 256)) (at + 1) (n / 256 % 256)) (at + 2) (n / 65536 % 256)) (at + 3) (n / 16777216)
     ≡ putAt o at (four n)
@@ -139,7 +127,10 @@ four-put o at n h =
     ∙ put-first c (at + 3) (n / 16777216) [] (omega arith)
     ∙ put-none _ _)
 
-pub ruleset words = (three-put, four-put, needs)
+pub ruleset words = (four-put, needs)
+
+-- a length word of an image
+pub ruleset threes = (word-put, kept-in, needs)
 
 pub length-pad : (n : ℕ) → length (pad n) ≡ n % 2
 unfolding pad

@@ -24,6 +24,7 @@ use image::Shape;
 use output::Written;
 use output::done;
 use output::refusal;
+use output::refused;
 
 // An image has at most so many bytes behind its head, and a set so many files.
 const MOST_BEHIND: usize = 16777210;
@@ -237,7 +238,7 @@ pub fn from_simh(tape: &[u8], lengths: &[u64], out: &mut [u8]) -> Written
     let m = check(tape, lengths);
     let verdict = m.verdict;
     if verdict.number != 0 {
-        return Written { verdict, len: 0 };
+        return refused(verdict);
     }
     if MOST_BEHIND < m.len {
         return refusal(14);

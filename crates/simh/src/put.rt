@@ -6,16 +6,15 @@ ghost use Rattle.base.specs.Part.{putAt};
 ghost use Rattle.image.specs.Item.{block, three, bytesOf as imageItem};
 ghost use Rattle.simh.specs.Tape.{four, pad, spanOf, bytesOf};
 use base::put_few;
+use image::put_length;
 
-// A length word of an image: three bytes, the high byte first.
+// A length word of an image.
 pub(crate) fn put_three(out: &mut [u8], at: usize, n: usize)
     requires { ⌜ at + 3 ≤ length (now out) ⌝ }
     requires { ⌜ n < 16777216 ⌝ }
     ensures { λ _. ⌜ now (out .exit) ≡ putAt (now (out .entry)) at (three n) ⌝ }
 {
-    out[at] = (n / 65536) as u8;
-    out[at + 1] = (n / 256 % 256) as u8;
-    out[at + 2] = (n % 256) as u8;
+    put_length(out, at, n);
 }
 
 // A block of an image.

@@ -383,12 +383,13 @@ module _ (s : List ℕ) (quota : ℕ) (names out : List ℕ) (v : Verdict) (e : 
   pub verdict-zero : v .number ≡ 0 → imageVerdict s .number ≡ 0
   verdict-zero z = ap (λ (w : Verdict). w .number) (sym e) ∙ z
 
-  pub rewrite-refused : (v .number ≡ 0 → ⊥) → AnswersAt (rewrite s quota names out) (record { verdict = v; len = 0 }) out
+  pub rewrite-refused : (a : Answer) → (v .number ≡ 0 → ⊥) → a ≡ record { verdict = v; len = 0 }
+      → AnswersAt (rewrite s quota names out) a out
   unfolding rewrite refusedWith
-  rewrite-refused d =
+  rewrite-refused a d h =
       let other : imageVerdict s .number ≡ 0 → ⊥ = λ z. d (ap (λ (w : Verdict). w .number) e ∙ z) in
-      subst (λ (w : Result). AnswersAt w (record { verdict = v; len = 0 }) out) (sym (if-false _ _ _ (ne-eqb _ 0 other)))
-      (record { said = e; len = refl; out = refl })
+      subst (λ (w : Result). AnswersAt w a out) (sym (if-false _ _ _ (ne-eqb _ 0 other)))
+      (record { said = ap (λ (r : Answer). r .verdict) h ∙ e; len = ap (λ (r : Answer). r .len) h; out = refl })
 
   module _ (z : v .number ≡ 0) (n : ℕ) (r : n ≡ reelsNumber quota names) where
     accepted : imageVerdict s .number ≡ 0

@@ -7,7 +7,8 @@ use borrow.Author.Needs.{needs}
 use lib.ListN.{length}
 use Rattle.base.specs.If.{ifB}
 use Rattle.base.proofs.Ifs.{if-true, if-false}
-use Rattle.writing.specs.Pack.{Left, going, enters, fill, after, blocksLeft}
+use Rattle.writing.specs.Pack.{Left, going, fill, after, blocksLeft}
+use Rattle.block.specs.Room.{enters}
 use Rattle.writing.specs.code.Room.{RoomEach}
 use Rattle.writing.specs.Lay.{Sequel}
 use Rattle.writing.proofs.Packing.{by-test, blocks-going}

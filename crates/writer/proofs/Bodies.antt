@@ -13,7 +13,8 @@ use Rattle.base.specs.Part.{part}
 use Rattle.base.proofs.Parts.{length-part}
 use Rattle.content.specs.declared.measuring.Measured.the-variants.{Split}
 use Rattle.content.proofs.Records.{split-long}
-use Rattle.writing.specs.Pack.{Left, finished, going, startOf, enters}
+use Rattle.writing.specs.Pack.{Left, finished, going, startOf}
+use Rattle.block.specs.Room.{enters}
 use Rattle.writing.specs.code.Room.{RoomEach}
 use Rattle.writing.specs.Lay.{Sequel}
 use Rattle.writing.proofs.Packing.{by-test}

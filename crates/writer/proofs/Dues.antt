@@ -11,7 +11,8 @@ use lib.Seq.{take-add, drop-drop}
 use Rattle.base.specs.If.{ifB}
 use Rattle.base.proofs.Ifs.{if-true, if-false, if-same}
 use Rattle.block.specs.Unit.{wordOf}
-use Rattle.writing.specs.Pack.{going, startOf, enters, taken, indicatorOf, controlWord, unitIn, fill, after}
+use Rattle.writing.specs.Pack.{going, startOf, controlWord, unitIn, fill, after}
+use Rattle.block.specs.Room.{enters, taken, indicatorOf}
 use Rattle.writing.proofs.Packing.{by-test}
 use Rattle.writing.proofs.Units.{length-unit}
 use Rattle.writer.specs.code.Pass.{fillOf, afterOf, between, within, fillDue, leftDue}

@@ -10,7 +10,7 @@ use mir.Syntax.{w64}
 use lib.ListN.{length, length-append}
 use Rattle.base.specs.If.{ifB}
 use Rattle.base.proofs.Ifs.{if-true, if-false, if-same}
-use Rattle.base.specs.Part.{part}
+use Rattle.base.specs.Part.{part, putIn}
 use Rattle.charset.specs.Number.{numberIn}
 use Rattle.charset.specs.declared.Number.{Number}
 use Rattle.charset.specs.declared.Number.the-variants.{Value, Wrong}
@@ -20,18 +20,20 @@ use Rattle.label.specs.Name.{HDR1, HDR2, EOF1, EOF2}
 use Rattle.volume.specs.Fault.{valueOf}
 use Rattle.reading.specs.Legal.{formatFrom, blockLengthFrom}
 use Rattle.writing.specs.Pack.{Left, finished, startOf, blocksLeft, blocksF, weight, blocksOf}
-use Rattle.writing.specs.Lay.{Laid, laid, short, put, headers, fileEnd, Sequel, rest}
+use Rattle.writing.specs.Lay.{Laid, laid, short, put, Sequel, rest}
+use Rattle.sections.specs.Section.{headers, fileEnd}
 use Rattle.writing.proofs.Packing.{by-test}
 use Rattle.writer.specs.declared.pen.Pen.{Pen}
 use Rattle.writer.specs.declared.source.Cursor.{Cursor}
 use Rattle.writer.specs.declared.body.Body.{Body}
-use Rattle.writer.specs.code.Pass.{reelsAt, Job, job, entryIn, sequenceIn, setIn, Puts, pairOf, inkAt, lacks, inked, PassEnd, behind, inkedAt, outcome, restOf, ends, laidFrom, EndsWithin, Sound, between, fillOf, afterOf, fillDue, leftDue, penned}
+use Rattle.writer.specs.code.Pass.{reelsAt, Job, job, inkAt, lacks, inked, PassEnd, behind, inkedAt, outcome, restOf, ends, laidFrom, EndsWithin, Sound, between, fillOf, afterOf, fillDue, leftDue, penned}
 use Rattle.writer.specs.code.Pens.{Closable, Closes}
 use Rattle.writer.specs.code.Source.{recordsOf}
 use Rattle.writer.specs.code.Bodies.{Bodied, BodyPut}
 use Rattle.writer.specs.code.Files.{Beginnable, begun, Begins, Endable, Ends, Tailable, Tailed, fileLaid, filedFrom, nextFrom, FileReady, FilePut}
-use Rattle.writer.proofs.Items.{length-headers, length-file-end, puts-kept}
-use Rattle.writer.proofs.Written.{ink-puts}
+use Rattle.image.proofs.Words.{kept-in}
+use Rattle.sections.proofs.Lengths.{length-headers, length-file-end}
+use Rattle.writer.proofs.Written.{ink-made}
 use Rattle.writer.proofs.Passes.{ink-none, ink-length, outcome-items, fits-items}
 use Rattle.writer.proofs.Pens.{ends-given}
 use Rattle.writer.proofs.Blocks.{penned-short}
@@ -114,32 +116,27 @@ module _ (lay : Bool) (f b : ℕ) (e : List ℕ) (j : Job) (lengths bytes : List
 -- ---- the header labels
 
 module _ (lay : Bool) (set e : List ℕ) (sequence : ℕ) (p : Pen) (o : List ℕ) (y : Beginnable lay p (length o)) where
-  pub begin-room : lay ≡ true → p .at + 169 ≤ length o
-  begin-room l = y .room l
-
   pub begin-fits : FitsIn w64 (p .at + 169)
   begin-fits = record { fits = omega (arith, y .place) }
 
   headers-room : lay ≡ true → p .at + length (encode (headers set e 1 sequence)) ≤ length o
   headers-room l = let r = y .room l in omega (arith, length-headers set e 1 sequence)
 
-  begin-kept : (q : List ℕ) → q ≡ inkAt lay o (p .at) (encode (headers set e 1 sequence)) → length q ≡ length o
-  begin-kept q h = ap length h ∙ ink-length lay o (p .at) (encode (headers set e 1 sequence)) headers-room
+  begkept-in : (q : List ℕ) → q ≡ inkAt lay o (p .at) (encode (headers set e 1 sequence)) → length q ≡ length o
+  begkept-in q h = ap length h ∙ ink-length lay o (p .at) (encode (headers set e 1 sequence)) headers-room
 
   begins : (q : List ℕ) → q ≡ inkAt lay o (p .at) (encode (headers set e 1 sequence)) → Begins lay set e sequence p o q (begun p)
-  begins q h = record { is = refl; laid = h; kept = begin-kept q h }
+  begins q h = record { is = refl; laid = h; kept = begkept-in q h }
 
   pub begins-measured : lay ≡ false → Begins lay set e sequence p o o (begun p)
   begins-measured l = begins o (sym (ink-none lay o (p .at) (encode (headers set e 1 sequence)) l))
 
-pub begins-laid : (lay : Bool) (labels : List ℕ) (p : Pen) (o q : List ℕ) → Beginnable lay p (length o) → lay ≡ true
-    → Puts o (p .at) (encode (pairOf HDR1 HDR2 labels 1 0)) q
-    → Begins lay (setIn labels) (entryIn labels) (sequenceIn labels) p o q (begun p)
-unfolding headers
-begins-laid lay labels p o q y l w =
-    begins lay (setIn labels) (entryIn labels) (sequenceIn labels) p o y q (ink-puts lay o (p .at) _ q l w)
+  pub begins-laid : (s q : List ℕ) → lay ≡ true → s ≡ encode (headers set e 1 sequence) → q ≡ putIn o (p .at) s
+      → Begins lay set e sequence p o q (begun p)
+  begins-laid s q l h w =
+      begins q (ink-made lay o (p .at) 169 (encode (headers set e 1 sequence)) s q (length-headers set e 1 sequence) (y .room) l h w)
 
-pub ruleset beginning = (begin-room, begin-fits, begins-measured, begins-laid, puts-kept, needs)
+pub ruleset beginning = (begin-fits, begins-measured, begins-laid, kept-in, needs)
 
 -- ---- the trailer labels
 
@@ -227,7 +224,7 @@ module _ (lay : Bool) (set e : List ℕ) (sequence : ℕ) (x : Body) (o : List �
       pub tail-kept : length q ≡ length o
       tail-kept = k .kept
 
-      pub tail-room : lay ≡ true → c .at + 172 ≤ length q
+      tail-room : lay ≡ true → c .at + 172 ≤ length q
       tail-room l = end-room lay set e sequence (x .pen) o (y .endable s) q c k l
 
       pub tail-fits : FitsIn w64 (c .at + 172)
@@ -242,19 +239,20 @@ module _ (lay : Bool) (set e : List ℕ) (sequence : ℕ) (x : Body) (o : List �
       pub tailed-measured : lay ≡ false → Tailed lay set e sequence x o q (record { pen = closedEnd c; end = x .end })
       tailed-measured l = tailed-by q (sym (ink-none lay q (c .at) (encode (fileEnd set e (c .section) sequence (c .count))) l))
 
-module _ (lay : Bool) (labels : List ℕ) (x : Body) (o q z : List ℕ) (c : Pen) where
-  pub tailed-laid : Tailable lay x (length o) → x .pen .short ≡ false → Closes lay (x .pen) o q c → lay ≡ true
-      → Puts q (c .at) (encode (mark ∷ pairOf EOF1 EOF2 labels (c .section) (c .count))) z
-      → Tailed lay (setIn labels) (entryIn labels) (sequenceIn labels) x o z (record { pen = closedEnd c; end = x .end })
-  unfolding fileEnd
-  tailed-laid y s k l w =
-      tailed-by lay (setIn labels) (entryIn labels) (sequenceIn labels) x o y s q c k z (ink-puts lay q (c .at) _ z l w)
+      pub tailed-laid : (s z : List ℕ) → lay ≡ true → s ≡ encode (fileEnd set e (c .section) sequence (c .count))
+          → z ≡ putIn q (c .at) s
+          → Tailed lay set e sequence x o z (record { pen = closedEnd c; end = x .end })
+      tailed-laid s z l h w =
+          tailed-by z
+          (ink-made lay q (c .at) 172 (encode (fileEnd set e (c .section) sequence (c .count))) s z
+          (length-file-end set e (c .section) sequence (c .count)) tail-room l h w)
 
-  pub tail-all-kept : (bs : List ℕ) → Closes lay (x .pen) o q c → Puts q (c .at) bs z → length z ≡ length o
-  tail-all-kept bs k w = w .kept ∙ k .kept
+pub tail-all-kept : (lay : Bool) (x : Pen) (o q z s : List ℕ) (c : Pen) (at : ℕ) → Closes lay x o q c → z ≡ putIn q at s
+    → length z ≡ length o
+tail-all-kept lay x o q z s c at k w = kept-in q at s z w ∙ k .kept
 
 pub ruleset tails =
-    (tail-short, tail-closable, tail-kept, tail-room, tail-fits, tailed-measured, tailed-laid, tail-all-kept, needs)
+    (tail-short, tail-closable, tail-kept, tail-fits, tailed-measured, tailed-laid, tail-all-kept, needs)
 
 -- ---- the whole file
 

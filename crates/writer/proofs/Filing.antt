@@ -11,7 +11,7 @@ use mir.Syntax.{w64}
 use lib.ListN.{length, drop, getD, length-append, drop-of-length-le}
 use Rattle.base.specs.If.{ifB}
 use Rattle.base.proofs.Ifs.{if-true, if-false}
-use Rattle.base.specs.Part.{part, putAt}
+use Rattle.base.specs.Part.{part, putAt, putIn}
 use Rattle.base.proofs.Parts.{part-part, put-put}
 use Rattle.image.specs.Item.{block, mark, reelEnd, encode}
 use Rattle.image.specs.Framing.{head}
@@ -22,7 +22,8 @@ use Rattle.reading.specs.Legal.{formatFrom, blockLengthFrom, recordLengthFrom, 
 use Rattle.sheet.specs.Flat.{inParts, filesFrom}
 use Rattle.writing.specs.Pack.{blocksOf}
 use Rattle.writing.specs.code.Room.{RoomEach}
-use Rattle.writing.specs.Lay.{Laid, laid, short, put, headers, Sequel, rest, layFiles, layOn}
+use Rattle.writing.specs.Lay.{Laid, laid, short, put, Sequel, rest, layFiles, layOn}
+use Rattle.sections.specs.Section.{headers}
 use Rattle.writing.proofs.Packing.{by-test}
 use Rattle.writing.proofs.Packed.{Suited, legal-room}
 use Rattle.writing.proofs.Entry.{legal-first, legal-second, suited}
@@ -31,13 +32,15 @@ use Rattle.writer.specs.declared.pen.Pen.{Pen}
 use Rattle.writer.specs.declared.source.Cursor.{Cursor}
 use Rattle.writer.specs.declared.body.Body.{Body}
 use Rattle.writer.specs.declared.set.Place.{Place}
-use Rattle.writer.specs.code.Pass.{Puts, reelsAt, Job, job, namesIn, inkAt, inked, behind, inkedAt, PassEnd, outcome, laidFrom, imaged, imageFrom, EndsWithin, BetweenFiles}
+use Rattle.writer.specs.code.Pass.{reelsAt, Job, job, namesIn, inkAt, inked, behind, inkedAt, PassEnd, outcome, laidFrom, imaged, imageFrom, EndsWithin, BetweenFiles}
 use Rattle.writer.specs.code.Source.{recordsOf, GoodCursor}
 use Rattle.writer.specs.code.Files.{fileLaid, filedFrom, nextFrom, FileReady, FilePut}
-use Rattle.writer.specs.code.Sets.{Origin, listed, read, totalOf, filesAt, Task, taskOf, PlacedIn, layAt, Filing, Filed, Fileable, OneFiled, AllFiled, Closing, Closed, firstPen, headOf, Sheeted, meaningAt, setLaid, SetReady}
-use Rattle.writer.proofs.Items.{length-first-reel, length-reel-end, puts-kept}
+use Rattle.writer.specs.code.Sets.{Origin, listed, read, totalOf, filesAt, Task, taskOf, PlacedIn, layAt, Filing, Filed, Fileable, OneFiled, AllFiled, Closing, Closed, firstPen, Sheeted, meaningAt, setLaid, SetReady}
+use Rattle.sections.specs.Section.{imageHead}
+use Rattle.image.proofs.Words.{kept-in}
+use Rattle.sections.proofs.Lengths.{length-first-reel, length-reel-end}
 use Rattle.writer.proofs.Passes.{ink-none, ink-length}
-use Rattle.writer.proofs.Written.{ink-not, ink-puts}
+use Rattle.writer.proofs.Written.{ink-not, ink-made}
 use Rattle.writer.proofs.Pens.{reels-some}
 use Rattle.writer.proofs.Files.{laid-short, laid-items, laid-room}
 
@@ -238,7 +241,7 @@ module _ (lay : Bool) (p : Pen) (o : List ℕ) (y : Closing lay p (length o)) wh
   closed-short s = record { kept = refl; untouched = λ _. refl; same = laid-short lay p o _ s ∙ sym (laid-short lay p o _ s) }
 
   module _ (s : p .short ≡ false) where
-    pub closing-room : lay ≡ true → p .at + 6 ≤ length o
+    closing-room : lay ≡ true → p .at + 6 ≤ length o
     closing-room l = y .room l s
 
     pub closing-fits : FitsIn w64 (p .at + 6)
@@ -256,13 +259,15 @@ module _ (lay : Bool) (p : Pen) (o : List ℕ) (y : Closing lay p (length o)) wh
           same = laid-items lay p (closedSet p) o q (mark ∷ reelEnd ∷ []) (laid []) 6 s refl refl length-reel-end e closing-room;
         }
 
-    pub closed-laid : (q : List ℕ) → lay ≡ true → Puts o (p .at) (encode (mark ∷ reelEnd ∷ [])) q → Closed lay p o q (closedSet p)
-    closed-laid q l w = closed-by q (ink-puts lay o (p .at) (encode (mark ∷ reelEnd ∷ [])) q l w)
+    pub closed-laid : (s q : List ℕ) → lay ≡ true → s ≡ encode (mark ∷ reelEnd ∷ []) → q ≡ putIn o (p .at) s
+        → Closed lay p o q (closedSet p)
+    closed-laid s q l h w =
+        closed-by q (ink-made lay o (p .at) 6 (encode (mark ∷ reelEnd ∷ [])) s q length-reel-end closing-room l h w)
 
     pub closed-measured : lay ≡ false → Closed lay p o o (closedSet p)
     closed-measured l = closed-by o (ink-not lay o (p .at) (encode (mark ∷ reelEnd ∷ [])) l)
 
-pub ruleset closings = (closed-short, closing-room, closing-fits, closed-laid, closed-measured, puts-kept, needs)
+pub ruleset closings = (closed-short, closing-fits, closed-laid, closed-measured, kept-in, needs)
 
 -- behind the last file there is none
 pub no-counts : (es : List (List ℕ)) (ls bs : List ℕ) → filesFrom es [] ls bs ≡ []
@@ -281,32 +286,30 @@ files-none read lengths bytes g h = drop-of-length-le (content bytes .files) h
 
 -- ---- the beginning of the set
 
-length-head : (name : List ℕ) → length (headOf name) ≡ 88
-unfolding headOf
+length-head : (name : List ℕ) → length (imageHead name) ≡ 88
+unfolding imageHead
 length-head name = length-append head (encode (block (madeVolume name) ∷ [])) ∙ ap (λ (n : ℕ). 5 + n) (length-first-reel name)
 
-pub head-laid : (lay : Bool) (o labels name q : List ℕ) → lay ≡ true → name ≡ part 53 6 labels → Puts o 0 (headOf name) q
-    → q ≡ inkAt lay o 0 (headOf (part 53 6 labels))
-head-laid lay o labels name q l e p =
-    ink-puts lay o 0 (headOf (part 53 6 labels)) q l (subst (λ (n : List ℕ). Puts o 0 (headOf n) q) e p)
+pub head-laid : (lay : Bool) (o labels name s q : List ℕ) → (lay ≡ true → 88 ≤ length o) → lay ≡ true → name ≡ part 53 6 labels
+    → s ≡ imageHead name → q ≡ putIn o 0 s
+    → q ≡ inkAt lay o 0 (imageHead (part 53 6 labels))
+head-laid lay o labels name s q r l e h w =
+    ink-made lay o 0 88 (imageHead (part 53 6 labels)) s q (length-head (part 53 6 labels)) r l (h ∙ ap imageHead e) w
 
-head-kept : (lay : Bool) (o name q : List ℕ) → (lay ≡ true → 88 ≤ length o) → q ≡ inkAt lay o 0 (headOf name)
+head-kept : (lay : Bool) (o name q : List ℕ) → (lay ≡ true → 88 ≤ length o) → q ≡ inkAt lay o 0 (imageHead name)
     → length q ≡ length o
-head-kept lay o name q r e = ap length e ∙ ink-length lay o 0 (headOf name) (λ l. let m = r l in omega (arith, length-head name))
+head-kept lay o name q r e = ap length e ∙ ink-length lay o 0 (imageHead name) (λ l. let m = r l in omega (arith, length-head name))
 
 pub first-index : (rooms : List ℕ) → 1 ≤ length rooms → 0 < length rooms
 first-index rooms h = omega arith
 
-pub first-room : (lay : Bool) (o : List ℕ) → (lay ≡ true → 88 ≤ length o) → lay ≡ true → 88 ≤ length o
-first-room lay o h l = h l
-
-pub ruleset setBegins = (head-laid, ink-not, puts-kept, first-index, first-room, needs)
+pub ruleset setBegins = (head-laid, ink-not, kept-in, first-index, needs)
 
 -- the head, the first reel's label, and what follows
 head-same : (lay : Bool) (o q name : List ℕ) (room : ℕ) (l : Laid) → (lay ≡ true → 88 ≤ length o)
-    → q ≡ inkAt lay o 0 (headOf name)
+    → q ≡ inkAt lay o 0 (imageHead name)
     → laidFrom lay (firstPen room) q l ≡ imageFrom lay o (put (block (madeVolume name) ∷ []) l)
-unfolding laidFrom imageFrom imaged inked outcome inkedAt behind put headOf inkAt ifB
+unfolding laidFrom imageFrom imaged inked outcome inkedAt behind put imageHead inkAt ifB
 head-same lay o q name room short r e = refl
 head-same true o q name room (laid xs) r e =
     let long : length (head ++ encode (block (madeVolume name) ∷ [])) ≡ 88 = length-head name in
@@ -363,7 +366,7 @@ module _ (lay : Bool) (t : Task) (g : Place) (o : List ℕ) (y : SetReady lay t 
       head-room o name (layAt t g (firstPen first))
       (subst (λ (k : Laid). EndsWithin (imageFrom true o k) (length o)) (sym set-is) (y .fits l))
 
-  module _ (q : List ℕ) (p : Pen) (e : p ≡ firstPen first) (h : q ≡ inkAt lay o 0 (headOf name)) where
+  module _ (q : List ℕ) (p : Pen) (e : p ≡ firstPen first) (h : q ≡ inkAt lay o 0 (imageHead name)) where
     begun-same : laidFrom lay p q (layAt t g p) ≡ imageFrom lay o (setLaid t g)
     begun-same =
         ap (λ (r : Pen). laidFrom lay r q (layAt t g r)) e
@@ -445,7 +448,7 @@ module _ (lay : Bool) (t : Task) (g : Place) (o : List ℕ) (y : SetReady lay t 
         pub sheeted : Sheeted lay (setLaid t g) o v r
         sheeted =
             record {
-              untouched = λ l. z .untouched l ∙ m .filed .untouched l ∙ h ∙ ink-none lay o 0 (headOf name) l;
+              untouched = λ l. z .untouched l ∙ m .filed .untouched l ∙ h ∙ ink-none lay o 0 (imageHead name) l;
               kept = set-all-kept;
               same = z .same ∙ last-same;
             }
@@ -466,9 +469,9 @@ module _ (lay image : Bool) (files counts lengths bytes labels rooms : List ℕ)
   named : part 53 6 labels ≡ part (6 * 0) 6 (namesIn (length rooms) labels)
   named = sym (part-part 53 0 6 (6 * length rooms) labels (omega (arith, begin-one)))
 
-  module _ (p : Pen) (q : List ℕ) (k : (p ≡ firstPen (getD rooms 0 0)) × (q ≡ inkAt lay o 0 (headOf (part 53 6 labels)))) where
-    laid-head : q ≡ inkAt lay o 0 (headOf (part (6 * 0) 6 (namesIn (length rooms) labels)))
-    laid-head = k .1 ∙ ap (λ (n : List ℕ). inkAt lay o 0 (headOf n)) named
+  module _ (p : Pen) (q : List ℕ) (k : (p ≡ firstPen (getD rooms 0 0)) × (q ≡ inkAt lay o 0 (imageHead (part 53 6 labels)))) where
+    laid-head : q ≡ inkAt lay o 0 (imageHead (part (6 * 0) 6 (namesIn (length rooms) labels)))
+    laid-head = k .1 ∙ ap (λ (n : List ℕ). inkAt lay o 0 (imageHead n)) named
 
     pub begun-along : Along lay t g p q q (record { place = g; pen = p })
     begun-along = along-none lay t g p q (set-fileable lay t g o y q p (k .0) laid-head) (y .writable .on)

@@ -9,7 +9,8 @@ use borrow.Author.Needs.{needs}
 use lib.ListN.{length, take, drop, getD, set, replicate, length-append, length-set}
 use lib.Seq.{drop-drop, getD-drop, getD-set-same, drop-set-lt}
 use Rattle.base.proofs.Ifs.{if-true, if-false}
-use Rattle.base.specs.Part.{part, putAt}
+use Rattle.base.specs.Part.{part, putAt, putIn}
+use Rattle.base.proofs.Copies.{put-in}
 use Rattle.base.proofs.Parts.{length-part, part-drop, drop-take, length-put, take-put, part-put, drop-put, put-put}
 use Rattle.volume.specs.Meaning.{fieldsFrom}
 use Rattle.reading.proofs.Entries.{length-entry}
@@ -17,9 +18,15 @@ use Rattle.writer.specs.declared.pen.Pen.{Pen}
 use Rattle.writer.specs.declared.source.Cursor.{Cursor}
 use Rattle.writer.specs.declared.body.Body.{Body}
 use Rattle.writer.specs.declared.set.Place.{Place}
-use Rattle.writer.specs.code.Pass.{Job, job, setIn, namesIn, jobOf}
+use Rattle.writer.specs.code.Pass.{Job, job, namesIn, jobOf}
+use Rattle.sections.specs.Section.{setIn}
 use Rattle.writer.specs.code.Files.{FileReady, FilePut}
 use Rattle.writer.specs.code.Sets.{Enterable, entryAt, LabelsEntered}
+
+-- what is put among the label parts has room there
+pub parts-put-in : (labels : List ℕ) (at : ℕ) (s r : List ℕ) → length labels ≡ 149 → at + length s ≤ 149 → r ≡ putIn labels at s
+    → r ≡ putAt labels at s
+parts-put-in labels at s r l h e = e ∙ put-in labels at s (omega arith)
 
 -- ---- the fields of a file, from its labels in an image
 

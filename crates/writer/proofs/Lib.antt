@@ -1,5 +1,3 @@
-pub mod Entering
-pub mod Items
 pub mod Passes
 pub mod Written
 pub mod Dues

@@ -20,7 +20,8 @@ use Rattle.writer.specs.declared.pen.Pen.{Pen}
 use Rattle.writer.specs.declared.source.Cursor.{Cursor}
 use Rattle.writer.specs.declared.body.Body.{Body}
 use Rattle.writer.specs.declared.set.Place.{Place}
-use Rattle.writer.specs.code.Pass.{Job, job, setIn, namesIn, jobOf}
+use Rattle.writer.specs.code.Pass.{Job, job, namesIn, jobOf}
+use Rattle.sections.specs.Section.{setIn}
 use Rattle.writer.specs.code.Files.{FileReady, FilePut}
 use Rattle.writer.specs.code.Sets.{Origin, listed, read, originOf, totalOf, listedAt, walkAt, cursorAt, Countable, entryAt, Enterable, LabelsEntered, passed, followedBy, behindFile, Task, task, taskOf, Fileable, OneFiled}
 use Rattle.writer.proofs.Filing.{filesOn, Along, along-fileable, along-more, files-fall}

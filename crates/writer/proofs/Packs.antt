@@ -12,7 +12,8 @@ use lib.Seq.{length-take-le}
 use Rattle.base.specs.If.{ifB}
 use Rattle.base.proofs.Ifs.{if-true, if-false, if-case}
 use Rattle.block.specs.Unit.{wordOf}
-use Rattle.writing.specs.Pack.{going, enters, taken, indicatorOf, controlWord}
+use Rattle.writing.specs.Pack.{going, controlWord}
+use Rattle.block.specs.Room.{enters, taken, indicatorOf}
 use Rattle.writing.specs.Lay.{Sequel}
 use Rattle.writing.proofs.Packing.{by-test, entered}
 use Rattle.writing.proofs.Units.{length-control}

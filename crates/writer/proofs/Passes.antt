@@ -15,7 +15,7 @@ use Rattle.base.proofs.Parts.{length-part, length-put, put-put, put-before}
 use Rattle.image.specs.Item.{Item, block, three, bytesOf, encodeBy, encode}
 use Rattle.image.proofs.RoundTrip.{encode-append}
 use Rattle.writing.specs.Lay.{Laid, laid, short, put}
-use Rattle.writer.proofs.Items.{length-three}
+use Rattle.sections.proofs.Lengths.{length-three}
 use Rattle.writer.specs.code.Pass.{overLong, inkAt, inked, behind, inkedAt, outcome, EndsWithin}
 
 -- ---- two puts apart from each other

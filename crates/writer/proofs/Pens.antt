@@ -1,8 +1,8 @@
 -- The pen between blocks: closing one, changing the reel, opening the next. Assumes nothing.
-use mathlib.Core.Path.{_≡_, refl, sym, ap, _∙_, subst}
+use mathlib.Core.Path.{_≡_, refl, sym, ap, ap₂, _∙_, subst}
 use mathlib.Core.Bool.{Bool, true, false, false≢true}
 use mathlib.Core.List.{List, [], _∷_, _++_, append-assoc}
-use Prim.Native.Nat.{ℕ, suc, pred, _+_, _-_, _*_, _≤_, _<_}
+use Prim.Native.Nat.{ℕ, suc, pred, _+_, _-_, _*_, _≤_, _<_, min}
 use native.Mathlib.Omega.{arith}
 use native.Mathlib.Numerals.{add-one}
 use borrow.Author.Needs.{needs}
@@ -12,19 +12,21 @@ use lib.ListN.{length, take, drop, getD, length-drop, drop-of-length-le}
 use lib.Seq.{drop-drop, drop-cons}
 use Rattle.base.specs.If.{ifB}
 use Rattle.base.proofs.Ifs.{if-true, if-false}
-use Rattle.base.specs.Part.{part}
+use Rattle.base.specs.Part.{part, putAt, putIn}
 use Rattle.base.proofs.Parts.{part-part}
 use Rattle.image.specs.Item.{Item, block, three, encode}
 use Rattle.label.specs.Made.{madeVolume}
-use Rattle.writing.specs.Lay.{Reel, Laid, laid, short, put, headers, volumeEnd, Sequel, rest}
+use Rattle.writing.specs.Lay.{Reel, Laid, laid, short, put, Sequel, rest}
+use Rattle.sections.specs.Section.{headers, volumeEnd, entryIn, sequenceIn, setIn}
 use Rattle.writing.proofs.Packing.{by-test}
 use Rattle.sheet.specs.Flat.{inParts}
 use Rattle.sheet.proofs.Cutting.{parts-some}
-use Rattle.writer.proofs.Items.{length-three, length-block, length-change, puts-kept}
+use Rattle.image.proofs.Words.{word-put, kept-in}
+use Rattle.sections.proofs.Lengths.{length-three, length-block, length-change}
 use Rattle.writer.specs.declared.pen.Pen.{Pen}
-use Rattle.writer.specs.code.Pass.{overLong, behind, Puts, Reels, reelsFrom, reelsAt, Job, entryIn, sequenceIn, setIn, jobOf, inkAt, lacks, inked, PassEnd, outcome, restOf, ends, EndsWithin, Sound}
+use Rattle.writer.specs.code.Pass.{overLong, behind, Reels, reelsFrom, reelsAt, Job, jobOf, inkAt, lacks, inked, PassEnd, outcome, restOf, ends, EndsWithin, Sound}
 use Rattle.writer.specs.code.Pens.{Ready, Closable, Closes, Changes, Opens, opened}
-use Rattle.writer.proofs.Written.{ink-puts}
+use Rattle.writer.proofs.Written.{ink-put, ink-made}
 use Rattle.writer.proofs.Passes.{ink-none, ink-length, outcome-close, outcome-open, outcome-items, fits-unit, fits-items}
 
 -- ---- how a pass ends from a pen that is not short
@@ -49,10 +51,7 @@ closed p =
     record { at = p .at + 3 + p .used; used = 0; room = p .room; next = p .next; section = p .section; count = p .count; on = false; short = p .short }
 
 module _ (lay : Bool) (p : Pen) (o : List ℕ) (c : Closable lay p (length o)) where
-  pub close-small : p .used < overLong
-  close-small = omega (arith, c .used)
-
-  pub close-room : p .on ≡ true → lay ≡ true → p .at + 3 ≤ length o
+  close-room : p .on ≡ true → lay ≡ true → p .at + 3 ≤ length o
   close-room h l = let r = c .room l h in omega arith
 
   pub close-word-fits : FitsIn w64 (p .at + 3)
@@ -123,14 +122,17 @@ module _ (lay : Bool) (p : Pen) (o : List ℕ) (c : Closable lay p (length o)) w
         same = closes-same q h e;
       }
 
-  pub closes-laid : (q : List ℕ) → p .on ≡ true → lay ≡ true → Puts o (p .at) (three (p .used)) q → Closes lay p o q (closed p)
-  closes-laid q h l w = closes-on q h (ink-puts lay o (p .at) (three (p .used)) q l w)
+  pub closes-laid : (q : List ℕ) → p .on ≡ true → lay ≡ true → q ≡ putIn o (p .at) (three (min (p .used) 16777215))
+      → Closes lay p o q (closed p)
+  closes-laid q h l w =
+      closes-on q h
+      (ink-put lay o (p .at) (three (p .used)) q l (word-put o (p .at) (p .used) q (close-room h l) (omega (arith, c .used)) w))
 
   pub closes-measured : p .on ≡ true → lay ≡ false → Closes lay p o o (closed p)
   closes-measured h l = closes-on o h (sym (ink-none lay o (p .at) (three (p .used)) l))
 
 pub ruleset closing =
-    (close-small, close-room, close-word-fits, close-fits, closes-none, closes-laid, closes-measured, puts-kept, needs)
+    (close-word-fits, close-fits, closes-none, closes-laid, closes-measured, kept-in, needs)
 
 -- ---- the reels that are left
 
@@ -299,18 +301,19 @@ module _ (lay : Bool) (j : Job) (p : Pen) (o : List ℕ) (ready : Ready lay j p 
     pub changes-measured : lay ≡ false → Changes lay j p o o (next-reel j p)
     changes-measured l = changed-by o (sym (ink-none lay o (p .at) (encode (changed j p)) l))
 
-    changes-puts : (q name : List ℕ) → lay ≡ true → name ≡ part (6 * p .next) 6 (j .names)
-        → Puts o (p .at) (encode
-        (volumeEnd (j .set) (j .entry) (p .section) (j .sequence) (p .count) ++
-        (block (madeVolume name) ∷ headers (j .set) (j .entry) (suc (p .section)) (j .sequence)))) q
-        → Changes lay j p o q (next-reel j p)
-    changes-puts q name l e w =
-        let v : Puts o (p .at) (encode (changed j p)) q
-        = subst (λ (m : List ℕ). Puts o (p .at) (encode (volumeEnd (j .set) (j .entry) (p .section) (j .sequence) (p .count) ++ (block (madeVolume m) ∷ headers (j .set) (j .entry) (suc (p .section)) (j .sequence)))) q) e w in
-        changed-by q (ink-puts lay o (p .at) (encode (changed j p)) q l v)
-
-    pub changes-room : lay ≡ true → p .at + 430 ≤ length o
+    changes-room : lay ≡ true → p .at + 430 ≤ length o
     changes-room l = omega (arith, items-room l .0, length-changed j p)
+
+    changes-made : (q name s : List ℕ) → lay ≡ true → name ≡ part (6 * p .next) 6 (j .names)
+        → s ≡ encode
+        (volumeEnd (j .set) (j .entry) (p .section) (j .sequence) (p .count) ++
+        (block (madeVolume name) ∷ headers (j .set) (j .entry) (p .section + 1) (j .sequence)))
+        → q ≡ putIn o (p .at) s
+        → Changes lay j p o q (next-reel j p)
+    changes-made q name s l e h w =
+        let made : s ≡ encode (changed j p)
+        = h ∙ ap₂ (λ (m : List ℕ) (k : ℕ). encode (volumeEnd (j .set) (j .entry) (p .section) (j .sequence) (p .count) ++ (block (madeVolume m) ∷ headers (j .set) (j .entry) k (j .sequence)))) e (add-one (p .section)) in
+        changed-by q (ink-made lay o (p .at) 430 (encode (changed j p)) s q (length-changed j p) changes-room l made w)
 
   pub section-small : p .section < 1000
   section-small = omega (arith, sound .sections, sound .within, sound .reels .few)
@@ -324,17 +327,18 @@ module _ (lay : Bool) (j : Job) (p : Pen) (o : List ℕ) (ready : Ready lay j p 
 -- the name of the next reel, as the label parts have it
 pub changes-laid : (lay : Bool) (labels rooms : List ℕ) (p : Pen) (o : List ℕ) → Ready lay (jobOf labels rooms) p o
     → p .on ≡ false → p .room ≡ 0 → p .next < length rooms
-    → (q name : List ℕ) → lay ≡ true → name ≡ part (53 + 6 * p .next) 6 labels
-    → Puts o (p .at) (encode
+    → (q name s : List ℕ) → lay ≡ true → name ≡ part (53 + 6 * p .next) 6 labels
+    → s ≡ encode
     (volumeEnd (setIn labels) (entryIn labels) (p .section) (sequenceIn labels) (p .count) ++
-    (block (madeVolume name) ∷ headers (setIn labels) (entryIn labels) (suc (p .section)) (sequenceIn labels)))) q
+    (block (madeVolume name) ∷ headers (setIn labels) (entryIn labels) (p .section + 1) (sequenceIn labels)))
+    → q ≡ putIn o (p .at) s
     → Changes lay (jobOf labels rooms) p o q (next-reel (jobOf labels rooms) p)
-changes-laid lay labels rooms p o ready shut none n q name l e w =
-    changes-puts lay (jobOf labels rooms) p o ready shut none n q name l
-    (e ∙ sym (part-part 53 (6 * p .next) 6 (6 * length rooms) labels (omega arith))) w
+changes-laid lay labels rooms p o ready shut none n q name s l e h w =
+    changes-made lay (jobOf labels rooms) p o ready shut none n q name s l
+    (e ∙ sym (part-part 53 (6 * p .next) 6 (6 * length rooms) labels (omega arith))) h w
 
 pub ruleset changing =
-    (changes-short, changes-measured, changes-laid, changes-room, puts-kept, section-small, next-small, place-small, needs)
+    (changes-short, changes-measured, changes-laid, kept-in, section-small, next-small, place-small, needs)
 
 -- ---- the next block
 

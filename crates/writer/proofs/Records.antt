@@ -17,7 +17,8 @@ use Rattle.base.specs.Digits.{digits}
 use Rattle.base.proofs.Parts.{length-part, part-within}
 use Rattle.block.specs.Unit.{wordOf}
 use Rattle.block.proofs.Wholes.{word-segmented}
-use Rattle.writing.specs.Pack.{Left, going, startOf, enters, taken, indicatorOf, controlWord, blocksLeft}
+use Rattle.writing.specs.Pack.{Left, going, startOf, controlWord, blocksLeft}
+use Rattle.block.specs.Room.{enters, taken, indicatorOf, wordWith}
 use Rattle.writing.specs.Lay.{rest, Sequel}
 use Rattle.writing.proofs.Packing.{by-test, entered}
 use Rattle.writing.proofs.Units.{length-control, indicator-whole}
@@ -26,7 +27,7 @@ use Rattle.writer.specs.declared.pen.Pen.{Pen}
 use Rattle.writer.specs.declared.pack.Flow.{Flow}
 use Rattle.writer.specs.declared.record.Quick.{Quick}
 use Rattle.writer.specs.code.Pass.{Job, inkAt, inked, PassEnd, outcome, restOf, EndsWithin, UnitDue, between, within, fillDue, leftDue, penned}
-use Rattle.writer.specs.code.Pens.{mostOf, wordWith, Ready, Closable, Closes, Opens, opened}
+use Rattle.writer.specs.code.Pens.{mostOf, Ready, Closable, Closes, Opens, opened}
 use Rattle.writer.specs.code.Packs.{entersOn, Wanting, Blocked, more, flowed, GoodFlow, Packable, Packed}
 use Rattle.writer.specs.code.Records.{GoesIn, GoesNext, Wholable, Wholed, Recordable, Recorded, Somewhere, EntersWhole, QuickBlock}
 use Rattle.writer.proofs.Passes.{ink-none, ink-length}
@@ -121,16 +122,13 @@ module _ (lay : Bool) (f w : ℕ) (bytes : List ℕ) (from n : ℕ) (p : Pen) (o
   pub whole-inside : from + n ≤ length bytes
   whole-inside = y .inside
 
-  pub whole-word-room : lay ≡ true → at + wordOf f ≤ length o
-  whole-word-room l = omega (arith, y .room l)
-
   whole-is : (r : Pen) → r ≡ more p (w + n) → r ≡ more p (wordOf f + n)
   whole-is r e = e ∙ ap (λ (k : ℕ). more p (k + n)) word
 
   pub whole-measured : (r : Pen) → r ≡ more p (w + n) → lay ≡ false → Wholed lay f bytes from n p o o r
   whole-measured r e l = record { is = whole-is r e; laid = ink-not lay o at (controlWord f 0 n ++ part from n bytes) l }
 
-  module _ (l : lay ≡ true) (d q z : List ℕ) (e : d ≡ digits 4 (min (w + n) 9999)) (x : q ≡ putAt o at (wordWith f 0 d))
+  module _ (l : lay ≡ true) (d q z : List ℕ) (e : d ≡ digits 4 (min (w + n) 9999)) (x : q ≡ putIn o at (wordWith f 48 d))
       (v : z ≡ putIn q (at + w) s) where
     room : at + wordOf f + n ≤ length o
     room = omega (arith, y .room l)
@@ -146,7 +144,7 @@ module _ (lay : Bool) (f w : ℕ) (bytes : List ℕ) (from n : ℕ) (p : Pen) (o
               (unit-put f 0 n o at w word bytes from (y .inside) (y .small) room d q e x z v);
         }
 
-pub ruleset wholes = (whole-at-fits, whole-fits, whole-word-fits, whole-more, whole-inside, whole-word-room, needs)
+pub ruleset wholes = (whole-at-fits, whole-fits, whole-word-fits, whole-more, whole-inside, needs)
 
 -- what a whole record leaves due
 module _ (f b u n : ℕ) (x : List ℕ) (size : length x ≡ n) (e : enters f b u n ≡ true) (t : taken f b u n ≡ n)

@@ -1,5 +1,5 @@
 -- The head of a unit and its bytes, as they are written. Assumes nothing.
-use mathlib.Core.Path.{_≡_, ap, _∙_}
+use mathlib.Core.Path.{_≡_, ap, _∙_, subst}
 use mathlib.Core.Bool.{Bool, true, false}
 use mathlib.Core.List.{List}
 use Prim.Native.Nat.{ℕ, _+_, _-_, _≤_, min}
@@ -12,16 +12,17 @@ use lib.ListN.{length, take, drop}
 use Rattle.base.specs.Part.{part, putAt, putIn}
 use Rattle.base.specs.Digits.{digits}
 use Rattle.base.proofs.Parts.{length-part, length-put, part-within}
+use Rattle.image.proofs.Words.{kept-in}
 use Rattle.block.specs.Unit.{wordOf}
-use Rattle.writing.specs.Pack.{taken, indicatorOf, controlWord}
+use Rattle.writing.specs.Pack.{controlWord}
+use Rattle.block.specs.Room.{wordWith, taken, indicatorOf}
 use Rattle.writing.proofs.Packing.{entered}
 use Rattle.writing.proofs.Units.{length-control}
 use Rattle.writer.specs.declared.pen.Pen.{Pen}
 use Rattle.writer.specs.declared.pack.Flow.{Flow}
 use Rattle.writer.specs.code.Pass.{inkAt}
-use Rattle.writer.specs.code.Pens.{wordWith}
 use Rattle.writer.specs.code.Packs.{more, headed, Headable, Headed, manyOf, Partable, Spelled}
-use Rattle.writer.proofs.Written.{ink-put, ink-put-in, ink-in-kept, ink-not, word-fits, word-said}
+use Rattle.writer.proofs.Written.{ink-put, ink-put-in, ink-not, word-fits, word-said}
 
 -- ---- a unit is begun
 
@@ -32,10 +33,7 @@ module _ (lay : Bool) (f b : ℕ) (s : Flow) (size : ℕ) (y : Headable lay f b 
   pub head-small : (k : ℕ) → k ≡ taken f b (s .pen .used) (s .left) → k ≤ 99999
   head-small k e = omega (arith, unit .0, y .most)
 
-  pub head-three : (i t n : ℕ) → (i ≡ t) × (i ≤ 3) → i ≤ 3
-  head-three i t n e = e .1
-
-  pub head-room : lay ≡ true → s .pen .at + 3 + s .pen .used + wordOf f ≤ size
+  head-room : lay ≡ true → s .pen .at + 3 + s .pen .used + wordOf f ≤ size
   head-room = y .room
 
   pub head-at-fits : FitsIn w64 (s .pen .at + 3)
@@ -56,30 +54,28 @@ module _ (lay : Bool) (f b : ℕ) (s : Flow) (size : ℕ) (y : Headable lay f b 
         let n : r ≡ more (s .pen) (wordOf f) = m ∙ ap (more (s .pen)) h in
         λ z. record { pen = n z; left = s .left; seg = e z; from = s .from; begun = s .begun; inside = true; on = true }
 
-    pub head-laid : (i : ℕ) (d o q : List ℕ) → (i ≡ indicatorOf (s .begun) k (s .left)) × (i ≤ 3) → lay ≡ true
+    pub head-laid : (i : ℕ) (d o q : List ℕ) → size ≡ length o → i ≡ 48 + indicatorOf (s .begun) k (s .left) → lay ≡ true
         → d ≡ digits 4 (k + w)
-        → q ≡ putAt o (s .pen .at + 3 + s .pen .used) (wordWith f i d) → Headed lay f b s o q headed-by
-    head-laid i d o q g l v y =
-        let c : controlWord f i k ≡ controlWord f (indicatorOf (s .begun) (taken f b (s .pen .used) (s .left)) (s .left)) (taken f b (s .pen .used) (s .left))
-        = ap (λ (z : ℕ). controlWord f z k) (g .0) ∙ ap (λ (z : ℕ). controlWord f (indicatorOf (s .begun) z (s .left)) z) e in
+        → q ≡ putIn o (s .pen .at + 3 + s .pen .used) (wordWith f i d) → Headed lay f b s o q headed-by
+    head-laid i d o q z g l v x =
+        let t : ℕ = indicatorOf (s .begun) k (s .left) in
+        let c : controlWord f t k ≡ controlWord f (indicatorOf (s .begun) (taken f b (s .pen .used) (s .left)) (s .left)) (taken f b (s .pen .used) (s .left))
+        = ap (λ (z : ℕ). controlWord f (indicatorOf (s .begun) z (s .left)) z) e in
+        let said : q ≡ putIn o (s .pen .at + 3 + s .pen .used) (wordWith f (48 + t) d) = x ∙ ap (λ (m : ℕ). putIn o (s .pen .at + 3 + s .pen .used) (wordWith f m d)) g in
+        let room : s .pen .at + 3 + s .pen .used + wordOf f ≤ length o = subst (λ (m : ℕ). s .pen .at + 3 + s .pen .used + wordOf f ≤ m) z (head-room l) in
         record {
           is = head-is;
           laid =
-              ink-put lay o (s .pen .at + 3 + s .pen .used) (controlWord f i k) q l
-              (word-said f i k o (s .pen .at + 3 + s .pen .used) w h d q v y)
+              ink-put lay o (s .pen .at + 3 + s .pen .used) (controlWord f t k) q l
+              (word-said f t k o (s .pen .at + 3 + s .pen .used) w h d q room v said)
               ∙ ap (inkAt lay o (s .pen .at + 3 + s .pen .used)) c;
         }
 
     pub head-measured : (o : List ℕ) → lay ≡ false → Headed lay f b s o o headed-by
     head-measured o l = record { is = head-is; laid = ink-not lay o (s .pen .at + 3 + s .pen .used) _ l }
 
-pub word-laid-kept : (o : List ℕ) (at f i k w : ℕ) (d q : List ℕ) → w ≡ wordOf f → at + wordOf f ≤ length o → d ≡ digits 4 (k + w)
-    → q ≡ putAt o at (wordWith f i d) → length q ≡ length o
-word-laid-kept o at f i k w d q h r v e =
-    ap length (word-said f i k o at w h d q v e) ∙ length-put o at (controlWord f i k) (omega (arith, length-control f i k))
-
 pub ruleset heading =
-    (word-fits, head-small, head-three, head-room, head-at-fits, head-fits, head-more, head-laid, head-measured, word-laid-kept, needs)
+    (word-fits, head-small, head-at-fits, head-fits, head-more, head-laid, head-measured, kept-in, needs)
 
 -- ---- bytes of the open unit
 
@@ -159,4 +155,4 @@ module _ (lay : Bool) (piece : List ℕ) (s : Flow) (o : List ℕ) (y : Partable
       spell-measured l = spell-is o (ink-not lay o (s .pen .at + 3 + s .pen .used) bytes l)
 
     pub spell-kept : (q : List ℕ) → lay ≡ true → q ≡ putIn o (s .pen .at + 3 + s .pen .used) bytes → length q ≡ length o
-    spell-kept q l h = ink-in-kept lay o (s .pen .at + 3 + s .pen .used) bytes q spell-room l h
+    spell-kept q l h = kept-in o (s .pen .at + 3 + s .pen .used) bytes q h

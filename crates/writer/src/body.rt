@@ -6,7 +6,6 @@ ghost use Rattle.writer.specs.code.Source.{movedTo, foundBytes};
 ghost use Rattle.writer.specs.code.Records.{Recorded};
 ghost use Rattle.writer.specs.code.Pens.{mostOf};
 ghost use Rattle.writer.specs.code.Bodies.{Takable, Bodied, BodyPut};
-use crate::item::Labels;
 use crate::pen::Pen;
 use crate::record::most_of;
 use crate::record::put_slow;
@@ -19,7 +18,8 @@ use crate::source::SPLIT;
 use crate::source::next;
 use crate::source::stop_of;
 use crate::split::put_split;
-use crate::unit::word_of;
+use block::word_of;
+use sections::Labels;
 
 // Where the pass is behind the records of a file: the pen, and the place at which they end in their source.
 pub struct Body {
@@ -89,7 +89,7 @@ pub(crate) fn put_records(
     requires { ⌜ Bodied lay f b (jobOf (now labels) (now rooms)) (now lengths) (now bytes) first p (now out) ⌝ }
     ensures { λ r. ⌜ BodyPut lay f b (jobOf (now (labels .entry)) (now (rooms .entry))) (now (lengths .entry)) (now (bytes .entry)) first p (now (out .entry)) (now (out .exit)) r ⌝ }
 {
-    let w = word_of(f);
+    let w = word_of(f as u32);
     let most = most_of(f);
     let mut pen = p;
     let mut c = first;

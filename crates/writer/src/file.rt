@@ -3,22 +3,24 @@
 ghost use mathlib.Core.Path.{_≡_};
 ghost use lib.ListN.{length};
 ghost use Rattle.reading.specs.Legal.{blockLengthFrom};
-ghost use Rattle.writer.specs.code.Pass.{entryIn, sequenceIn, setIn, jobOf};
+ghost use Rattle.sections.specs.Section.{entryIn, sequenceIn, setIn};
+ghost use Rattle.writer.specs.code.Pass.{jobOf};
 ghost use Rattle.writer.specs.code.Files.{Beginnable, Begins, Tailable, Tailed, FileReady, FilePut};
 use crate::body::Body;
 use crate::body::put_records;
-use crate::item::ENTRY;
-use crate::item::FILE_END;
-use crate::item::HEADERS;
-use crate::item::Labels;
-use crate::item::put_pair;
-use crate::item::put_trailers;
 use crate::pen::Pen;
 use crate::pen::close;
 use crate::source::Cursor;
 use base::part_of;
+use base::put_in;
 use charset::Number;
 use charset::number_in;
+use sections::ENTRY;
+use sections::FILE_END;
+use sections::HEADERS;
+use sections::Labels;
+use sections::file_end;
+use sections::headers;
 use sheet::format_in;
 
 // Begins a file on the reel of a pen.
@@ -37,7 +39,7 @@ fn begin_file(labels: &Labels, p: Pen, out: &mut [u8], lay: bool) -> Pen
         short: false,
     };
     if lay {
-        put_pair(out, p.at, b"HDR1", b"HDR2", labels, 1, 0);
+        put_in(out, p.at, &headers(labels, 1));
     }
     r
 }
@@ -64,7 +66,7 @@ fn put_end(labels: &Labels, x: Body, out: &mut [u8], lay: bool) -> Body
     };
     let r = Body { pen, end: x.end };
     if lay {
-        put_trailers(out, c.at, b"EOF1", b"EOF2", labels, c.section, c.count);
+        put_in(out, c.at, &file_end(labels, c.section, c.count));
     }
     r
 }

@@ -2,15 +2,12 @@
 // asks the layers below for each part.
 mod body; // body.rt: the records of a file
 mod file; // file.rt: a file with its labels
-mod item; // item.rt: labels, marks and ends of reels
-mod lay; // lay.rt: bytes into the lent buffer
 mod pack; // pack.rt: a record packed into blocks
 mod pen; // pen.rt: blocks and reels
 mod record; // record.rt: a record that stands in one piece
 mod set; // set.rt: all files
 mod source; // source.rt: where the next record stands
 mod split; // split.rt: a record that stands in several segments
-mod unit; // unit.rt: the numbers of a unit
 
 ghost use mathlib.Core.Path.{_≡_};
 ghost use Rattle.output.specs.Output.{Answers, AnswersAt};
@@ -24,18 +21,19 @@ use content::FileAt;
 use content::NextFile;
 use content::Walk;
 use content::first_file;
-use item::Labels;
-use item::NAME;
-use item::NAMES;
-use item::SET;
-use item::with_part;
 use label::set_of;
 use output::Written;
 use output::done;
 use output::refusal;
+use output::refused;
+use sections::Labels;
+use sections::NAME;
+use sections::NAMES;
+use sections::SET;
 use set::LABEL;
 use set::Place;
 use set::lay_set;
+use set::with_part;
 use sheet::reels_number;
 use sheet::sheet_number;
 use volume::check;
@@ -221,7 +219,7 @@ pub fn rewrite(image: &[u8], quota: u64, names: &[u8], out: &mut [u8]) -> Writte
 {
     let verdict = check(image);
     if verdict.number != 0 {
-        return Written { verdict, len: 0 };
+        return refused(verdict);
     }
     let n = reels_number(quota, names);
     if n != 0 {

@@ -5,19 +5,19 @@ ghost use Prim.Native.Nat.{_+_, _≤_};
 ghost use lib.ListN.{length};
 ghost use Rattle.writer.specs.code.Pass.{jobOf};
 ghost use Rattle.writer.specs.code.Packs.{entersOn, more, FlowsOn, Headable, Headed, Partable, Spelled, Turns, Packable, Packed};
-use crate::item::Labels;
-use crate::lay::WORD;
-use crate::lay::put_digits;
 use crate::pen::Pen;
+use crate::pen::WORD;
 use crate::pen::close;
 use crate::pen::next_block;
-use crate::unit::enters;
-use crate::unit::indicator;
-use crate::unit::smaller;
-use crate::unit::taken;
-use crate::unit::word_of;
 use base::put_in;
+use block::enters;
+use block::indicator;
+use block::put_word;
+use block::smaller;
+use block::taken;
+use block::word_of;
 use output::four_digits;
+use sections::Labels;
 
 // Where the packing of a record is: the pen; the bytes that are left of the record, and of its open unit; the place in the piece;
 // 1 where the record has a unit already; whether a unit is open, and whether there is more to be packed of the piece.
@@ -65,7 +65,7 @@ fn put_head(f: u8, b: usize, s: Flow, out: &mut [u8], lay: bool) -> Flow
 {
     let p = s.pen;
     let k = taken(f, b, p.used, s.left);
-    let w = word_of(f);
+    let w = word_of(f as u32);
     let pen = more(p, w);
     let r = Flow {
         pen,
@@ -79,7 +79,7 @@ fn put_head(f: u8, b: usize, s: Flow, out: &mut [u8], lay: bool) -> Flow
     if lay {
         let i = indicator(s.begun, k, s.left);
         let d = four_digits(k + w);
-        put_digits(out, p.at + WORD + p.used, f, i, &d);
+        put_word(out, p.at + WORD + p.used, f, i, d);
     }
     r
 }

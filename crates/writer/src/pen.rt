@@ -6,14 +6,17 @@ ghost use Prim.Native.Nat.{_≤_, _<_};
 ghost use lib.ListN.{length};
 ghost use Rattle.writer.specs.code.Pass.{jobOf};
 ghost use Rattle.writer.specs.code.Pens.{Ready, Closable, Closes, Changes, Opens, opened};
-use crate::item::CHANGE;
-use crate::item::Labels;
-use crate::item::NAME;
-use crate::item::NAMES;
-use crate::item::put_change;
-use crate::lay::WORD;
-use crate::lay::put_length;
 use base::part_of;
+use base::put_in;
+use image::put_length;
+use sections::CHANGE;
+use sections::Labels;
+use sections::NAME;
+use sections::NAMES;
+use sections::reel_change;
+
+// The bytes of a length word.
+pub(crate) const WORD: usize = 3;
 
 // Where the pass is: the place behind the last closed block, where the length of the open one stands; the bytes of the open
 // block; the blocks for which the reel has room; how many reels are begun; the section and its blocks; whether a block is open,
@@ -103,7 +106,8 @@ fn change(labels: &Labels, rooms: &[u64], p: Pen, out: &mut [u8], lay: bool) -> 
     };
     if lay {
         let name = part_of(labels, NAMES + NAME * next, NAME);
-        put_change(out, p.at, labels, p.section, p.count, name);
+        let between = reel_change(labels, p.section, p.count, name, p.section + 1);
+        put_in(out, p.at, &between);
     }
     r
 }

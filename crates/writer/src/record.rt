@@ -8,20 +8,20 @@ ghost use Rattle.block.specs.Unit.{wordOf};
 ghost use Rattle.writer.specs.code.Pass.{jobOf};
 ghost use Rattle.writer.specs.code.Pens.{mostOf};
 ghost use Rattle.writer.specs.code.Records.{GoesIn, GoesNext, Wholable, Wholed, Recordable, Recorded, Somewhere, QuickBlock};
-use crate::item::Labels;
-use crate::lay::WORD;
-use crate::lay::put_digits;
 use crate::pack::Flow;
 use crate::pack::enters_on;
 use crate::pack::more;
 use crate::pack::put_pieces;
 use crate::pen::Pen;
+use crate::pen::WORD;
 use crate::pen::close;
 use crate::pen::opened;
 use base::FIXED;
 use base::VARIABLE;
 use base::put_short;
+use block::put_word;
 use output::figures;
+use sections::Labels;
 
 // A block for a record, if there is one.
 pub struct Quick {
@@ -105,7 +105,7 @@ pub(crate) fn put_whole(
         let at = p.at + WORD + p.used;
         let end = from + n;
         let d = figures(w + n);
-        put_digits(out, at, f, 0, &d);
+        put_word(out, at, f, b'0', d);
         put_short(out, at + w, &bytes[from..end]);
     }
     r

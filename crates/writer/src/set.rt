@@ -4,32 +4,30 @@ ghost use mathlib.Core.Path.{_≡_};
 ghost use mathlib.Core.Bool.{true};
 ghost use Prim.Native.Nat.{_+_, _≤_, _<_};
 ghost use lib.ListN.{length, getD};
-ghost use Rattle.base.specs.Part.{part};
+ghost use Rattle.base.specs.Part.{part, putAt};
+ghost use Rattle.sections.specs.Section.{imageHead};
 ghost use Rattle.writer.specs.code.Pass.{inkAt};
-ghost use Rattle.writer.specs.code.Sets.{Countable, cursorAt, Enterable, entryAt, LabelsEntered, behindFile, taskOf, Closing, Closed, headOf, firstPen, Sheeted, setLaid, SetReady};
+ghost use Rattle.writer.specs.code.Sets.{Countable, cursorAt, Enterable, entryAt, LabelsEntered, behindFile, taskOf, Closing, Closed, firstPen, Sheeted, setLaid, SetReady};
 use crate::file::put_file;
-use crate::item::ENTRY;
-use crate::item::Labels;
-use crate::item::NAME;
-use crate::item::NAMES;
-use crate::item::REEL_END;
-use crate::item::SEQUENCE;
-use crate::item::put_head;
-use crate::item::put_reel_end;
-use crate::item::with_part;
 use crate::pen::Pen;
 use crate::source::Cursor;
-use crate::unit::wide;
 use base::part_of;
+use base::put_in;
 use content::FileAt;
 use content::NextFile;
 use content::file_behind;
+use sections::ENTRY;
+use sections::HEAD;
+use sections::Labels;
+use sections::NAME;
+use sections::NAMES;
+use sections::REEL_END;
+use sections::SEQUENCE;
+use sections::image_head;
+use sections::reel_end;
 
 // The bytes of a label.
 pub(crate) const LABEL: usize = 80;
-
-// The bytes of the head of an image and the volume label of its first reel.
-const HEAD: usize = 88;
 
 // A place among the files: how many are passed; of a sheet, the next length and the next byte; of an image, the next file; and
 // whether there is a next file to be laid.
@@ -42,6 +40,16 @@ pub struct Place {
 }
 
 // ---- one file
+
+// The label parts with s at a place.
+pub(crate) fn with_part(labels: Labels, at: usize, s: &[u8]) -> Labels
+    requires { ⌜ at + length (now s) ≤ 149 ⌝ }
+    ensures { λ r. ⌜ r ≡ putAt labels at (now (s .entry)) ⌝ }
+{
+    let mut made = labels;
+    put_in(&mut made, at, s);
+    made
+}
 
 // The cursor at the first record of the file at a place.
 fn cursor_at(counts: &[u64], lengths: &[u64], image: bool, g: Place) -> Cursor
@@ -62,7 +70,7 @@ fn cursor_at(counts: &[u64], lengths: &[u64], image: bool, g: Place) -> Cursor
         };
     }
     let i = g.nth;
-    let count = wide(counts[i]);
+    let count = counts[i] as usize;
     Cursor {
         at: g.byte,
         left: count,
@@ -161,7 +169,7 @@ fn end_set(p: Pen, out: &mut [u8], lay: bool) -> Pen
         short: false,
     };
     if lay {
-        put_reel_end(out, p.at);
+        put_in(out, p.at, &reel_end());
     }
     r
 }
@@ -171,7 +179,7 @@ fn begin_set(labels: Labels, rooms: &[u64], out: &mut [u8], lay: bool) -> Pen
     requires { ⌜ 1 ≤ length (now rooms) ⌝ }
     requires { ⌜ (lay ≡ true → 88 ≤ length (now out)) ⌝ }
     ensures { λ r. ⌜ r ≡ firstPen (getD (now (rooms .entry)) 0 0) ⌝ }
-    ensures { λ r. ⌜ now (out .exit) ≡ inkAt lay (now (out .entry)) 0 (headOf (part 53 6 labels)) ⌝ }
+    ensures { λ r. ⌜ now (out .exit) ≡ inkAt lay (now (out .entry)) 0 (imageHead (part 53 6 labels)) ⌝ }
 {
     let r = Pen {
         at: HEAD,
@@ -184,7 +192,7 @@ fn begin_set(labels: Labels, rooms: &[u64], out: &mut [u8], lay: bool) -> Pen
         short: false,
     };
     if lay {
-        put_head(out, part_of(&labels, NAMES, NAME));
+        put_in(out, 0, &image_head(part_of(&labels, NAMES, NAME)));
     }
     r
 }

@@ -3,7 +3,6 @@
 ghost use mathlib.Core.Path.{_≡_};
 ghost use mathlib.Core.Bool.{true};
 ghost use Rattle.writer.specs.code.Source.{walkOf, GoodCursor, stopOf, endAt, nothing, Finds};
-use crate::unit::wide;
 use block::word_of;
 use content::Measured;
 use content::Walk;
@@ -126,7 +125,7 @@ pub(crate) fn next(lengths: &[u64], bytes: &[u8], c: Cursor) -> Found
         return nothing();
     }
     let i = c.stop - left;
-    let n = wide(lengths[i]);
+    let n = lengths[i] as usize;
     Found {
         from: c.at,
         len: n,

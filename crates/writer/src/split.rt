@@ -5,7 +5,6 @@ ghost use Rattle.writer.specs.code.Pass.{jobOf};
 ghost use Rattle.writer.specs.code.Records.{Splittable, Recorded};
 ghost use Rattle.writer.specs.code.Source.{splitBytes, SplitHere};
 ghost use Rattle.writer.specs.code.Segments.{behindOf, HasRest, Segmented};
-use crate::item::Labels;
 use crate::pack::Flow;
 use crate::pack::put_pieces;
 use crate::pen::Pen;
@@ -15,6 +14,7 @@ use content::Taken;
 use content::Walk;
 use content::first_segment;
 use content::next_segment;
+use sections::Labels;
 
 // A segment of a record: where it stands, and its length; the place behind it, and what is left of its block there.
 pub struct Segment {

@@ -33,7 +33,8 @@ use Rattle.volume.specs.Run.{ended, further, next, runs}
 use Rattle.volume.specs.Meaning.{File, joined, Collected, fieldsFrom, collect, setFrom}
 use Rattle.reading.specs.Legal.{formatFrom, blockLengthFrom, recordLengthFrom, isSound, legalName, freshNames, legalFile, legalFiles, legalEntry, legalRecords}
 use Rattle.writing.specs.Pack.{blocksOf}
-use Rattle.writing.specs.Lay.{Reel, Laid, laid, short, put, headers, fileEnd, volumeEnd, rest, layFiles}
+use Rattle.writing.specs.Lay.{Reel, Laid, laid, short, put, rest, layFiles}
+use Rattle.sections.specs.Section.{headers, fileEnd, volumeEnd}
 use Rattle.writing.proofs.Units.{both}
 use Rattle.writing.proofs.Packed.{Block, Blocks, held, flat, file-blocks, file-records}
 use Rattle.writing.proofs.Labels.{GoodFirst, GoodSecond, set-back}

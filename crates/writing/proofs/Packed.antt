@@ -24,7 +24,8 @@ use Rattle.block.proofs.Units.{unit-stands}
 use Rattle.block.proofs.Cuts.{cut-end}
 use Rattle.volume.specs.Meaning.{onFirst, joined}
 use Rattle.reading.specs.Legal.{legalRecord, legalRecords}
-use Rattle.writing.specs.Pack.{enters, taken, indicatorOf, Left, finished, going, startOf, unitIn, fill, after, weights, weight, blocksF, blocksLeft, blocksOf}
+use Rattle.writing.specs.Pack.{Left, finished, going, startOf, unitIn, fill, after, weights, weight, blocksF, blocksLeft, blocksOf}
+use Rattle.block.specs.Room.{enters, taken, indicatorOf}
 use Rattle.writing.specs.code.Room.{RoomEach, RoomEachLeft}
 use Rattle.writing.proofs.Packing.{by-test, Entered, entered, segment-enters, whole-enters, segmentIn, segmentsFrom, UnitSaid, Ways, by-ways, after-lighter}
 use Rattle.block.proofs.Wholes.{word-fixed, word-variable}

@@ -13,7 +13,8 @@ use Rattle.base.proofs.Ifs.{if-true, if-false}
 use Rattle.block.specs.Cut.{Segment, segmentOf}
 use Rattle.block.specs.Unit.{wordOf}
 use Rattle.block.proofs.Wholes.{word-segmented}
-use Rattle.writing.specs.Pack.{enters, taken, indicatorOf, Left, finished, going, unitIn, fill, after, weights, weight, blocksF, blocksLeft}
+use Rattle.writing.specs.Pack.{Left, finished, going, unitIn, fill, after, weights, weight, blocksF, blocksLeft}
+use Rattle.block.specs.Room.{enters, taken, indicatorOf}
 use Rattle.writing.specs.code.Room.{RoomEach, RoomEachLeft}
 
 -- a proof by the two values of a test

@@ -22,7 +22,8 @@ use Rattle.block.specs.Cut.{segmentOf, onto, cut}
 use Rattle.block.specs.declared.Unit.the-variants.{Of}
 use Rattle.block.proofs.Cuts.{cut-unit}
 use Rattle.reading.specs.Legal.{legalRecord}
-use Rattle.writing.specs.Pack.{enters, taken, indicatorOf, controlWord, unitIn}
+use Rattle.writing.specs.Pack.{controlWord, unitIn}
+use Rattle.block.specs.Room.{enters, taken, indicatorOf}
 use Rattle.writing.proofs.Packing.{by-test, Entered, entered, taken-whole, segmentIn}
 
 -- ---- a unit of each format, followed by any bytes

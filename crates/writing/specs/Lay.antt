@@ -1,13 +1,13 @@
--- Laying a meaning down on reels as items. Document 01: the writer makes no optional labels. When a block must be opened and the
--- reel has no room for it, the section ends with EOV and the next named reel is begun. The room of a reel counts its data blocks,
--- over all its files; a quota is the same room for every reel.
+-- Laying a meaning down on reels as items. Document 01: when a block must be opened and the reel has no room for it, the section
+-- ends with EOV and the next named reel is begun. The room of a reel counts its data blocks, over all its files; a quota is the
+-- same room for every reel.
 --
 -- One pass with what follows as a continuation: `short` where a reel is needed and none is left (number 12).
 use mathlib.Core.List.{List, [], _∷_, _++_}
 use Prim.Native.Nat.{ℕ, zero, suc, pred}
 use Rattle.image.specs.Item.{Item, block, mark, reelEnd}
-use Rattle.label.specs.Name.{HDR1, HDR2, EOV1, EOV2, EOF1, EOF2}
-use Rattle.label.specs.Made.{madeVolume, madeFirst, madeSecond}
+use Rattle.label.specs.Made.{madeVolume}
+use Rattle.sections.specs.Section.{headers, fileEnd, volumeEnd}
 use Rattle.volume.specs.Meaning.{File, Meaning}
 use Rattle.reading.specs.Legal.{Sheet, formatFrom, blockLengthFrom}
 use Rattle.writing.specs.Pack.{blocksOf}
@@ -30,22 +30,6 @@ pub data Laid : Type 0 where
 unfoldable pub put : List Item → Laid → Laid
 put xs (laid ys) = laid (xs ++ ys)
 put xs short = short
-
--- ---- the labels of a section
-
--- HDR1, HDR2 and a mark
-unfoldable pub headers : List ℕ → List ℕ → ℕ → ℕ → List Item
-headers set e section sequence = block (madeFirst HDR1 set e section sequence 0) ∷ block (madeSecond HDR2 e) ∷ mark ∷ []
-
--- a mark, EOF1, EOF2 and a mark behind the last section of a file with its block count
-unfoldable pub fileEnd : List ℕ → List ℕ → ℕ → ℕ → ℕ → List Item
-fileEnd set e section sequence count =
-    mark ∷ block (madeFirst EOF1 set e section sequence count) ∷ block (madeSecond EOF2 e) ∷ mark ∷ []
-
--- a mark, EOV1, EOV2, two marks and the end of the reel behind a section that goes on
-unfoldable pub volumeEnd : List ℕ → List ℕ → ℕ → ℕ → ℕ → List Item
-volumeEnd set e section sequence count =
-    mark ∷ block (madeFirst EOV1 set e section sequence count) ∷ block (madeSecond EOV2 e) ∷ mark ∷ mark ∷ reelEnd ∷ []
 
 -- ---- the blocks of a file, from a section with `count` blocks on, on a reel with room for `room` more
 

@@ -1,33 +1,18 @@
--- Packing the records of a file into data blocks. Document 01, "Meaning, and the one way to write it": offset 00, no padding. An
--- F or D unit goes into the open block if it fits, else into a new one. In S, with r bytes left: a record without bytes needs r
--- of 5 or more, any other 6 or more, else a new block is opened; a segment takes the smallest of what remains, r less 5, and
--- 9,994. An unfinished record closes its block.
+-- Packing the records of a file into data blocks. Document 01, "Meaning, and the one way to write it": offset 00, no padding. What
+-- does not enter the open block goes into a new one (block/specs/Room.antt); an unfinished record closes its block.
 --
 -- The three formats differ in three numbers: the bytes of a control word, whether a unit enters the open block, and how many
 -- bytes it takes.
 -- `fill` is the open block from here on, `after` is what is left behind it; `blocks-going` (proofs/Packing.antt) is the equation
 -- of `blocksLeft`.
-use mathlib.Core.Bool.{Bool}
 use mathlib.Core.List.{List, [], _∷_, _++_}
-use Prim.Native.Nat.{ℕ, zero, suc, _+_, _-_, min}
-use lib.Dec.{eqb, leb}
+use Prim.Native.Nat.{ℕ, zero, suc, _+_}
+use lib.Dec.{eqb}
 use lib.ListN.{length, take, drop}
 use Rattle.base.specs.If.{ifB}
-use Rattle.base.specs.Format.{F, D, S}
+use Rattle.base.specs.Format.{F, D}
 use Rattle.base.specs.Digits.{digits}
-use Rattle.block.specs.Unit.{wordOf}
-
--- whether a record of which n bytes remain enters a block of at most b bytes with u of them used
-unfoldable pub enters : ℕ → ℕ → ℕ → ℕ → Bool
-enters f b u n = ifB (eqb f S) (leb (u + 5 + min 1 n) b) (leb (u + wordOf f + n) b)
-
--- how many of its bytes go into the block
-unfoldable pub taken : ℕ → ℕ → ℕ → ℕ → ℕ
-taken f b u n = ifB (eqb f S) (min n (min (b - u - 5) 9994)) n
-
--- the indicator of a segment of k bytes of n that remain; t is 0 at the beginning of the record, else 1
-unfoldable pub indicatorOf : ℕ → ℕ → ℕ → ℕ
-indicatorOf t k n = ifB (eqb k n) (ifB (eqb t 0) 0 3) (ifB (eqb t 0) 1 2)
+use Rattle.block.specs.Room.{enters, taken, indicatorOf}
 
 -- the control word of a unit of k bytes with indicator i
 unfoldable pub controlWord : ℕ → ℕ → ℕ → List ℕ

@@ -1,19 +1,21 @@
-use borrow.Author.Needs.{needs}
 use Rattle.writer.proofs.Answering.{rewrites}
 use Rattle.writer.proofs.rewrite.Statement.{statement}
 use Rattle.writer.proofs.rewrite.Tie as tie
 
 check-requires : tie.Need-check-requires
-check-requires c κs = search needs
+check-requires c κs = search rewrites
+
+refused-requires : tie.Need-refused-requires
+refused-requires c κs = search rewrites
 
 returns : tie.Need-returns
 returns c = search rewrites
 
 reels-number-requires : tie.Need-reels-number-requires
-reels-number-requires c κs = search needs
+reels-number-requires c κs = search rewrites
 
 refusal-requires : tie.Need-refusal-requires
-refusal-requires c κs = search needs
+refusal-requires c κs = search rewrites
 
 returns-2 : tie.Need-returns-2
 returns-2 c = search rewrites
@@ -32,6 +34,7 @@ rewrite-spec =
     tie.close
     (tie.spec
     check-requires
+    refused-requires
     returns
     reels-number-requires
     refusal-requires

@@ -4,7 +4,8 @@ use mathlib.Core.Bool.{Bool, true, false}
 use mathlib.Core.List.{List}
 use Prim.Native.Nat.{ℕ, _+_, _≤_}
 use lib.ListN.{length}
-use Rattle.writing.specs.Pack.{finished, startOf, enters}
+use Rattle.writing.specs.Pack.{finished, startOf}
+use Rattle.block.specs.Room.{enters}
 use Rattle.writing.specs.code.Room.{RoomEach}
 use Rattle.writing.specs.Lay.{Sequel}
 use Rattle.writer.specs.declared.pen.Pen.{Pen}

@@ -8,7 +8,8 @@ use Rattle.image.specs.Item.{encode}
 use Rattle.reading.specs.Legal.{formatFrom, blockLengthFrom}
 use Rattle.writing.specs.Pack.{finished, blocksOf}
 use Rattle.writing.specs.code.Room.{RoomEach}
-use Rattle.writing.specs.Lay.{Reel, Laid, put, headers, Sequel, rest}
+use Rattle.writing.specs.Lay.{Reel, Laid, put, Sequel, rest}
+use Rattle.sections.specs.Section.{headers}
 use Rattle.writer.specs.declared.pen.Pen.{Pen}
 use Rattle.writer.specs.declared.source.Cursor.{Cursor}
 use Rattle.writer.specs.declared.body.Body.{Body}

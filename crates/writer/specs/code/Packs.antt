@@ -8,7 +8,8 @@ use lib.ListN.{length, drop}
 use Rattle.base.specs.If.{ifB}
 use Rattle.base.specs.Part.{part}
 use Rattle.block.specs.Unit.{wordOf}
-use Rattle.writing.specs.Pack.{going, enters, taken, indicatorOf, controlWord}
+use Rattle.writing.specs.Pack.{going, controlWord}
+use Rattle.block.specs.Room.{enters, taken, indicatorOf}
 use Rattle.writing.specs.code.Room.{RoomEach}
 use Rattle.writing.specs.Lay.{Sequel}
 use Rattle.writer.specs.declared.pen.Pen.{Pen}

@@ -9,9 +9,9 @@ use lib.Dec.{eqb}
 use lib.ListN.{length, take, drop, getD}
 use Rattle.base.specs.If.{ifB}
 use Rattle.base.specs.Part.{part, putAt}
-use Rattle.image.specs.Item.{Item, block, mark, encode, three}
+use Rattle.image.specs.Item.{encode, three}
 use Rattle.image.specs.Framing.{head}
-use Rattle.label.specs.Made.{madeFirst, madeSecond}
+use Rattle.sections.specs.Section.{entryIn, sequenceIn, setIn}
 use Rattle.sheet.specs.Flat.{inParts}
 use Rattle.writing.specs.Pack.{Left, finished, going, startOf, fill, after, blocksLeft}
 use Rattle.writing.specs.Lay.{Reel, Laid, laid, short, Sequel, rest}
@@ -51,34 +51,14 @@ pub record Job : Type 0 where
 abbrev pub job : List ℕ → List ℕ → ℕ → List ℕ → List ℕ → Job
 job set e sequence rooms names = record { set = set; entry = e; sequence = sequence; rooms = rooms; names = names }
 
--- the label parts, one behind the other: the file's entry, its number, the set entry, and the names of n reels
-abbrev pub entryIn : List ℕ → List ℕ
-entryIn labels = part 0 46 labels
-
-abbrev pub sequenceIn : List ℕ → ℕ
-sequenceIn labels = getD labels 46 0
-
-abbrev pub setIn : List ℕ → List ℕ
-setIn labels = part 47 6 labels
-
+-- the names of n reels, behind the other label parts
 abbrev pub namesIn : ℕ → List ℕ → List ℕ
 namesIn n labels = part 53 (6 * n) labels
 
 abbrev pub jobOf : List ℕ → List ℕ → Job
 jobOf labels rooms = job (setIn labels) (entryIn labels) (sequenceIn labels) rooms (namesIn (length rooms) labels)
 
--- a file's two labels with these names, and the mark behind them
-abbrev pub pairOf : List ℕ → List ℕ → List ℕ → ℕ → ℕ → List Item
-pairOf first second labels section count =
-    block (madeFirst first (setIn labels) (entryIn labels) section (sequenceIn labels) count) ∷
-    block (madeSecond second (entryIn labels)) ∷ mark ∷ []
-
 -- ---- the buffer
-
--- buffer o with bs at a place is q
-pub record Puts (o : List ℕ) (at : ℕ) (bs q : List ℕ) : Type 0 where
-  pub is : q ≡ putAt o at bs
-  pub kept : length q ≡ length o
 
 -- o with bs at a place, where the pass lays; else o
 unfoldable pub inkAt : Bool → List ℕ → ℕ → List ℕ → List ℕ

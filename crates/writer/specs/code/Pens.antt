@@ -15,10 +15,6 @@ use Rattle.writer.specs.code.Pass.{Job, behind, EndsWithin, Sound, ends}
 unfoldable pub mostOf : ℕ → ℕ
 mostOf f = ifB (eqb f F) 99999 (ifB (eqb f D) 9995 9994)
 
--- a control word with indicator i and digits d
-unfoldable pub wordWith : ℕ → ℕ → List ℕ → List ℕ
-wordWith f i d = ifB (eqb f F) [] (ifB (eqb f D) d ((48 + i) ∷ d))
-
 -- a block y is to be begun, and there is room in the buffer for it and all that follows
 pub record RoomForBlock (j : Job) (p : Pen) (o : List ℕ) : Type 0 where
   pub first : List ℕ

@@ -6,7 +6,8 @@ use Prim.Native.Nat.{ℕ, _+_, _≤_}
 use lib.ListN.{length}
 use Rattle.base.specs.Part.{part}
 use Rattle.block.specs.Unit.{wordOf}
-use Rattle.writing.specs.Pack.{going, startOf, enters, taken, controlWord}
+use Rattle.writing.specs.Pack.{going, startOf, controlWord}
+use Rattle.block.specs.Room.{enters, taken}
 use Rattle.writing.specs.code.Room.{RoomEach}
 use Rattle.writing.specs.Lay.{Sequel}
 use Rattle.writer.specs.declared.pen.Pen.{Pen}

@@ -9,9 +9,7 @@ use lib.ListN.{length, drop, getD}
 use Rattle.base.specs.If.{ifB}
 use Rattle.base.specs.Part.{part}
 use Rattle.base.specs.Sum.{sum}
-use Rattle.image.specs.Item.{block, mark, reelEnd, encode}
-use Rattle.image.specs.Framing.{head}
-use Rattle.label.specs.Made.{madeVolume}
+use Rattle.image.specs.Item.{mark, reelEnd}
 use Rattle.volume.specs.Meaning.{File, Meaning, fieldsFrom, content}
 use Rattle.reading.specs.Legal.{Sheet, legalFiles, legalNames, legalQuota}
 use Rattle.sheet.specs.Flat.{inParts, filesFrom}
@@ -22,10 +20,11 @@ use Rattle.content.specs.declared.FileAt.{FileAt}
 use Rattle.content.specs.declared.NextFile.{NextFile}
 use Rattle.content.specs.declared.NextFile.the-variants.{At, Nowhere}
 use Rattle.writing.specs.Lay.{Laid, laid, layFiles, layOn}
+use Rattle.sections.specs.Section.{entryIn, sequenceIn, setIn}
 use Rattle.writer.specs.declared.pen.Pen.{Pen}
 use Rattle.writer.specs.declared.source.Cursor.{Cursor}
 use Rattle.writer.specs.declared.set.Place.{Place}
-use Rattle.writer.specs.code.Pass.{entryIn, sequenceIn, setIn, namesIn, reelsAt, Reels, laidFrom, imageFrom, EndsWithin, BetweenFiles}
+use Rattle.writer.specs.code.Pass.{namesIn, reelsAt, Reels, laidFrom, imageFrom, EndsWithin, BetweenFiles}
 
 -- where files come from: the entries and counts of a sheet, or an image
 pub data Origin : Type 0 where
@@ -192,10 +191,6 @@ pub record Closed (lay : Bool) (p : Pen) (o q : List ℕ) (r : Pen) : Type 0 whe
 -- the pen behind the head of an image and the volume label of the first reel
 abbrev pub firstPen : ℕ → Pen
 firstPen room = record { at = 88; used = 0; room = room; next = 1; section = 1; count = 0; on = false; short = false }
-
--- what the image of a set begins with
-unfoldable pub headOf : List ℕ → List ℕ
-headOf name = head ++ encode (block (madeVolume name) ∷ [])
 
 -- the pass from the very beginning on: l is laid at the front of the buffer; or a reel is lacking
 pub record Sheeted (lay : Bool) (l : Laid) (o q : List ℕ) (r : Pen) : Type 0 where

@@ -4,7 +4,8 @@ use mathlib.Core.Bool.{true}
 use mathlib.Core.List.{List, [], _∷_}
 use Prim.Native.Nat.{ℕ}
 use lib.ListN.{length}
-use Rattle.writing.specs.Pack.{enters, Left, finished, going}
+use Rattle.writing.specs.Pack.{Left, finished, going}
+use Rattle.block.specs.Room.{enters}
 
 -- every record has room in an empty block
 abbrev pub RoomEach : ℕ → ℕ → List (List ℕ) → Type 0

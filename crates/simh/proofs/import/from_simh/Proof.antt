@@ -1,9 +1,13 @@
+use borrow.Author.Needs.{needs}
 use Rattle.simh.proofs.Answering.{froms}
 use Rattle.simh.proofs.import.from_simh.Statement.{statement}
 use Rattle.simh.proofs.import.from_simh.Tie as tie
 
 check-requires : tie.Need-check-requires
 check-requires c κs = search froms
+
+refused-requires : tie.Need-refused-requires
+refused-requires c κs = search needs
 
 returns : tie.Need-returns
 returns c = search froms
@@ -46,6 +50,7 @@ from-simh-spec =
     tie.close
     (tie.spec
     check-requires
+    refused-requires
     returns
     refusal-requires
     returns-2

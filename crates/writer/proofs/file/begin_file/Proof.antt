@@ -1,19 +1,18 @@
-use borrow.Author.Needs.{needs}
 use Rattle.writer.proofs.Files.{beginning}
 use Rattle.writer.proofs.file.begin_file.Statement.{statement}
 use Rattle.writer.proofs.file.begin_file.Tie as tie
 
-add-t8 : tie.Need-add-t8
-add-t8 c = search needs
+add-t6 : tie.Need-add-t6
+add-t6 c = search beginning
 
-slice-aggregate-put-pair : tie.Need-slice-aggregate-put-pair
-slice-aggregate-put-pair c = search needs
+headers-requires : tie.Need-headers-requires
+headers-requires c κs = search beginning
 
-slice-aggregate-put-pair-2 : tie.Need-slice-aggregate-put-pair-2
-slice-aggregate-put-pair-2 c = search needs
+slice-aggregate-put-in : tie.Need-slice-aggregate-put-in
+slice-aggregate-put-in c = search beginning
 
-put-pair-requires : tie.Need-put-pair-requires
-put-pair-requires c κs = search beginning
+put-in-requires : tie.Need-put-in-requires
+put-in-requires c κs = search beginning
 
 same-length : tie.Need-same-length
 same-length c = search beginning
@@ -28,10 +27,10 @@ pub begin-file-spec : {M : Type 1} → statement M
 begin-file-spec =
     tie.close
     (tie.spec
-    add-t8
-    slice-aggregate-put-pair
-    slice-aggregate-put-pair-2
-    put-pair-requires
+    add-t6
+    headers-requires
+    slice-aggregate-put-in
+    put-in-requires
     same-length
     returns
     returns-2)

@@ -1,41 +1,36 @@
-use borrow.Author.Needs.{needs}
-use Rattle.writer.proofs.Files.{tails, tail-short}
+use Rattle.writer.proofs.Files.{tails}
 use Rattle.writer.proofs.file.put_end.Statement.{statement}
 use Rattle.writer.proofs.file.put_end.Tie as tie
 
 returns : tie.Need-returns
-returns c =
-    tail-short _ _ _ _ _ _ (c .before .before .before .pre) (c .if1 .taken)
+returns c = search tails
 
 close-requires : tie.Need-close-requires
 close-requires c κs = search tails
 
-add-t14 : tie.Need-add-t14
-add-t14 c = search tails
+add-t12 : tie.Need-add-t12
+add-t12 c = search tails
 
-slice-aggregate-put-trailers : tie.Need-slice-aggregate-put-trailers
-slice-aggregate-put-trailers c = search needs
+file-end-requires : tie.Need-file-end-requires
+file-end-requires c κs = search tails
 
-slice-aggregate-put-trailers-2 : tie.Need-slice-aggregate-put-trailers-2
-slice-aggregate-put-trailers-2 c = search needs
+slice-aggregate-put-in : tie.Need-slice-aggregate-put-in
+slice-aggregate-put-in c = search tails
 
-put-trailers-requires : tie.Need-put-trailers-requires
-put-trailers-requires c κs = search tails
+put-in-requires : tie.Need-put-in-requires
+put-in-requires c κs = search tails
 
 same-length : tie.Need-same-length
-same-length c =
-    search tails
+same-length c = search tails
 
 returns-2 : tie.Need-returns-2
-returns-2 c =
-    search tails
+returns-2 c = search tails
 
 same-length-2 : tie.Need-same-length-2
 same-length-2 c = search tails
 
 returns-3 : tie.Need-returns-3
-returns-3 c =
-    search tails
+returns-3 c = search tails
 
 pub put-end-spec : {M : Type 1} → statement M
 put-end-spec =
@@ -43,10 +38,10 @@ put-end-spec =
     (tie.spec
     returns
     close-requires
-    add-t14
-    slice-aggregate-put-trailers
-    slice-aggregate-put-trailers-2
-    put-trailers-requires
+    add-t12
+    file-end-requires
+    slice-aggregate-put-in
+    put-in-requires
     same-length
     returns-2
     same-length-2

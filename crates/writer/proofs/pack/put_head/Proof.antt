@@ -21,14 +21,14 @@ add-four-digits c = search heading
 four-digits-requires : tie.Need-four-digits-requires
 four-digits-requires c κs = search needs
 
-add-put-digits : tie.Need-add-put-digits
-add-put-digits c = search heading
+add-put-word : tie.Need-add-put-word
+add-put-word c = search heading
 
-add-put-digits-2 : tie.Need-add-put-digits-2
-add-put-digits-2 c = search heading
+add-put-word-2 : tie.Need-add-put-word-2
+add-put-word-2 c = search heading
 
-put-digits-requires : tie.Need-put-digits-requires
-put-digits-requires c κs = search heading
+put-word-requires : tie.Need-put-word-requires
+put-word-requires c κs = search needs
 
 same-length : tie.Need-same-length
 same-length c = search heading
@@ -49,9 +49,9 @@ put-head-spec =
     indicator-requires
     add-four-digits
     four-digits-requires
-    add-put-digits
-    add-put-digits-2
-    put-digits-requires
+    add-put-word
+    add-put-word-2
+    put-word-requires
     same-length
     returns
     returns-2)

@@ -1,13 +1,12 @@
-use borrow.Author.Needs.{needs}
 use Rattle.writer.proofs.Pens.{closing}
 use Rattle.writer.proofs.pen.close.Statement.{statement}
 use Rattle.writer.proofs.pen.close.Tie as tie
 
 add-t6 : tie.Need-add-t6
-add-t6 c = search needs
+add-t6 c = search closing
 
 add-t7 : tie.Need-add-t7
-add-t7 c = search needs
+add-t7 c = search closing
 
 put-length-requires : tie.Need-put-length-requires
 put-length-requires c κs = search closing

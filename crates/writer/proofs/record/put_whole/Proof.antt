@@ -24,8 +24,8 @@ add-figures c = search wholes
 figures-requires : tie.Need-figures-requires
 figures-requires c κs = search needs
 
-put-digits-requires : tie.Need-put-digits-requires
-put-digits-requires c κs = search wholes
+put-word-requires : tie.Need-put-word-requires
+put-word-requires c κs = search needs
 
 add-put-short : tie.Need-add-put-short
 add-put-short c = search wholes
@@ -62,7 +62,7 @@ put-whole-spec =
     add-end
     add-figures
     figures-requires
-    put-digits-requires
+    put-word-requires
     add-put-short
     sub-put-short
     part-put-short-start

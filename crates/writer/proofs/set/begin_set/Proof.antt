@@ -1,19 +1,24 @@
-use borrow.Author.Needs.{needs}
 use Rattle.writer.proofs.Filing.{setBegins}
 use Rattle.writer.proofs.set.begin_set.Statement.{statement}
 use Rattle.writer.proofs.set.begin_set.Tie as tie
 
 shared-slice-read-t8 : tie.Need-shared-slice-read-t8
-shared-slice-read-t8 c = search needs
+shared-slice-read-t8 c = search setBegins
 
 slice-aggregate-part-of : tie.Need-slice-aggregate-part-of
-slice-aggregate-part-of c = search needs
+slice-aggregate-part-of c = search setBegins
 
 part-of-requires : tie.Need-part-of-requires
-part-of-requires c κs = search needs
+part-of-requires c κs = search setBegins
 
-put-head-requires : tie.Need-put-head-requires
-put-head-requires c κs = search setBegins
+image-head-requires : tie.Need-image-head-requires
+image-head-requires c κs = search setBegins
+
+slice-aggregate-put-in : tie.Need-slice-aggregate-put-in
+slice-aggregate-put-in c = search setBegins
+
+put-in-requires : tie.Need-put-in-requires
+put-in-requires c κs = search setBegins
 
 same-length : tie.Need-same-length
 same-length c = search setBegins
@@ -31,7 +36,9 @@ begin-set-spec =
     shared-slice-read-t8
     slice-aggregate-part-of
     part-of-requires
-    put-head-requires
+    image-head-requires
+    slice-aggregate-put-in
+    put-in-requires
     same-length
     returns
     returns-2)

@@ -8,8 +8,14 @@ returns c = search closings
 add-t6 : tie.Need-add-t6
 add-t6 c = search closings
 
-put-reel-end-requires : tie.Need-put-reel-end-requires
-put-reel-end-requires c κs = search closings
+reel-end-requires : tie.Need-reel-end-requires
+reel-end-requires c κs = search closings
+
+slice-aggregate-put-in : tie.Need-slice-aggregate-put-in
+slice-aggregate-put-in c = search closings
+
+put-in-requires : tie.Need-put-in-requires
+put-in-requires c κs = search closings
 
 same-length : tie.Need-same-length
 same-length c = search closings
@@ -22,4 +28,13 @@ returns-3 c = search closings
 
 pub end-set-spec : {M : Type 1} → statement M
 end-set-spec =
-    tie.close (tie.spec returns add-t6 put-reel-end-requires same-length returns-2 returns-3)
+    tie.close
+    (tie.spec
+    returns
+    add-t6
+    reel-end-requires
+    slice-aggregate-put-in
+    put-in-requires
+    same-length
+    returns-2
+    returns-3)

@@ -1,4 +1,3 @@
-use borrow.Author.Needs.{needs}
 use Rattle.writer.proofs.Sources.{listed}
 use Rattle.writer.proofs.source.next.Statement.{statement}
 use Rattle.writer.proofs.source.next.Tie as tie
@@ -10,7 +9,7 @@ returns : tie.Need-returns
 returns c = search listed
 
 nothing-requires : tie.Need-nothing-requires
-nothing-requires c κs = search needs
+nothing-requires c κs = search listed
 
 returns-2 : tie.Need-returns-2
 returns-2 c = search listed
@@ -18,20 +17,17 @@ returns-2 c = search listed
 sub-i : tie.Need-sub-i
 sub-i c = search listed
 
-mul-wide : tie.Need-mul-wide
-mul-wide c = search listed
+mul-n : tie.Need-mul-n
+mul-n c = search listed
 
-shared-slice-read-wide : tie.Need-shared-slice-read-wide
-shared-slice-read-wide c = search listed
-
-wide-requires : tie.Need-wide-requires
-wide-requires c κs = search needs
+shared-slice-read-n : tie.Need-shared-slice-read-n
+shared-slice-read-n c = search listed
 
 add-t8 : tie.Need-add-t8
 add-t8 c = search listed
 
 sub-t11 : tie.Need-sub-t11
-sub-t11 c = search needs
+sub-t11 c = search listed
 
 returns-3 : tie.Need-returns-3
 returns-3 c = search listed
@@ -45,9 +41,8 @@ next-spec =
     nothing-requires
     returns-2
     sub-i
-    mul-wide
-    shared-slice-read-wide
-    wide-requires
+    mul-n
+    shared-slice-read-n
     add-t8
     sub-t11
     returns-3)
