@@ -211,6 +211,10 @@ pub struct Records<'a> {
     joining: bool,
     /// Room for the next record that must be joined.
     join: Vec<u8>,
+    /// As much room again behind that of the first joined record, and never used. A record's room that is
+    /// given back before it stays by itself, and the next record gets it as it is; else the allocator would
+    /// make one with what is free behind it, and cut it off again.
+    fence: Vec<u8>,
 }
 
 /// How many records a call of the library finds at most.
@@ -251,19 +255,15 @@ impl<'a> Records<'a> {
     /// The records of a walk that has so many before it.
     pub(crate) fn new(image: &'a [u8], walk: Walk, left: OnceLock<u64>) -> Records<'a> {
         let row = Row { starts: [0; ROW], lens: [0; ROW], next: 0, end: 0 };
-        Records { image, row, walk, left, joining: false, join: Vec::new() }
+        Records { image, row, walk, left, joining: false, join: Vec::new(), fence: Vec::new() }
     }
 
-    /// The next record where the row has none: the first of a new row, or one that is joined.
+    /// The next record where the row has none and the last was not joined: the first of a new row, or one
+    /// that is joined.
     #[inline(never)]
     fn further(&mut self) -> Option<Cow<'a, [u8]>> {
-        if !self.joining {
-            self.fill();
-            if let Some(record) = self.row.next(self.image) {
-                return Some(record);
-            }
-        }
-        self.step()
+        self.fill();
+        self.row.next(self.image).or_else(|| self.step())
     }
 
     /// A new row.
@@ -274,11 +274,12 @@ impl<'a> Records<'a> {
     }
 
     /// A single record, joined where it has several segments.
+    #[inline]
     fn step(&mut self) -> Option<Cow<'a, [u8]>> {
-        let mut join = mem::take(&mut self.join);
-        if join.capacity() == 0 {
-            join = Vec::with_capacity(self.walk.size as usize);
-        }
+        let mut join = match self.join.capacity() {
+            0 => Vec::with_capacity(self.walk.size as usize),
+            _ => mem::take(&mut self.join),
+        };
         // SAFETY: the image is lent to read and the buffer to write for the whole call; they can't
         // overlap, and nothing of them is kept. No byte of the buffer is read.
         let step = unsafe {
@@ -297,13 +298,22 @@ impl<'a> Records<'a> {
         }
         // SAFETY: the record's bytes were joined in the front of the buffer.
         unsafe { join.set_len(step.len as usize) };
+        if self.fence.capacity() == 0 {
+            self.set_fence();
+        }
         join.shrink_to_fit();
         Some(Cow::Owned(join))
     }
 
-    /// Moves the walk on over so many records.
+    /// Asks for the fence, while the first joined record has its room.
+    #[cold]
+    fn set_fence(&mut self) {
+        self.fence = Vec::with_capacity(self.walk.size as usize);
+    }
+
+    /// Moves the walk on over so many records. Its other numbers are the file's, and stay.
     fn pass(&mut self, records: u64, walk: Walk) {
-        self.walk = walk;
+        (self.walk.at, self.walk.left) = (walk.at, walk.left);
         if let Some(left) = self.left.get_mut() {
             *left -= records;
         }
@@ -315,7 +325,11 @@ impl<'a> Iterator for Records<'a> {
 
     #[inline]
     fn next(&mut self) -> Option<Cow<'a, [u8]>> {
-        self.row.next(self.image).or_else(|| self.further())
+        match self.row.next(self.image) {
+            None if self.joining => self.step(),
+            None => self.further(),
+            record => record,
+        }
     }
 
     fn size_hint(&self) -> (usize, Option<usize>) {
