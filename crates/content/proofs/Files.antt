@@ -135,31 +135,30 @@ unfolding firstFile
 first-file s x e = e
 
 -- nothing stands behind a label that runs past the image
-next-past : (s : List ℕ) (f : FileAt) → length s ≤ f .hdr2 + 80 → Nowhere ≡ nextFile s f
+next-past : (s : List ℕ) (hdr1 hdr2 : ℕ) → length s ≤ hdr2 + 80 → Nowhere ≡ nextFile s hdr1 hdr2
 unfolding nextFile fileFrom fileIn firstIn asFile partsFrom
-next-past s f h =
-    sym (ap (λ (xs : List Item). fileIn s (parts (stands (f .hdr2 + 80) (f .hdr1) (Header 2) false) xs))
-    (decode-past s (f .hdr2 + 80) h))
+next-past s hdr1 hdr2 h =
+    sym (ap (λ (xs : List Item). fileIn s (parts (stands (hdr2 + 80) hdr1 (Header 2) false) xs)) (decode-past s (hdr2 + 80) h))
 
-pub next-outside : (s : List ℕ) (f : FileAt) → length s < f .hdr2 → Nowhere ≡ nextFile s f
-next-outside s f h = next-past s f (omega arith)
+pub next-outside : (s : List ℕ) (hdr1 hdr2 : ℕ) → length s < hdr2 → Nowhere ≡ nextFile s hdr1 hdr2
+next-outside s hdr1 hdr2 h = next-past s hdr1 hdr2 (omega arith)
 
-pub next-cut : (s : List ℕ) (f : FileAt) → f .hdr2 ≤ length s → length s - f .hdr2 < 80 → Nowhere ≡ nextFile s f
-next-cut s f h k = next-past s f (omega arith)
+pub next-cut : (s : List ℕ) (hdr1 hdr2 : ℕ) → hdr2 ≤ length s → length s - hdr2 < 80 → Nowhere ≡ nextFile s hdr1 hdr2
+next-cut s hdr1 hdr2 h k = next-past s hdr1 hdr2 (omega arith)
 
-pub next-file : (s : List ℕ) (f : FileAt) (x : NextFile) → x ≡ fileFrom s (stands (f .hdr2 + 80) (f .hdr1) (Header 2) false)
-    → x ≡ nextFile s f
+pub next-file : (s : List ℕ) (hdr1 hdr2 : ℕ) (x : NextFile) → x ≡ fileFrom s (stands (hdr2 + 80) hdr1 (Header 2) false)
+    → x ≡ nextFile s hdr1 hdr2
 unfolding nextFile
-next-file s f x e = e
+next-file s hdr1 hdr2 x e = e
 
-pub file-behind : (s : List ℕ) (f : FileAt) (at : ℕ) (x : NextFile) → x ≡ fileFrom s (stands at (f .hdr1) Data false)
-    → x ≡ fileBehind s f at
+pub file-behind : (s : List ℕ) (hdr1 at : ℕ) (x : NextFile) → x ≡ fileFrom s (stands at hdr1 Data false)
+    → x ≡ fileBehind s hdr1 at
 unfolding fileBehind
-file-behind s f at x e = e
+file-behind s hdr1 at x e = e
 
-pub behind-fits : (s : List ℕ) (f : FileAt) → length s < 18446744073709551616 → f .hdr2 ≤ length s → 80 ≤ length s - f .hdr2
-    → Fits w64 (f .hdr2 + 80)
-behind-fits s f h a b = record { fits = omega arith }
+pub behind-fits : (s : List ℕ) (hdr2 : ℕ) → length s < 18446744073709551616 → hdr2 ≤ length s → 80 ≤ length s - hdr2
+    → Fits w64 (hdr2 + 80)
+behind-fits s hdr2 h a b = record { fits = omega arith }
 
 pub ruleset follows = (first-file, next-outside, next-cut, next-file, file-behind, behind-fits, said, needs)
 
@@ -171,7 +170,7 @@ pub record Going (s : List ℕ) (from : FileAt) (files left : ℕ) (f : FileAt) 
 pub going-none : (s : List ℕ) (from : FileAt) (files : ℕ) → Going s from files files from
 going-none s from files = record { same = refl }
 
-going-one : (s : List ℕ) (left : ℕ) (f : FileAt) (x : NextFile) → 0 < left → x ≡ nextFile s f
+going-one : (s : List ℕ) (left : ℕ) (f : FileAt) (x : NextFile) → 0 < left → x ≡ nextFile s (f .hdr1) (f .hdr2)
     → filesOn s left f ≡ fromFile x (λ g. filesOn s (left - 1) g)
 unfolding filesOn
 going-one s zero f x h e = absurd (omega arith)
@@ -180,14 +179,14 @@ going-one s (suc k) f x h e =
     ap₂ (λ (y : NextFile) (j : ℕ). fromFile y (λ g. filesOn s j g)) (sym e) l
 
 pub going-more : (s : List ℕ) (from : FileAt) (files left : ℕ) (f g : FileAt) (x : NextFile) → Going s from files left f
-    → 0 < left → x ≡ nextFile s f → x ≡ At g
+    → 0 < left → x ≡ nextFile s (f .hdr1) (f .hdr2) → x ≡ At g
     → Going s from files (left - 1) g
 unfolding fromFile
 going-more s from files left f g x c h e q =
     record { same = sym (going-one s left f x h e ∙ ap (λ (y : NextFile). fromFile y (λ g. filesOn s (left - 1) g)) q) ∙ c .same }
 
 pub going-nowhere : (s : List ℕ) (from : FileAt) (files left : ℕ) (f : FileAt) (x : NextFile) → Going s from files left f
-    → 0 < left → x ≡ nextFile s f → x ≡ Nowhere
+    → 0 < left → x ≡ nextFile s (f .hdr1) (f .hdr2) → x ≡ Nowhere
     → Nowhere ≡ filesOn s files from
 unfolding fromFile
 going-nowhere s from files left f x c h e q =
@@ -233,27 +232,33 @@ pub numbered-first : (s : List ℕ) → fileNumbered s 1 ≡ firstFile s
 unfolding fileNumbered filesOn ifB
 numbered-first s = found-self (firstFile s)
 
-on-next : (s : List ℕ) (k : ℕ) (f g : FileAt) → filesOn s k f ≡ At g → filesOn s (suc k) f ≡ nextFile s g
+on-next : (s : List ℕ) (k : ℕ) (f g : FileAt) → filesOn s k f ≡ At g → filesOn s (suc k) f ≡ nextFile s (g .hdr1) (g .hdr2)
 unfolding filesOn fromFile
-on-next s zero f g e = let same : f ≡ g = cc in found-self (nextFile s f) ∙ ap (nextFile s) same
-on-next s (suc k) f g e = by-next (λ h q. on-next s k h g q) (nextFile s f) e
+on-next s zero f g e =
+    let same : f ≡ g = cc in
+    found-self (nextFile s (f .hdr1) (f .hdr2)) ∙ ap (λ (h : FileAt). nextFile s (h .hdr1) (h .hdr2)) same
+on-next s (suc k) f g e = by-next (λ h q. on-next s k h g q) (nextFile s (f .hdr1) (f .hdr2)) e
   where
-    by-next : ((h : FileAt) → filesOn s k h ≡ At g → filesOn s (suc k) h ≡ nextFile s g) → (x : NextFile)
+    by-next : ((h : FileAt) → filesOn s k h ≡ At g → filesOn s (suc k) h ≡ nextFile s (g .hdr1) (g .hdr2)) → (x : NextFile)
         → fromFile x (λ h. filesOn s k h) ≡ At g
-        → fromFile x (λ h. filesOn s (suc k) h) ≡ nextFile s g
+        → fromFile x (λ h. filesOn s (suc k) h) ≡ nextFile s (g .hdr1) (g .hdr2)
     by-next again (At h) q = again h q
     by-next again Nowhere q = let z : _≡_ {A = ℕ} 0 1 = cc in absurd (omega arith)
 
 -- the file behind file n is file n + 1
-pub numbered-next : (s : List ℕ) (n : ℕ) (f : FileAt) → fileNumbered s n ≡ At f → nextFile s f ≡ fileNumbered s (n + 1)
+pub numbered-next : (s : List ℕ) (n : ℕ) (f : FileAt) → fileNumbered s n ≡ At f
+    → nextFile s (f .hdr1) (f .hdr2) ≡ fileNumbered s (n + 1)
 unfolding fromFile
-numbered-next s zero f e = let none : Nowhere ≡ fileNumbered s 0 = numbered-zero s 0 refl in let z : _≡_ {A = ℕ} 0 1 = cc in absurd (omega arith)
+numbered-next s zero f e =
+    let none : Nowhere ≡ fileNumbered s 0 = numbered-zero s 0 refl in
+    let z : _≡_ {A = ℕ} 0 1 = cc in
+    absurd (omega arith)
 numbered-next s (suc k) f e =
     by-first (firstFile s) (from-first s (suc k) (firstFile s) (λ z. omega arith) refl ∙ e)
     ∙ from-first s (suc k + 1) (firstFile s) (λ z. omega arith) refl
   where
     by-first : (x : NextFile) → fromFile x (λ h. filesOn s (suc k - 1) h) ≡ At f
-        → nextFile s f ≡ fromFile x (λ h. filesOn s (suc k + 1 - 1) h)
+        → nextFile s (f .hdr1) (f .hdr2) ≡ fromFile x (λ h. filesOn s (suc k + 1 - 1) h)
     by-first (At h) q =
         let here : suc k - 1 ≡ k = omega arith in
         let behind : suc k ≡ suc k + 1 - 1 = omega arith in

@@ -66,7 +66,7 @@ pub record FileRead (s : List ℕ) (a b : ℕ) (first second : List ℕ) (ps : L
   pub secondLong : length second ≡ 80
   pub some : valueOf (recordLengthOf second) ≡ 0 → ⊥
   pub body : Marked s ps (markFrom (b + 80) (decode (drop (b + 80) s)))
-  pub next : fileIn s ps ≡ nextFile s (fileAt s a b)
+  pub next : fileIn s ps ≡ nextFile s a b
 
 -- a data block without fault in a section with this HDR2, with q open, and the parts stateBehind it
 pub record BlockRead (s second : List ℕ) (q start n : ℕ) (ps : List Part) : Type 0 where

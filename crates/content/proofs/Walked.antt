@@ -97,9 +97,6 @@ module _ (s : List ℕ) (a b : ℕ) (first second : List ℕ) (ps : List Part) (
   this-is : this ≡ fileAt s a b
   this-is = ap (λ (l : List ℕ). record { hdr1 = a; hdr2 = b; walk = walkFrom l m }) (sym (c .hdr2))
 
-  next-is : fileIn s ps ≡ nextFile s this
-  next-is = c .next ∙ ap (nextFile s) (sym this-is)
-
   owes : HandsOut s (walkFrom second 0) 0 (dataFrom Data m (decode (drop m s))) records
   owes = subst (λ (y : Extent). HandsOut s (walkFrom second 0) 0 y records) (c .body .datum) (h .owed)
 
@@ -133,10 +130,10 @@ module _ (s : List ℕ) (a b : ℕ) (first second : List ℕ) (ps : List Part) (
         records = ap (λ (y : Held). y .records) same ∙ owes .sums .number;
         bytes = ap (λ (y : Held). y .bytes) same ∙ owes .sums .bytes;
         ends = data-ended .0;
-        behind = data-ended .1 (fileIn s ps) (c .body .follows) .same false a ∙ next-is;
+        behind = data-ended .1 (fileIn s ps) (c .body .follows) .same false a ∙ c .next;
       }
 
-  behind-file : fileBehind s this (endOf s w) ≡ fileIn s ps
+  behind-file : fileBehind s a (endOf s w) ≡ fileIn s ps
   behind-file = unfold fileBehind fileFrom in ended .1 (fileIn s ps) follows .same false a
 
   is : FileIs s this (record { fields = fieldsFrom first second; records = records })
@@ -146,7 +143,7 @@ module _ (s : List ℕ) (a b : ℕ) (first second : List ℕ) (ps : List Part) (
     fields = ap₂ fieldsFrom (sym (c .hdr1)) (sym (c .hdr2));
     walks = walks;
     ends = ended .0;
-    behind = behind-file ∙ next-is;
+    behind = behind-file ∙ c .next;
     amounts = amounts;
   }
 
@@ -160,8 +157,7 @@ module _ (s : List ℕ) (a b : ℕ) (first second : List ℕ) (ps : List Part) (
                 this,
                 ap There (sym this-is),
                 is,
-                subst (λ (y : NextFile). Filed s y (collect es .files)) next-is
-                    (h .comes .filed),
+                subst (λ (y : NextFile). Filed s y (collect es .files)) (c .next) (h .comes .filed),
               );
               named = ap setOf (sym (c .hdr1));
             };
@@ -233,7 +229,7 @@ filed-at : (s : List ℕ) (ds : List File) (d : File) (es : List File) (x : Next
 unfolding fromFile filesOn
 filed-at s [] d es x (f, e, is, rest) = (f, ap (λ (y : NextFile). fromFile y (λ g. filesOn s 0 g)) e, is)
 filed-at s (c ∷ ds) d es x (f, e, is, rest) =
-    let (g, at, there) = filed-at s ds d es (nextFile s f) rest in
+    let (g, at, there) = filed-at s ds d es (nextFile s (f .hdr1) (f .hdr2)) rest in
     (g, ap (λ (y : NextFile). fromFile y (λ g. filesOn s (suc (length ds)) g)) e ∙ at, there)
 
 -- and none past the last
@@ -243,7 +239,8 @@ unfolding fromFile filesOn
 filed-past s [] k x e h = ap (λ (y : NextFile). fromFile y (λ g. filesOn s k g)) e
 filed-past s (d ∷ ds) zero x b h = absurd (omega arith)
 filed-past s (d ∷ ds) (suc k) x (f, e, is, rest) h =
-    ap (λ (y : NextFile). fromFile y (λ g. filesOn s (suc k) g)) e ∙ filed-past s ds k (nextFile s f) rest (omega arith)
+    ap (λ (y : NextFile). fromFile y (λ g. filesOn s (suc k) g)) e
+    ∙ filed-past s ds k (nextFile s (f .hdr1) (f .hdr2)) rest (omega arith)
 
 started : (s : List ℕ) (k : ℕ) → imageVerdict s .number ≡ 0
     → begunAt s (k + 1) ≡ startedBy (fromFile (firstFile s) (λ f. filesOn s k f))

@@ -70,13 +70,13 @@ fileFrom s c = fileIn s (parts c (decode (drop (c .at) s)))
 unfoldable pub firstFile : List ℕ → NextFile
 firstFile s = fileFrom s (record { at = 5; hdr1 = length s; phase = Reel; continues = false })
 
--- the file behind one, from behind that file's HDR2 on
-unfoldable pub nextFile : List ℕ → FileAt → NextFile
-nextFile s f = fileFrom s (record { at = f .hdr2 + 80; hdr1 = f .hdr1; phase = Header 2; continues = false })
+-- the file behind the one with its HDR1 and HDR2 at these places, from behind that HDR2 on
+unfoldable pub nextFile : List ℕ → ℕ → ℕ → NextFile
+nextFile s hdr1 hdr2 = fileFrom s (record { at = hdr2 + 80; hdr1 = hdr1; phase = Header 2; continues = false })
 
--- the file behind one, from a place between two items of that file's data on
-unfoldable pub fileBehind : List ℕ → FileAt → ℕ → NextFile
-fileBehind s f at = fileFrom s (record { at = at; hdr1 = f .hdr1; phase = Data; continues = false })
+-- the file behind the one with its HDR1 at this place, from a place between two items of that file's data on
+unfoldable pub fileBehind : List ℕ → ℕ → ℕ → NextFile
+fileBehind s hdr1 at = fileFrom s (record { at = at; hdr1 = hdr1; phase = Data; continues = false })
 
 -- ---- files by their numbers
 
@@ -88,7 +88,7 @@ fromFile Nowhere rest = Nowhere
 -- the file k files behind one
 unfoldable pub filesOn : List ℕ → ℕ → FileAt → NextFile
 filesOn s zero f = There f
-filesOn s (suc k) f = fromFile (nextFile s f) (λ g. filesOn s k g)
+filesOn s (suc k) f = fromFile (nextFile s (f .hdr1) (f .hdr2)) (λ g. filesOn s k g)
 
 -- file n, from 1
 unfoldable pub fileNumbered : List ℕ → ℕ → NextFile

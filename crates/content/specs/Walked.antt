@@ -49,7 +49,7 @@ pub record Amounts (s : List ℕ) (f : FileAt) (d : File) : Type 0 where
   pub records : fileHeld s (f .walk) .held .records ≡ length (d .records)
   pub bytes : fileHeld s (f .walk) .held .bytes ≡ sum (map length (d .records))
   pub ends : fileHeld s (f .walk) .end ≤ length s
-  pub behind : fileBehind s f (fileHeld s (f .walk) .end) ≡ nextFile s f
+  pub behind : fileBehind s (f .hdr1) (fileHeld s (f .walk) .end) ≡ nextFile s (f .hdr1) (f .hdr2)
 
 -- a file of the meaning where it stands: its first HDR1 and HDR2 lie within the image and have its fields, the walk hands out its
 -- records, and what follows the file is found from the end of its records on, too
@@ -59,5 +59,5 @@ pub record FileIs (s : List ℕ) (f : FileAt) (d : File) : Type 0 where
   pub fields : d .fields ≡ fieldsFrom (part (f .hdr1) 80 s) (part (f .hdr2) 80 s)
   pub walks : Walks s (f .walk) (d .records)
   pub ends : endOf s (f .walk) ≤ length s
-  pub behind : fileBehind s f (endOf s (f .walk)) ≡ nextFile s f
+  pub behind : fileBehind s (f .hdr1) (endOf s (f .walk)) ≡ nextFile s (f .hdr1) (f .hdr2)
   pub amounts : Amounts s f d

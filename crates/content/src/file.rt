@@ -91,34 +91,34 @@ pub fn first_file(image: &[u8]) -> NextFile
     file_from(image, from)
 }
 
-// The file behind one, be its places right or forged. Nothing stands behind an HDR2 that runs past the image.
-pub fn next_file(image: &[u8], f: FileAt) -> NextFile
-    ensures { λ r. ⌜ Said fileOf r (nextFile (now (image .entry)) f) ⌝ }
+// The file behind the one with its HDR1 and HDR2 at these places, be they right or forged. Nothing stands behind an HDR2 that
+// runs past the image.
+pub fn next_file(image: &[u8], hdr1: usize, hdr2: usize) -> NextFile
+    ensures { λ r. ⌜ Said fileOf r (nextFile (now (image .entry)) hdr1 hdr2) ⌝ }
 {
-    let second = f.hdr2;
-    if image.len() < second {
+    if image.len() < hdr2 {
         return NextFile::Nowhere;
     }
-    if image.len() - second < 80 {
+    if image.len() - hdr2 < 80 {
         return NextFile::Nowhere;
     }
-    let at = second + 80;
+    let at = hdr2 + 80;
     let from = Position {
         at,
-        hdr1: f.hdr1,
+        hdr1,
         phase: Phase::Header(2),
         continues: false,
     };
     file_from(image, from)
 }
 
-// The file behind one, from a place between two items of its data on, be that right or forged.
-pub fn file_behind(image: &[u8], f: FileAt, at: usize) -> NextFile
-    ensures { λ r. ⌜ Said fileOf r (fileBehind (now (image .entry)) f at) ⌝ }
+// The file behind the one with its HDR1 at this place, from a place between two items of its data on, be they right or forged.
+pub fn file_behind(image: &[u8], hdr1: usize, at: usize) -> NextFile
+    ensures { λ r. ⌜ Said fileOf r (fileBehind (now (image .entry)) hdr1 at) ⌝ }
 {
     let from = Position {
         at,
-        hdr1: f.hdr1,
+        hdr1,
         phase: Phase::Data,
         continues: false,
     };
@@ -132,7 +132,7 @@ fn files_on(image: &[u8], from: FileAt, files: u64) -> NextFile
     let mut left = files;
     let mut f = from;
     while 0 < left {
-        match next_file(image, f) {
+        match next_file(image, f.hdr1, f.hdr2) {
             NextFile::Nowhere => return NextFile::Nowhere,
             NextFile::At(g) => {
                 left -= 1;

@@ -22,12 +22,12 @@ use Rattle.volume.specs.Meaning.{File, fieldsFrom, content}
 use Rattle.volume.proofs.Accepted.{accepted-iff}
 use Rattle.content.specs.Walk.{ends, fails, Record, whole, split, nothing as noRecordHere, recordAt, stepBy, joinBy, stepAt, joinAt}
 use Rattle.content.specs.Row.{StepRow as Row, stepsBy, stepsAt}
-use Rattle.content.specs.File.{firstFile, nextFile, fileNumbered, begunBy, begunAt}
+use Rattle.content.specs.File.{firstFile, fileNumbered, begunBy, begunAt}
 use Rattle.content.specs.Found.{passedBy, passed, foundBy, foundIn, leftIn, foundFrom, leftFrom, foundAt, leftAt}
 use Rattle.content.specs.Measure.{measuredBy}
 use Rattle.content.specs.Walked.{handed, Walks, FileIs}
 use Rattle.content.specs.Records.{factsOf}
-use Rattle.content.specs.Numbers.{recordOf, noWalk, beginningOf, steppedOf}
+use Rattle.content.specs.Numbers.{recordOf, beginningOf, steppedOf}
 use Rattle.content.specs.declared.Walk.{Walk}
 use Rattle.content.specs.declared.FileAt.{FileAt}
 use Rattle.content.specs.declared.NextFile.{NextFile}
@@ -292,11 +292,6 @@ first-begun-by s a =
 pub first-begun : (s : List ℕ) → Accepted s → ours .first s ≡ ours .begin s 1
 first-begun s a = ap beginningOf (first-begun-by s a)
 
--- the search looks at the two places of a file alone
-next-at : (s : List ℕ) (f : FileAt) → nextFile s (record { hdr1 = f .hdr1; hdr2 = f .hdr2; walk = noWalk }) ≡ nextFile s f
-unfolding nextFile
-next-at s f = refl
-
 pub further-begun : (s : List ℕ) (n : ℕ) → ours .begin s n .verdict .number ≡ 0
     → ours .further s (ours .begin s n .hdr1) (ours .begin s n .hdr2) ≡ ours .begin s (n + 1)
 unfolding begunAt beginningOf
@@ -314,7 +309,7 @@ further-begun s n =
 
     by-file : eqb (imageVerdict s .number) 0 ≡ true → (x : NextFile) → fileNumbered s n ≡ x → Goal (begunBy x)
     by-file e (There f) q = unfold begunBy beginningOf in λ _.
-        ap (λ (y : NextFile). beginningOf (begunBy y)) (next-at s f ∙ numbered-next s n f q) ∙ ap beginningOf (sym (next-begun e))
+        ap (λ (y : NextFile). beginningOf (begunBy y)) (numbered-next s n f q) ∙ ap beginningOf (sym (next-begun e))
     by-file e NoFile q = unfold begunBy beginningOf verdict in λ z. absurd (omega arith)
 
 -- its listing

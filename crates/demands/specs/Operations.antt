@@ -18,7 +18,7 @@ use Rattle.content.specs.File.{begunAt, firstFile, nextFile}
 use Rattle.content.specs.Items.{itemAt}
 use Rattle.content.specs.Found.{foundAt, leftAt, partOf}
 use Rattle.content.specs.Records.{recordsAt, factsOf}
-use Rattle.content.specs.Numbers.{recordOf, noWalk, beginningOf, fileOf, steppedOf}
+use Rattle.content.specs.Numbers.{recordOf, beginningOf, fileOf, steppedOf}
 use Rattle.content.specs.declared.Walk.{Walk}
 use Rattle.content.specs.declared.Found.{Found}
 use Rattle.content.specs.declared.items.ItemAt.{ItemAt}
@@ -109,7 +109,7 @@ ours =
       check = imageVerdict;
       begin = λ s n. beginningOf (begunAt s n);
       first = λ s. fileOf (firstFile s);
-      further = λ s hdr1 hdr2. fileOf (nextFile s (record { hdr1 = hdr1; hdr2 = hdr2; walk = noWalk }));
+      further = λ s hdr1 hdr2. fileOf (nextFile s hdr1 hdr2);
       find = λ s n r old. record { at = recordOf (foundAt s n r (length old)); left = leftAt s n r old };
       step = λ s w old. record { answer = steppedOf w (stepAt s (length old) w); left = joinAt s old w };
       steps = λ s w places lengths. listing places lengths (stepsIn s places lengths w);

@@ -136,7 +136,7 @@ pub record NextAt (s : List ℕ) (n : ℕ) (f : FileAt) (rest : List File) : Typ
   pub file : File
   pub others : List File
   pub is : FileIs s f file
-  pub filed : Filed s (nextFile s f) others
+  pub filed : Filed s (nextFile s (f .hdr1) (f .hdr2)) others
   pub lined : lines n rest ≡ lineAt s n f (fileHeld s (f .walk) .held) ++ lines (n + 1) others
 
 next-file : (s : List ℕ) (n : ℕ) (x : NextFile) (f : FileAt) (ds : List File) → Filed s x ds → x ≡ At f → NextAt s n f ds
@@ -149,7 +149,7 @@ next-file s n x f (d ∷ ds) (g, e′, is, others) e =
       file = d;
       others = ds;
       is = here;
-      filed = subst (λ (k : FileAt). Filed s (nextFile s k) ds) same others;
+      filed = subst (λ (k : FileAt). Filed s (nextFile s (k .hdr1) (k .hdr2)) ds) same others;
       lined = ap (λ (l : List ℕ). l ++ lines (n + 1) ds) (sym (line-is s n f d here));
     }
 
@@ -184,7 +184,7 @@ module _ (s o : List ℕ) (a : ℕ) (p : List ℕ) (r n : ℕ) (x : NextFile) (f
   after : n + 1 ≤ f .hdr2
   after = subst (NoEarlier (n + 1)) e (c .number)
 
-  behind : NoEarlier (f .hdr2 + 80) (nextFile s f)
+  behind : NoEarlier (f .hdr2 + 80) (nextFile s (f .hdr1) (f .hdr2))
   unfolding nextFile
   behind = found-behind s (f .hdr2 + 80) (f .hdr1) (Header 2)
 
@@ -192,12 +192,13 @@ module _ (s o : List ℕ) (a : ℕ) (p : List ℕ) (r n : ℕ) (x : NextFile) (f
   number-fits = let inside : f .hdr2 + 80 ≤ length s = next .is .secondWithin in omega (arith, after, c .room)
 
   -- the next file is found from behind the file's last block on
-  found : (y : FileHeld) (z : NextFile) → y ≡ fileHeld s (f .walk) → z ≡ fileBehind s f (y .end) → z ≡ nextFile s f
-  found y z h k = k ∙ ap (λ (x : FileHeld). fileBehind s f (x .end)) h ∙ next .is .amounts .behind
+  found : (y : FileHeld) (z : NextFile) → y ≡ fileHeld s (f .walk) → z ≡ fileBehind s (f .hdr1) (y .end)
+      → z ≡ nextFile s (f .hdr1) (f .hdr2)
+  found y z h k = k ∙ ap (λ (x : FileHeld). fileBehind s (f .hdr1) (x .end)) h ∙ next .is .amounts .behind
 
   pub lining-more : (y : FileHeld) (q : List ℕ) (t : ℕ) (z : NextFile) → y ≡ fileHeld s (f .walk)
       → PageWrote p r (lineAt s n f (y .held)) q t
-      → z ≡ fileBehind s f (y .end) → Lining s o a q t (n + 1) z
+      → z ≡ fileBehind s (f .hdr1) (y .end) → Lining s o a q t (n + 1) z
   lining-more y q t z h w k =
       record {
         room = c .room;
@@ -212,10 +213,11 @@ module _ (s o : List ℕ) (a : ℕ) (p : List ℕ) (r n : ℕ) (x : NextFile) (f
             ∙ c .whole;
         number =
             subst (NoEarlier (n + 1 + 1)) (sym (found y z h k))
-            (behind-less (n + 1 + 1) (f .hdr2 + 80) (nextFile s f) (omega (arith, after)) behind);
+            (behind-less (n + 1 + 1) (f .hdr2 + 80) (nextFile s (f .hdr1) (f .hdr2)) (omega (arith, after)) behind);
       }
 
-  pub lining-falls : (y : FileHeld) (z : NextFile) → y ≡ fileHeld s (f .walk) → z ≡ fileBehind s f (y .end) → left s z < left s x
+  pub lining-falls : (y : FileHeld) (z : NextFile) → y ≡ fileHeld s (f .walk) → z ≡ fileBehind s (f .hdr1) (y .end)
+      → left s z < left s x
   lining-falls y z h k =
       subst (λ (u : NextFile). left s z < left s u) (sym e)
       (left-falls s f z (next .is .secondWithin) (subst (NoEarlier (f .hdr2 + 80)) (sym (found y z h k)) behind))

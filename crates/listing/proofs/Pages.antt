@@ -109,7 +109,7 @@ lines-long s [] x n h c = omega arith
 lines-long s (d ∷ ds) x n h (f, e, is, rest) =
     let few = few-records s f d is in
     let here = line-long n d (omega (arith, few .0)) (omega (arith, few .1)) in
-    let again = lines-long s ds (nextFile s f) (n + 1) h rest in
+    let again = lines-long s ds (nextFile s (f .hdr1) (f .hdr2)) (n + 1) h rest in
     let is : length (lines n (d ∷ ds)) ≡ length (line n d ++ lines (n + 1) ds) = refl in
     omega (arith, is, here, again, length-append (line n d) (lines (n + 1) ds))
 

@@ -43,7 +43,7 @@ fn put_listing(out: &mut [u8], image: &[u8]) -> usize
                 end = put_line(out, end, image, n, f, held);
                 n += 1;
                 // The blocks are not gone over again: the next file is sought from behind the last of them on.
-                next = file_behind(image, f, x.end);
+                next = file_behind(image, f.hdr1, x.end);
             }
         }
     }

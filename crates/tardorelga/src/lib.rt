@@ -12,14 +12,13 @@ ghost use Rattle.content.specs.Records.{recordsAt, factsOf};
 ghost use Rattle.content.specs.Found.{foundAt, leftAt};
 ghost use Rattle.content.specs.Walk.{stepAt, joinAt};
 ghost use Rattle.content.specs.Row.{stepsIn, rowOf};
-ghost use Rattle.content.specs.Numbers.{recordOf, noWalk, beginningOf, fileOf, steppedOf};
+ghost use Rattle.content.specs.Numbers.{recordOf, beginningOf, fileOf, steppedOf};
 ghost use Rattle.listing.specs.Text.{textOf};
 ghost use Rattle.writing.specs.Write.{flat, write};
 ghost use Rattle.writing.specs.Rewrite.{rewrite};
 use base::Verdict;
 use content::Beginning;
 use content::Facts;
-use content::FileAt;
 use content::ItemAt;
 use content::Located;
 use content::Row;
@@ -76,21 +75,9 @@ pub extern "C" fn tardorelga_first_file(image: &[u8]) -> Beginning
 // next number.
 #[no_mangle]
 pub extern "C" fn tardorelga_next_file(image: &[u8], hdr1: u64, hdr2: u64) -> Beginning
-    ensures { λ x. ⌜ x ≡ fileOf (nextFile (now (image .entry)) (record { hdr1 = hdr1; hdr2 = hdr2; walk = noWalk })) ⌝ }
+    ensures { λ x. ⌜ x ≡ fileOf (nextFile (now (image .entry)) hdr1 hdr2) ⌝ }
 {
-    let walk = Walk {
-        format: 0,
-        size: 0,
-        offset: 0,
-        at: 0,
-        left: 0,
-    };
-    let f = FileAt {
-        hdr1: hdr1 as usize,
-        hdr2: hdr2 as usize,
-        walk,
-    };
-    file_of(next_file(image, f))
+    file_of(next_file(image, hdr1 as usize, hdr2 as usize))
 }
 
 // What stands at a place between two items, in a group: any place and any group.

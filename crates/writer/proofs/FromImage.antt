@@ -53,10 +53,11 @@ met-none s [] e = refl
 met-none s (d ∷ ds) (f, e, is, rest) = let z : _≡_ {A = ℕ} 0 1 = cc in absurd (omega arith)
 
 -- the file that is met, and those behind it
-met-first : (s : List ℕ) (h : FileAt) (d : File) (ds : List File) → Met s (At h) (d ∷ ds) → FileIs s h d × Met s (nextFile s h) ds
+met-first : (s : List ℕ) (h : FileAt) (d : File) (ds : List File) → Met s (At h) (d ∷ ds)
+    → FileIs s h d × Met s (nextFile s (h .hdr1) (h .hdr2)) ds
 met-first s h d ds (f, e, is, rest) =
     let same : f ≡ h = cc in
-    subst (λ (g : FileAt). FileIs s g d × Met s (nextFile s g) ds) same (is, rest)
+    subst (λ (g : FileAt). FileIs s g d × Met s (nextFile s (g .hdr1) (g .hdr2)) ds) same (is, rest)
 
 module _ (lay : Bool) (set lengths bytes rooms names : List ℕ) (g : Place) (p : Pen) (o : List ℕ)
     (y : Fileable lay (task read set lengths bytes rooms names) g p o) where
@@ -76,7 +77,7 @@ module _ (lay : Bool) (set lengths bytes rooms names : List ℕ) (g : Place) (p 
   first : drop (g .nth) all ≡ d ∷ drop (g .nth + 1) all
   first = drop-cons all (g .nth) _ more ∙ ap (λ (k : ℕ). d ∷ drop k all) (sym (add-one (g .nth)))
 
-  both : FileIs bytes (g .file) d × Met bytes (nextFile bytes (g .file)) (drop (g .nth + 1) all)
+  both : FileIs bytes (g .file) d × Met bytes (nextFile bytes (g .file .hdr1) (g .file .hdr2)) (drop (g .nth + 1) all)
   both = met-first bytes (g .file) d (drop (g .nth + 1) all) (subst (Met bytes (At (g .file))) first (y .placed .stands more))
 
   is : FileIs bytes (g .file) d
@@ -141,7 +142,7 @@ module _ (lay : Bool) (set lengths bytes rooms names : List ℕ) (g : Place) (p 
             legal = legal-others t g entry (d .records) _ (y .placed) files-first;
           }
 
-      next-filed : (stop : ℕ) (h : NextFile) → x .pen .short ≡ false → nextFile bytes (g .file) ≡ h
+      next-filed : (stop : ℕ) (h : NextFile) → x .pen .short ≡ false → nextFile bytes (g .file .hdr1) (g .file .hdr2) ≡ h
           → OneFiled lay t g p o q (record { place = followedBy g stop (x .end) h; pen = x .pen })
       unfolding followedBy totalOf filesAt
       next-filed stop (At h) z e =
@@ -161,10 +162,10 @@ module _ (lay : Bool) (set lengths bytes rooms names : List ℕ) (g : Place) (p 
       -- unless a reel is lacking, the next file is found from where the records of this one end
       pub read-filed : (stop : ℕ) → x .pen .short ≡ false
           → OneFiled lay t g p o q
-          (record { place = followedBy g stop (x .end) (fileBehind bytes (g .file) (x .end)); pen = x .pen })
+          (record { place = followedBy g stop (x .end) (fileBehind bytes (g .file .hdr1) (x .end)); pen = x .pen })
       read-filed stop z =
-          next-filed stop (fileBehind bytes (g .file) (x .end)) z
-          (sym (ap (fileBehind bytes (g .file)) (m .end z ∙ ends) ∙ is .behind))
+          next-filed stop (fileBehind bytes (g .file .hdr1) (x .end)) z
+          (sym (ap (fileBehind bytes (g .file .hdr1)) (m .end z ∙ ends) ∙ is .behind))
 
       pub read-short : (stop : ℕ) → x .pen .short ≡ true
           → OneFiled lay t g p o q (record { place = passed g stop (x .end) (g .file) false; pen = x .pen })

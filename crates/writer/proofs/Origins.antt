@@ -63,7 +63,7 @@ module _ (image : Bool) (counts bytes : List ℕ) (g : Place) (stop end : ℕ) (
     unfolding behindFile
     behind-listed i = sym (if-false _ _ _ z ∙ if-false _ _ _ i)
 
-    module _ (i : image ≡ true) (n : NextFile) (e : n ≡ fileBehind bytes (g .file) end) where
+    module _ (i : image ≡ true) (n : NextFile) (e : n ≡ fileBehind bytes (g .file .hdr1) end) where
       behind-read : followedBy g stop end n ≡ behindFile image counts bytes g stop end short
       unfolding behindFile
       behind-read = ap (followedBy g stop end) e ∙ sym (if-false _ _ _ z ∙ if-true _ _ _ i)
@@ -175,7 +175,8 @@ module _ (lay image : Bool) (files counts lengths bytes labels rooms : List ℕ)
           (read-short lay (setIn labels) lengths bytes rooms names g p o (from-image i) c (read-at i) q x put′ (c .stop) z))
           (λ z.
           subst (λ (h : Place). OneFiled lay (by read) g p o q (record { place = h; pen = x .pen }))
-          (behind-read image counts bytes g (c .stop) (x .end) (x .pen .short) z i (fileBehind bytes (g .file) (x .end)) refl)
+          (behind-read image counts bytes g (c .stop) (x .end) (x .pen .short) z i
+          (fileBehind bytes (g .file .hdr1) (x .end)) refl)
           (read-filed lay (setIn labels) lengths bytes rooms names g p o (from-image i) c (read-at i) q x put′ (c .stop) z))
 
       filed-listed : image ≡ false → OneFiled lay (by (listed files counts)) g p o q (record { place = next; pen = x .pen })

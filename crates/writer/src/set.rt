@@ -128,7 +128,7 @@ fn behind(
         return over;
     }
     if image {
-        return match file_behind(bytes, file, end) {
+        return match file_behind(bytes, file.hdr1, end) {
             NextFile::Nowhere => over,
             NextFile::At(next) => Place {
                 nth,

@@ -12,4 +12,4 @@ use Rattle.content.specs.Walked.{FileIs}
 -- going from file to file meets exactly these, and none behind the last
 abbrev pub Filed : List ℕ → NextFile → List File → Type 0
 Filed s x [] = x ≡ NoFile
-Filed s x (d ∷ ds) = (f : FileAt) × (x ≡ There f) × FileIs s f d × Filed s (nextFile s f) ds
+Filed s x (d ∷ ds) = (f : FileAt) × (x ≡ There f) × FileIs s f d × Filed s (nextFile s (f .hdr1) (f .hdr2)) ds

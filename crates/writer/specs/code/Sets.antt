@@ -110,7 +110,7 @@ followedBy g stop end Nowhere = passed g stop end (g .file) false
 unfoldable pub behindFile : Bool → List ℕ → List ℕ → Place → ℕ → ℕ → Bool → Place
 behindFile image counts bytes g stop end short =
     ifB short (passed g stop end (g .file) false)
-    (ifB image (followedBy g stop end (fileBehind bytes (g .file) end))
+    (ifB image (followedBy g stop end (fileBehind bytes (g .file .hdr1) end))
     (passed g stop end (g .file) (ltb (g .nth + 1) (length counts))))
 
 -- ---- all files
