@@ -20,17 +20,20 @@ use Rattle.image.specs.declared.Shape.{Shape}
 use Rattle.image.specs.declared.Shape.the-variants.{Block as Bytes, Mark, ReelEnd, Broken}
 use Rattle.image.proofs.Items.{block-within, mark-within, reel-end-within, decode-block, decode-mark, decode-reel-end, decode-broken, decode-past}
 use Rattle.order.specs.Kind.{hdr, dataBlock, tapeMark, endOfReel, other, isKind}
-use Rattle.order.specs.Due.{dueAfter}
+use Rattle.order.specs.Due.{dues, choose, dueAfter}
 use Rattle.order.specs.declared.Kind.{Kind}
 use Rattle.order.specs.declared.Phase.{Phase}
+use Rattle.order.specs.declared.Phase.the-variants.{Reel, Data}
 use Rattle.order.specs.declared.Due.{Due}
 use Rattle.order.specs.declared.Due.the-variants.{To, Wrong}
-use Rattle.volume.specs.Step.{kindIn, bytesIn}
+use Rattle.label.specs.Name.{kindOf}
+use Rattle.volume.specs.Step.{isDue, kindIn, bytesIn}
 use Rattle.reading.proofs.Legality.{header-long}
 use Rattle.content.specs.Part.{beginsFile, ledTo, continuesBehind, firstBehind, after, partIn, onto, partsBy, partsFrom, partsAt, parts, isWanted, firstIn, firstFrom}
-use Rattle.content.specs.code.Seen.{seenBy, seenAt}
-use Rattle.content.specs.declared.part.Seen.{Seen}
-use Rattle.content.specs.declared.part.Seen.the-variants.{Item as Of, Nothing}
+use Rattle.content.specs.Items.{seenBy, seenAt}
+use Rattle.content.specs.code.Seen.{seenIn}
+use Rattle.content.specs.declared.items.Seen.{Seen}
+use Rattle.content.specs.declared.items.Seen.the-variants.{Item as Of, Nothing}
 use Rattle.content.specs.declared.part.Position.{Position}
 use Rattle.content.specs.declared.part.Part.{Part}
 use Rattle.content.specs.declared.part.Part.the-variants.{File, Section, Block, None}
@@ -38,25 +41,32 @@ use Rattle.content.specs.declared.part.PartAt.{PartAt}
 
 -- ---- what stands at a place
 
-pub seen-block : (s : List ℕ) (p : Phase) (at n : ℕ) (q : Shape) (k : Kind) → q ≡ shape (drop at s) → q ≡ Bytes n
-    → k ≡ kindIn p (block (take (at + 3 + n - (at + 3)) (drop (at + 3) s))) → Of k n ≡ seenAt s p at
-unfolding seenAt seenBy
-seen-block s p at n q k e b h =
-    ap (λ (j : Kind). Of j n) (h ∙ ap (λ (l : List ℕ). kindIn p (block l)) (part-within (at + 3) n s))
-    ∙ ap (seenBy s p at) (sym b ∙ e)
+module _ (s : List ℕ) (at : ℕ) (datum : Bool) (q : Shape) (e : q ≡ shape (drop at s)) where
+  seen-by : (r : Shape) → q ≡ r → seenBy s at datum r ≡ seenAt s at datum
+  unfolding seenAt
+  seen-by r b = ap (seenBy s at datum) (sym b ∙ e)
 
-pub seen-mark : (s : List ℕ) (p : Phase) (at : ℕ) (q : Shape) → q ≡ shape (drop at s) → q ≡ Mark → Of tapeMark 0 ≡ seenAt s p at
-unfolding seenAt seenBy
-seen-mark s p at q e b = ap (seenBy s p at) (sym b ∙ e)
+  pub seen-data : (n : ℕ) (x : Seen) → q ≡ Bytes n → datum ≡ true → x ≡ Of dataBlock n → x ≡ seenAt s at datum
+  unfolding seenBy
+  seen-data n x b h f = f ∙ sym (ap (λ (k : Kind). Of k n) (if-true _ _ _ h)) ∙ seen-by (Bytes n) b
 
-pub seen-reel-end : (s : List ℕ) (p : Phase) (at : ℕ) (q : Shape) → q ≡ shape (drop at s) → q ≡ ReelEnd
-    → Of endOfReel 0 ≡ seenAt s p at
-unfolding seenAt seenBy
-seen-reel-end s p at q e b = ap (seenBy s p at) (sym b ∙ e)
+  pub seen-label : (n : ℕ) (k : Kind) → q ≡ Bytes n → datum ≡ false
+      → k ≡ kindOf (take (at + 3 + n - (at + 3)) (drop (at + 3) s)) → Of k n ≡ seenAt s at datum
+  unfolding seenBy
+  seen-label n k b h f =
+      ap (λ (j : Kind). Of j n) (f ∙ ap kindOf (part-within (at + 3) n s) ∙ sym (if-false _ _ _ h)) ∙ seen-by (Bytes n) b
 
-pub seen-nothing : (s : List ℕ) (p : Phase) (at : ℕ) (q : Shape) → q ≡ shape (drop at s) → q ≡ Broken → Nothing ≡ seenAt s p at
-unfolding seenAt seenBy
-seen-nothing s p at q e b = ap (seenBy s p at) (sym b ∙ e)
+  pub seen-mark : (x : Seen) → q ≡ Mark → x ≡ Of tapeMark 0 → x ≡ seenAt s at datum
+  unfolding seenBy
+  seen-mark x b f = f ∙ seen-by Mark b
+
+  pub seen-reel-end : (x : Seen) → q ≡ ReelEnd → x ≡ Of endOfReel 0 → x ≡ seenAt s at datum
+  unfolding seenBy
+  seen-reel-end x b f = f ∙ seen-by ReelEnd b
+
+  pub seen-nothing : q ≡ Broken → Nothing ≡ seenAt s at datum
+  unfolding seenBy
+  seen-nothing b = seen-by Broken b
 
 pub start-fits : (s : List ℕ) (at n : ℕ) (q : Shape) → q ≡ shape (drop at s) → q ≡ Bytes n → length s < 18446744073709551616
     → Fits w64 (at + 3)
@@ -66,7 +76,19 @@ pub end-fits : (s : List ℕ) (at n : ℕ) (q : Shape) → q ≡ shape (drop at 
     → Fits w64 (at + 3 + n)
 end-fits s at n q e b h = record { fits = omega (arith, block-within s at n q e b) }
 
-pub ruleset seens = (seen-block, seen-mark, seen-reel-end, seen-nothing, start-fits, end-fits, block-within, needs)
+pub ruleset seens = (seen-data, seen-label, seen-mark, seen-reel-end, seen-nothing, start-fits, end-fits, block-within, needs)
+
+-- in a phase
+module _ (s : List ℕ) (p : Phase) (at : ℕ) (d : Due) (x : Seen) (e : d ≡ dueAfter p dataBlock) where
+  pub seen-due : (r : Phase) → d ≡ To r → x ≡ seenAt s at true → x ≡ seenIn s p at
+  unfolding isDue
+  seen-due r q f = f ∙ ap (λ (y : Due). seenAt s at (isDue y)) (sym q ∙ e)
+
+  pub seen-undue : d ≡ Wrong → x ≡ seenAt s at false → x ≡ seenIn s p at
+  unfolding isDue
+  seen-undue q f = f ∙ ap (λ (y : Due). seenAt s at (isDue y)) (sym q ∙ e)
+
+pub ruleset seens-in = (seen-due, seen-undue, needs)
 
 -- an item of kind k and n bytes stands at a place, and the others follow it
 pub record Sees (s : List ℕ) (p : Phase) (at : ℕ) (k : Kind) (n : ℕ) : Type 0 where
@@ -112,7 +134,8 @@ abbrev If-seen : (Kind → ℕ → Type 0) → Seen → Type 0
 If-seen P (Of k n) = P k n
 If-seen P Nothing = Nothing ≡ Nothing
 
-seen-any : (s : List ℕ) (p : Phase) (at : ℕ) (q : Shape) → shape (drop at s) ≡ q → If-seen (Sees s p at) (seenBy s p at q)
+seen-any : (s : List ℕ) (p : Phase) (at : ℕ) (q : Shape) → shape (drop at s) ≡ q
+    → If-seen (Sees s p at) (seenBy s at (isDue (dueAfter p dataBlock)) q)
 unfolding seenBy kindIn bytesIn
 seen-any s p at (Bytes n) e = block-seen s p at n e
 seen-any s p at Mark e =
@@ -123,17 +146,18 @@ seen-any s p at ReelEnd e =
     bare-seen s p at reelEnd endOfReel (decode-reel-end s at ReelEnd (omega arith) (sym e) refl) refl refl w
 seen-any s p at Broken e = refl
 
-pub sees : (s : List ℕ) (p : Phase) (at n : ℕ) (k : Kind) (x : Seen) → x ≡ seenAt s p at → x ≡ Of k n → Sees s p at k n
+pub sees : (s : List ℕ) (p : Phase) (at n : ℕ) (k : Kind) (x : Seen) → x ≡ seenIn s p at → x ≡ Of k n → Sees s p at k n
 unfolding seenAt
 sees s p at n k x e q = subst (If-seen (Sees s p at)) (sym e ∙ q) (seen-any s p at (shape (drop at s)) refl)
 
 -- no item stands there: the image ends, or the item is broken
-pub unseen : (s : List ℕ) (p : Phase) (at : ℕ) (x : Seen) → x ≡ seenAt s p at → x ≡ Nothing → (P : List Item → Type 0) → P []
-    → P (broken ∷ []) → P (decode (drop at s))
+pub unseen : (s : List ℕ) (p : Phase) (at : ℕ) (x : Seen) → x ≡ seenIn s p at → x ≡ Nothing → (P : List Item → Type 0)
+    → (length s ≤ at → P []) → P (broken ∷ []) → P (decode (drop at s))
 unfolding seenAt seenBy
 unseen s p at x e q P none one = by-shape (shape (drop at s)) refl (sym e ∙ q)
   where
-    by-shape : (r : Shape) → shape (drop at s) ≡ r → seenBy s p at r ≡ Nothing → P (decode (drop at s))
+    by-shape : (r : Shape) → shape (drop at s) ≡ r → seenBy s at (isDue (dueAfter p dataBlock)) r ≡ Nothing
+        → P (decode (drop at s))
     by-shape (Bytes n) h t = let z : _≡_ {A = ℕ} 0 1 = cc in absurd (omega arith)
     by-shape Mark h t = let z : _≡_ {A = ℕ} 0 1 = cc in absurd (omega arith)
     by-shape ReelEnd h t = let z : _≡_ {A = ℕ} 0 1 = cc in absurd (omega arith)
@@ -141,24 +165,21 @@ unseen s p at x e q P none one = by-shape (shape (drop at s)) refl (sym e ∙ q)
       where
         by-end : Dec (at < length s) → P (decode (drop at s))
         by-end (yes l) = subst P (sym (decode-broken s at Broken l (sym h) refl)) one
-        by-end (no g) = let past : length s ≤ at = omega arith in subst P (sym (decode-past s at past)) none
+        by-end (no g) = let past : length s ≤ at = omega arith in subst P (sym (decode-past s at past)) (none past)
 
--- places that a search goes to
-pub item-within : (s : List ℕ) (p : Phase) (at n : ℕ) (k : Kind) (x : Seen) → x ≡ seenAt s p at → x ≡ Of k n
+-- places behind an item are inside the image, whether blocks are data there or not
+item-within : (s : List ℕ) (at n : ℕ) (datum : Bool) (k : Kind) (x : Seen) → x ≡ seenAt s at datum → x ≡ Of k n
     → at + 3 + n ≤ length s
-item-within s p at n k x e q = sees s p at n k x e q .within
+unfolding isDue dueAfter dues choose isKind ifB
+item-within s at n true k x e q = sees s Data at n k x e q .within
+item-within s at n false k x e q = sees s Reel at n k x e q .within
 
-pub item-start : (s : List ℕ) (p : Phase) (at n : ℕ) (k : Kind) (x : Seen) → length s < 18446744073709551616 → x ≡ seenAt s p at
-    → x ≡ Of k n → Fits w64 (at + 3)
-item-start s p at n k x h e q = record { fits = omega (arith, item-within s p at n k x e q) }
+module _ (s : List ℕ) (at n : ℕ) (datum : Bool) (k : Kind) (x : Seen) (e : x ≡ seenAt s at datum) (q : x ≡ Of k n) where
+  pub item-start : length s < 18446744073709551616 → Fits w64 (at + 3)
+  item-start h = record { fits = omega (arith, item-within s at n datum k x e q) }
 
-pub item-end : (s : List ℕ) (p : Phase) (at n : ℕ) (k : Kind) (x : Seen) → length s < 18446744073709551616 → x ≡ seenAt s p at
-    → x ≡ Of k n → Fits w64 (at + 3 + n)
-item-end s p at n k x h e q = record { fits = omega (arith, item-within s p at n k x e q) }
-
-pub item-falls : (s : List ℕ) (p : Phase) (at n : ℕ) (k : Kind) (x : Seen) → x ≡ seenAt s p at → x ≡ Of k n
-    → length s - (at + 3 + n) < length s - at
-item-falls s p at n k x e q = omega (arith, item-within s p at n k x e q)
+  pub item-room : length s < 18446744073709551616 → at + 3 + n < 18446744073709551616
+  item-room h = omega (arith, item-within s at n datum k x e q)
 
 -- induction over the places of an image, from its end
 by-room : (s : List ℕ) (P : ℕ → Type 0) → ((at : ℕ) → ((m : ℕ) → at < m → m ≤ length s → P m) → P at) → (f at : ℕ)
@@ -175,8 +196,12 @@ by-place s P each at = by-room s P each (suc (length s - at)) at (omega arith)
 abbrev pub stands : ℕ → ℕ → Phase → Bool → Position
 stands at hdr1 p g = record { at = at; hdr1 = hdr1; phase = p; continues = g }
 
+pub position-made : (c : Position) (k : Kind) (n hdr1 : ℕ) (q : Phase) (g : Bool) → hdr1 ≡ firstBehind (c .hdr1) (c .at + 3) k
+    → g ≡ continuesBehind (c .continues) k → stands (c .at + 3 + n) hdr1 q g ≡ after c k n q
+position-made c k n hdr1 q g e f = ap₂ (λ (a : ℕ) (b : Bool). stands (c .at + 3 + n) a q b) e f
+
 -- an item of kind k and n bytes
-pub parts-seen : (s : List ℕ) (c : Position) (n : ℕ) (k : Kind) (x : Seen) → x ≡ seenAt s (c .phase) (c .at) → x ≡ Of k n
+pub parts-seen : (s : List ℕ) (c : Position) (n : ℕ) (k : Kind) (x : Seen) → x ≡ seenIn s (c .phase) (c .at) → x ≡ Of k n
     → partsAt s c
     ≡ partsBy (ledTo (c .continues) (c .phase) k)
     (λ q. onto (partIn (c .continues) (c .hdr1) (c .at + 3) n k) (after c k n q) (partsAt s (after c k n q)))
@@ -203,9 +228,9 @@ unfolding partsFrom ledTo beginsFile partIn onto kindIn isKind ifB
 parts-broken c = by-none (dueAfter (c .phase) other)
 
 -- where no item stands there is no part
-pub parts-unseen : (s : List ℕ) (c : Position) (x : Seen) → x ≡ seenAt s (c .phase) (c .at) → x ≡ Nothing → partsAt s c ≡ []
+pub parts-unseen : (s : List ℕ) (c : Position) (x : Seen) → x ≡ seenIn s (c .phase) (c .at) → x ≡ Nothing → partsAt s c ≡ []
 parts-unseen s c x e q =
-    unseen s (c .phase) (c .at) x e q (λ (xs : List Item). partsFrom c xs ≡ []) (parts-end c) (parts-broken c)
+    unseen s (c .phase) (c .at) x e q (λ (xs : List Item). partsFrom c xs ≡ []) (λ _. parts-end c) (parts-broken c)
 
 -- ---- the search
 
@@ -226,80 +251,65 @@ first-past c d sections blocks (Block a n) ps h = if-false _ _ _ h
 first-past c d sections blocks None ps h = refl
 
 -- what is found from a place on is what is found from the first
-pub record Searching (s : List ℕ) (from : Position) (sections blocks : Bool) (at hdr1 : ℕ) (p : Phase) (g : Bool) : Type 0 where
+pub record Searching (s : List ℕ) (from : Position) (sections blocks : Bool) (c : Position) : Type 0 where
   pub room : length s < 18446744073709551616
-  pub same : firstFrom from sections blocks (partsAt s (stands at hdr1 p g)) ≡ firstFrom from sections blocks (partsAt s from)
+  pub same : firstFrom from sections blocks (partsAt s c) ≡ firstFrom from sections blocks (partsAt s from)
 
 pub search-begun : (s : List ℕ) (from : Position) (sections blocks : Bool) → length s < 18446744073709551616
-    → Searching s from sections blocks (from .at) (from .hdr1) (from .phase) (from .continues)
+    → Searching s from sections blocks from
 search-begun s from sections blocks h = record { room = h; same = refl }
 
-pub search-nothing : (s : List ℕ) (from : Position) (sections blocks : Bool) (at hdr1 : ℕ) (p : Phase) (g : Bool) (x : Seen)
-    → Searching s from sections blocks at hdr1 p g → x ≡ seenAt s p at → x ≡ Nothing
-    → _≡_ {A = PartAt} (record { part = None; behind = from }) (firstFrom from sections blocks (partsAt s from))
-unfolding firstFrom
-search-nothing s from sections blocks at hdr1 p g x c e q =
-    sym (ap (firstFrom from sections blocks) (parts-unseen s (stands at hdr1 p g) x e q)) ∙ c .same
+module _ (s : List ℕ) (from : Position) (sections blocks : Bool) (c : Position) (h : Searching s from sections blocks c)
+    (x : Seen) (e : x ≡ seenIn s (c .phase) (c .at)) where
+  pub search-nothing : x ≡ Nothing
+      → _≡_ {A = PartAt} (record { part = None; behind = from }) (firstFrom from sections blocks (partsAt s from))
+  unfolding firstFrom
+  search-nothing q = sym (ap (firstFrom from sections blocks) (parts-unseen s c x e q)) ∙ h .same
 
-pub search-wrong : (s : List ℕ) (from : Position) (sections blocks : Bool) (at hdr1 n : ℕ) (p : Phase) (g : Bool) (k : Kind)
-    (x : Seen) (d : Due)
-    → Searching s from sections blocks at hdr1 p g → x ≡ seenAt s p at → x ≡ Of k n → d ≡ ledTo g p k → d ≡ Wrong
-    → _≡_ {A = PartAt} (record { part = None; behind = from }) (firstFrom from sections blocks (partsAt s from))
-unfolding firstFrom partsBy
-search-wrong s from sections blocks at hdr1 n p g k x d c e q u w =
-    let here = stands at hdr1 p g in
-    sym (ap (firstFrom from sections blocks)
-    (parts-seen s here n k x e q
-    ∙ ap (λ (y : Due). partsBy y (λ r. onto (partIn g hdr1 (at + 3) n k) (after here k n r) (partsAt s (after here k n r))))
-    (sym u ∙ w)))
-    ∙ c .same
+  module _ (n : ℕ) (k : Kind) (d : Due) (q : x ≡ Of k n) (u : d ≡ ledTo (c .continues) (c .phase) k) where
+    parts-led : (y : Due) → d ≡ y
+        → partsAt s c
+        ≡ partsBy y (λ r. onto (partIn (c .continues) (c .hdr1) (c .at + 3) n k) (after c k n r) (partsAt s (after c k n r)))
+    parts-led y w =
+        parts-seen s c n k x e q
+        ∙ ap (λ (y : Due). partsBy y
+        (λ r. onto (partIn (c .continues) (c .hdr1) (c .at + 3) n k) (after c k n r) (partsAt s (after c k n r)))) (sym u ∙ w)
 
--- an item that leads on
-search-step : (s : List ℕ) (at hdr1 n : ℕ) (p r : Phase) (g : Bool) (k : Kind) (x : Seen) (d : Due) (part′ : Part) (hdr1′ : ℕ)
-    (g′ : Bool)
-    → x ≡ seenAt s p at → x ≡ Of k n → d ≡ ledTo g p k → d ≡ To r → part′ ≡ partIn g hdr1 (at + 3) n k
-    → hdr1′ ≡ firstBehind hdr1 (at + 3) k
-    → g′ ≡ continuesBehind g k
-    → partsAt s (stands at hdr1 p g) ≡ onto part′ (stands (at + 3 + n) hdr1′ r g′) (partsAt s (stands (at + 3 + n) hdr1′ r g′))
-unfolding partsBy
-search-step s at hdr1 n p r g k x d part′ hdr1′ g′ e q u w m i j =
-    let here = stands at hdr1 p g in
-    parts-seen s here n k x e q
-    ∙ ap (λ (y : Due). partsBy y (λ z. onto (partIn g hdr1 (at + 3) n k) (after here k n z) (partsAt s (after here k n z))))
-    (sym u ∙ w)
-    ∙ (λ z. onto (sym m z) (stands (at + 3 + n) (sym i z) r (sym j z)) (partsAt s (stands (at + 3 + n) (sym i z) r (sym j z))))
+    pub search-wrong : d ≡ Wrong
+        → _≡_ {A = PartAt} (record { part = None; behind = from }) (firstFrom from sections blocks (partsAt s from))
+    unfolding firstFrom partsBy
+    search-wrong w = sym (ap (firstFrom from sections blocks) (parts-led Wrong w)) ∙ h .same
 
-pub search-found : (s : List ℕ) (from : Position) (sections blocks : Bool) (at hdr1 n : ℕ) (p r : Phase) (g : Bool) (k : Kind)
-    (x : Seen) (d : Due) (part′ : Part) (hdr1′ : ℕ)
-    (g′ b : Bool) → Searching s from sections blocks at hdr1 p g → x ≡ seenAt s p at → x ≡ Of k n → d ≡ ledTo g p k → d ≡ To r
-    → part′ ≡ partIn g hdr1 (at + 3) n k → hdr1′ ≡ firstBehind hdr1 (at + 3) k → g′ ≡ continuesBehind g k
-    → b ≡ isWanted sections blocks part′ → b ≡ true
-    → _≡_ {A = PartAt} (record { part = part′; behind = record { at = at + 3 + n; hdr1 = hdr1′; phase = r; continues = g′ } })
-    (firstFrom from sections blocks (partsAt s from))
-search-found s from sections blocks at hdr1 n p r g k x d part′ hdr1′ g′ b c e q u w m i j f t =
-    sym (ap (firstFrom from sections blocks) (search-step s at hdr1 n p r g k x d part′ hdr1′ g′ e q u w m i j)
-    ∙ first-onto from (stands (at + 3 + n) hdr1′ r g′) sections blocks part′ (partsAt s (stands (at + 3 + n) hdr1′ r g′))
-    (sym f ∙ t))
-    ∙ c .same
+    -- an item that leads on
+    module _ (r : Phase) (w : d ≡ To r) (p : Part) (m : p ≡ partIn (c .continues) (c .hdr1) (c .at + 3) n k)
+        (a : Position) (i : a ≡ after c k n r) (b : Bool) (f : b ≡ isWanted sections blocks p) where
+      search-step : partsAt s c ≡ onto p a (partsAt s a)
+      unfolding partsBy
+      search-step = parts-led (To r) w ∙ (λ z. onto (sym m z) (sym i z) (partsAt s (sym i z)))
 
-pub search-more : (s : List ℕ) (from : Position) (sections blocks : Bool) (at hdr1 n : ℕ) (p r : Phase) (g : Bool) (k : Kind)
-    (x : Seen) (d : Due) (part′ : Part) (hdr1′ : ℕ)
-    (g′ b : Bool) → Searching s from sections blocks at hdr1 p g → x ≡ seenAt s p at → x ≡ Of k n → d ≡ ledTo g p k → d ≡ To r
-    → part′ ≡ partIn g hdr1 (at + 3) n k → hdr1′ ≡ firstBehind hdr1 (at + 3) k → g′ ≡ continuesBehind g k
-    → b ≡ isWanted sections blocks part′ → b ≡ false
-    → Searching s from sections blocks (at + 3 + n) hdr1′ r g′
-search-more s from sections blocks at hdr1 n p r g k x d part′ hdr1′ g′ b c e q u w m i j f t =
-    record {
-      room = c .room;
-      same =
-          sym (ap (firstFrom from sections blocks) (search-step s at hdr1 n p r g k x d part′ hdr1′ g′ e q u w m i j)
-          ∙ first-past from (stands (at + 3 + n) hdr1′ r g′) sections blocks part′ (partsAt s (stands (at + 3 + n) hdr1′ r g′))
-          (sym f ∙ t))
-          ∙ c .same;
-    }
+      pub search-found : b ≡ true
+          → _≡_ {A = PartAt} (record { part = p; behind = a }) (firstFrom from sections blocks (partsAt s from))
+      search-found t =
+          sym (ap (firstFrom from sections blocks) search-step ∙ first-onto from a sections blocks p (partsAt s a) (sym f ∙ t))
+          ∙ h .same
+
+      pub search-more : b ≡ false → Searching s from sections blocks a
+      search-more t =
+          record {
+            room = h .room;
+            same =
+                sym (ap (firstFrom from sections blocks) search-step
+                ∙ first-past from a sections blocks p (partsAt s a) (sym f ∙ t)) ∙ h .same;
+          }
+
+pub search-falls : (s : List ℕ) (c : Position) (n : ℕ) (k : Kind) (r : Phase) (x : Seen) (a : Position)
+    → x ≡ seenIn s (c .phase) (c .at) → x ≡ Of k n → a ≡ after c k n r → length s - a .at < length s - c .at
+search-falls s c n k r x a e q i =
+    let w = item-within s (c .at) n (isDue (dueAfter (c .phase) dataBlock)) k x e q in
+    subst (λ (b : Position). length s - b .at < length s - c .at) (sym i) (omega arith)
 
 pub ruleset searchings =
-    (search-begun, search-nothing, search-wrong, search-found, search-more, item-start, item-end, item-falls, item-within, needs)
+    (search-begun, search-nothing, search-wrong, search-found, search-more, search-falls, item-start, item-room, needs)
 
 -- which parts are looked for
 pub wants-file : (sections blocks : Bool) (p : Part) (a b : ℕ) → p ≡ File a b → true ≡ isWanted sections blocks p
@@ -392,7 +402,7 @@ first-ahead s sections blocks at = by-place s P each at
     P i = (hdr1 : ℕ) (p : Phase) (g : Bool) → IsAhead s i (first (stands i hdr1 p g))
 
     each : (i : ℕ) → ((m : ℕ) → i < m → m ≤ length s → P m) → P i
-    each i again hdr1 p g = by-seen (seenAt s p i) refl
+    each i again hdr1 p g = by-seen (seenIn s p i) refl
       where
         c : Position
         c = stands i hdr1 p g
@@ -400,7 +410,7 @@ first-ahead s sections blocks at = by-place s P each at
         nothing : partsAt s c ≡ [] → IsAhead s i (first c)
         nothing e = subst (λ (ps : List PartAt). IsAhead s i (firstIn sections blocks (map (λ (q : PartAt). q .part) ps))) (sym e) (unfold firstIn in tt)
 
-        by-seen : (x : Seen) → x ≡ seenAt s p i → IsAhead s i (first c)
+        by-seen : (x : Seen) → x ≡ seenIn s p i → IsAhead s i (first c)
         by-seen Nothing e = nothing (parts-unseen s c Nothing e refl)
         by-seen (Of k n) e = by-due (ledTo g p k) refl
           where

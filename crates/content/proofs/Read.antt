@@ -58,7 +58,7 @@ pub record Marked (s : List ℕ) (ps : List Part) (m : ℕ) : Type 0 where
   pub fits : m ≤ length s
   pub follows : Follows s (fileIn s ps) m
 
--- a file with its first HDR1 and HDR2 at places a and b, and the parts stateBehind it
+-- a file with its first HDR1 and HDR2 at places a and b, and the parts behind it
 pub record FileRead (s : List ℕ) (a b : ℕ) (first second : List ℕ) (ps : List Part) : Type 0 where
   pub hdr1 : part a 80 s ≡ first
   pub hdr2 : part b 80 s ≡ second
@@ -68,7 +68,7 @@ pub record FileRead (s : List ℕ) (a b : ℕ) (first second : List ℕ) (ps : L
   pub body : Marked s ps (markFrom (b + 80) (decode (drop (b + 80) s)))
   pub next : fileIn s ps ≡ nextFile s a b
 
--- a data block without fault in a section with this HDR2, with q open, and the parts stateBehind it
+-- a data block without fault in a section with this HDR2, with q open, and the parts behind it
 pub record BlockRead (s second : List ℕ) (q start n : ℕ) (ps : List Part) : Type 0 where
   pub some : valueOf (recordLengthOf second) ≡ 0 → ⊥
   pub within : start + n ≤ length s
@@ -116,7 +116,7 @@ label-here : (s : List ℕ) (at : ℕ) (x : Item) (xs : List Item) → ItemStand
     → part (at + 3) 80 s ≡ bytesIn x
 label-here s at x xs c h = ap (λ (n : ℕ). part (at + 3) n s) (sym h) ∙ sym (c .bytes)
 
--- stateBehind an item, the last HDR1 is again at the place that is kept
+-- behind an item, the last HDR1 is again at the place that is kept
 first-step : (s : List ℕ) (t : State) (p : Phase) (first at : ℕ) (x : Item) (xs : List Item) → ItemStands s at x xs
     → part first 80 s ≡ t .hdr1
     → part (firstBehind first (at + 3) (kindIn p x)) 80 s ≡ hdr1After t (kindIn p x) (bytesIn x)
@@ -297,7 +297,7 @@ read-second s false p r at hdr1 first second q x xs es c o e d idle f m here lon
         subst (λ (y : Phase). Read s (bytesIn x) 0 (parts (stands (placeBehind at x) hdr1 y false) xs) es) r2
         (subst (λ (j : ℕ). Read s (bytesIn x) j (parts (stands (placeBehind at x) hdr1 r false) xs) es) (idle refl) h)
 
-    -- the place stateBehind it
+    -- the place behind it
     behind-at : placeBehind at x ≡ at + 3 + 80
     behind-at = unfold placeBehind in ap (λ (n : ℕ). at + 3 + n) eighty
 

@@ -22,12 +22,12 @@ use Rattle.order.proofs.Moves.{Stage, stage, before, named, within, fileOver, r
 use Rattle.volume.specs.Step.{kindIn, bytesIn}
 use Rattle.reading.proofs.Stages.{isOpen}
 use Rattle.content.specs.Part.{placeBehind, beginsFile, ledTo, continuesBehind, firstBehind, after, partIn, onto, partsBy, partsFrom, parts, isWanted, firstIn}
-use Rattle.content.specs.code.Seen.{seenAt}
+use Rattle.content.specs.code.Seen.{seenIn}
 use Rattle.content.specs.Section.{asBlock, blockIn, dataFrom}
 use Rattle.content.specs.File.{fileIn}
 use Rattle.content.specs.declared.NextFile.{NextFile}
-use Rattle.content.specs.declared.part.Seen.{Seen}
-use Rattle.content.specs.declared.part.Seen.the-variants.{Item as Of, Nothing}
+use Rattle.content.specs.declared.items.Seen.{Seen}
+use Rattle.content.specs.declared.items.Seen.the-variants.{Item as Of, Nothing}
 use Rattle.content.specs.declared.part.Position.{Position}
 use Rattle.content.specs.declared.part.Part.{Part}
 use Rattle.content.specs.declared.part.Part.the-variants.{File, Section, Block}
@@ -47,12 +47,12 @@ pub record ItemStands (s : List ℕ) (at : ℕ) (x : Item) (xs : List Item) : Ty
 pub item-at : (s : List ℕ) (at : ℕ) (x : Item) (xs : List Item) → decode (drop at s) ≡ x ∷ xs → isItem x ≡ true
     → ItemStands s at x xs
 unfolding placeBehind isItem
-item-at s at x xs h good = by-seen (seenAt s Data at) refl
+item-at s at x xs h good = by-seen (seenIn s Data at) refl
   where
-    by-seen : (y : Seen) → y ≡ seenAt s Data at → ItemStands s at x xs
+    by-seen : (y : Seen) → y ≡ seenIn s Data at → ItemStands s at x xs
     by-seen Nothing e =
         unseen s Data at Nothing e refl (λ (ys : List Item). ys ≡ x ∷ xs → ItemStands s at x xs)
-        (λ q. let z : _≡_ {A = ℕ} 0 1 = cc in absurd (omega arith))
+        (λ _ q. let z : _≡_ {A = ℕ} 0 1 = cc in absurd (omega arith))
         (λ q. let b : x ≡ broken = cc in absurd (false≢true (subst (λ (y : Item). isItem y ≡ true) b good))) h
     by-seen (Of k n) e =
         let c = sees s Data at n k (Of k n) e refl in

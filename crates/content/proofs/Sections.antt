@@ -5,7 +5,7 @@ use mathlib.Core.List.{List, map}
 use Prim.Native.Nat.{ℕ, _+_}
 use borrow.Author.Needs.{needs}
 use lib.ListN.{drop}
-use Rattle.image.specs.Item.{block, shape, decode}
+use Rattle.image.specs.Item.{shape, decode}
 use Rattle.image.specs.declared.Shape.{Shape}
 use Rattle.image.specs.declared.Shape.the-variants.{Block as Bytes}
 use Rattle.order.specs.Kind.{dataBlock, isKind}
@@ -13,17 +13,17 @@ use Rattle.order.specs.Due.{dues, choose, dueAfter}
 use Rattle.order.specs.declared.Phase.{Phase}
 use Rattle.order.specs.declared.Phase.the-variants.{Data}
 use Rattle.base.specs.If.{ifB}
-use Rattle.volume.specs.Step.{isDue, kindIn}
+use Rattle.volume.specs.Step.{isDue}
 use Rattle.content.specs.Part.{beginsFile, ledTo, partIn, onto, partsBy, partsAt, isWanted, firstIn, firstFrom}
-use Rattle.content.specs.code.Seen.{seenAt}
+use Rattle.content.specs.code.Seen.{seenIn}
 use Rattle.content.specs.Section.{inFile, asBlock, blockIn, dataFrom}
 use Rattle.content.specs.declared.part.Part.{Part}
 use Rattle.content.specs.declared.part.Part.the-variants.{File, Section, Block, None}
 use Rattle.content.specs.declared.part.PartAt.{PartAt}
-use Rattle.content.specs.declared.part.Seen.the-variants.{Item as Of}
+use Rattle.content.specs.declared.items.Seen.the-variants.{Item as Of}
 use Rattle.content.specs.declared.section.Extent.{Extent}
 use Rattle.content.specs.declared.section.Extent.the-variants.{At, Nowhere}
-use Rattle.content.proofs.Parts.{seen-block, start-fits, parts-seen, found-part, BlockAhead, IsAhead, first-ahead}
+use Rattle.content.proofs.Parts.{seen-data, start-fits, parts-seen, found-part, BlockAhead, IsAhead, first-ahead}
 
 -- what the search finds
 pub data-found : (s : List ℕ) (at : ℕ) (r : PartAt) (p : Part) (x : Extent)
@@ -51,16 +51,11 @@ as-none p e = sym (ap asBlock e)
 
 pub ruleset blocks = (as-file, as-section, as-block, as-none, needs)
 
--- among the data, a block is data
-block-kind : (l : List ℕ) → kindIn Data (block l) ≡ dataBlock
-unfolding kindIn isDue dueAfter dues choose isKind ifB
-block-kind l = refl
-
 pub data-first : (s : List ℕ) (from n : ℕ) (q : Shape) → q ≡ shape (drop from s) → q ≡ Bytes n
     → At (from + 3) n ≡ dataFrom Data from (decode (drop from s))
-unfolding dataFrom blockIn asBlock firstIn isWanted onto partsBy partIn ledTo beginsFile dueAfter dues choose isKind ifB
+unfolding dataFrom blockIn asBlock firstIn isWanted onto partsBy partIn ledTo beginsFile isDue dueAfter dues choose isKind ifB
 data-first s from n q e b =
-    let seen : Of dataBlock n ≡ seenAt s Data from = seen-block s Data from n q dataBlock e b (sym (block-kind _)) in
+    let seen : Of dataBlock n ≡ seenIn s Data from = seen-data s from true q e n (Of dataBlock n) b refl refl in
     sym (ap (λ (ps : List PartAt). asBlock (firstIn false true (map (λ (p : PartAt). p .part) ps)))
     (parts-seen s (inFile Data from) n dataBlock (Of dataBlock n) seen refl))
 

@@ -2,7 +2,8 @@
 // and no fault.
 ghost use mathlib.Core.Path.{_≡_};
 ghost use Prim.Native.Nat.{_+_, _<_};
-ghost use Rattle.content.specs.Items.{itemOf, kindAmong, restAt, itemAt};
+ghost use Rattle.order.specs.Kind.{kind};
+ghost use Rattle.content.specs.Items.{seenAt, itemOf, restAt, itemAt};
 use image::Shape;
 use image::shape_at;
 use order::AMONG_DATA;
@@ -16,6 +17,12 @@ use order::group_after;
 // The family of what is no item: its length is none, or the image ends within it.
 pub const TORN: u32 = 12;
 
+// What stands at a place: a kind of item and the number of its bytes, or nothing that is an item.
+pub enum Seen {
+    Item(Kind, usize),
+    Nothing,
+}
+
 // An item: its kind by family and number, the group in which the next one stands, the place and the number of its bytes, and the
 // place behind it.
 #[repr(C)]
@@ -26,6 +33,32 @@ pub struct ItemAt {
     pub start: usize,
     pub len: usize,
     pub behind: usize,
+}
+
+// An item of n bytes, of a family without numbers.
+fn unnumbered(family: u32, n: usize) -> Seen
+    ensures { λ r. ⌜ r ≡ Seen.Item (kind family 0) n ⌝ }
+{
+    Seen::Item(Kind { family, number: 0 }, n)
+}
+
+// What stands at a place, where a block is data or else a label.
+pub(crate) fn seen_at(image: &[u8], at: usize, datum: bool) -> Seen
+    ensures { λ r. ⌜ r ≡ seenAt (now (image .entry)) at datum ⌝ }
+{
+    match shape_at(image, at) {
+        Shape::Block(n) => {
+            if datum {
+                return unnumbered(DATA_BLOCK, n);
+            }
+            let start = at + 3;
+            let end = start + n;
+            Seen::Item(label::kind(&image[start..end]), n)
+        }
+        Shape::Mark => unnumbered(TAPE_MARK, 0),
+        Shape::ReelEnd => unnumbered(END_OF_REEL, 0),
+        Shape::Broken => Seen::Nothing,
+    }
 }
 
 // An item of kind k in a group, with len bytes from `start` on.
@@ -43,32 +76,16 @@ fn item_of(group: u32, k: Kind, start: usize, len: usize) -> ItemAt
     }
 }
 
-// An item without bytes.
-fn bare_item(group: u32, family: u32, start: usize) -> ItemAt
-    ensures { λ r. ⌜ r ≡ itemOf group (record { family = family; number = 0 }) start 0 ⌝ }
-{
-    item_of(group, Kind { family, number: 0 }, start, 0)
-}
-
-// What a block is in a group: among data blocks data, else a label.
-fn kind_among(group: u32, l: &[u8]) -> Kind
-    ensures { λ r. ⌜ r ≡ kindAmong group (now (l .entry)) ⌝ }
-{
-    if group == AMONG_DATA {
-        return Kind {
-            family: DATA_BLOCK,
-            number: 0,
-        };
-    }
-    label::kind(l)
-}
-
 // Where no item is: the end of the image, or all that is left of it.
 fn rest_at(image: &[u8], group: u32, at: usize) -> ItemAt
     ensures { λ r. ⌜ r ≡ restAt (now (image .entry)) group at ⌝ }
 {
     if image.len() <= at {
-        return bare_item(group, END_OF_IMAGE, at);
+        let k = Kind {
+            family: END_OF_IMAGE,
+            number: 0,
+        };
+        return item_of(group, k, at, 0);
     }
     let k = Kind {
         family: TORN,
@@ -77,18 +94,12 @@ fn rest_at(image: &[u8], group: u32, at: usize) -> ItemAt
     item_of(group, k, at, image.len() - at)
 }
 
-// What stands at a place, in a group: any place and any group.
+// What stands at a place, in a group: any place and any group. Among data blocks a block is data.
 pub fn item_at(image: &[u8], at: usize, group: u32) -> ItemAt
     ensures { λ r. ⌜ r ≡ itemAt (now (image .entry)) at group ⌝ }
 {
-    match shape_at(image, at) {
-        Shape::Block(n) => {
-            let start = at + 3;
-            let end = start + n;
-            item_of(group, kind_among(group, &image[start..end]), start, n)
-        }
-        Shape::Mark => bare_item(group, TAPE_MARK, at + 3),
-        Shape::ReelEnd => bare_item(group, END_OF_REEL, at + 3),
-        Shape::Broken => rest_at(image, group, at),
+    match seen_at(image, at, group == AMONG_DATA) {
+        Seen::Item(k, n) => item_of(group, k, at + 3, n),
+        Seen::Nothing => rest_at(image, group, at),
     }
 }

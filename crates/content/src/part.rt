@@ -1,28 +1,20 @@
 // The parts of an image, one after the other: the one search over its items, whatever its bytes. It knows the order of a reel and
 // the kinds of labels.
 ghost use mathlib.Core.Path.{_≡_};
-ghost use Rattle.content.specs.Part.{beginsFile, ledTo, continuesBehind, firstBehind, partIn, partsAt, isWanted, firstFrom, nextPart};
-ghost use Rattle.content.specs.code.Seen.{seenAt};
-use image::Shape;
-use image::shape_at;
+ghost use Prim.Native.Nat.{_+_, _<_};
+ghost use Rattle.content.specs.Part.{beginsFile, ledTo, continuesBehind, firstBehind, after, partIn, partsAt, isWanted, firstFrom, nextPart};
+ghost use Rattle.content.specs.code.Seen.{seenIn};
+use crate::items::Seen;
+use crate::items::seen_at;
 use order::DATA_BLOCK;
 use order::Due;
-use order::END_OF_REEL;
 use order::EOF;
 use order::EOV;
 use order::HDR;
 use order::Kind;
 use order::Phase;
-use order::TAPE_MARK;
 use order::due_after;
 use order::is;
-use volume::kind_in;
-
-// What stands at a place: a kind of item and the number of its bytes, or nothing that is an item.
-pub enum Seen {
-    Item(Kind, usize),
-    Nothing,
-}
 
 // What a search has to know to go on: the place between two items, the place of the last HDR1, what is due there, and whether the
 // next HDR1 goes on with a file.
@@ -48,31 +40,17 @@ pub struct PartAt {
     pub behind: Position,
 }
 
-// What stands at a place, in that phase.
-fn seen_at(image: &[u8], phase: Phase, at: usize) -> Seen
-    ensures { λ r. ⌜ r ≡ seenAt (now (image .entry)) phase at ⌝ }
+// What stands at a place, in that phase: where data is due, a block is data.
+fn seen_in(image: &[u8], phase: Phase, at: usize) -> Seen
+    ensures { λ r. ⌜ r ≡ seenIn (now (image .entry)) phase at ⌝ }
 {
-    match shape_at(image, at) {
-        Shape::Block(n) => {
-            let start = at + 3;
-            let end = start + n;
-            Seen::Item(kind_in(phase, &image[start..end]), n)
-        }
-        Shape::Mark => Seen::Item(
-            Kind {
-                family: TAPE_MARK,
-                number: 0,
-            },
-            0,
-        ),
-        Shape::ReelEnd => Seen::Item(
-            Kind {
-                family: END_OF_REEL,
-                number: 0,
-            },
-            0,
-        ),
-        Shape::Broken => Seen::Nothing,
+    let k = Kind {
+        family: DATA_BLOCK,
+        number: 0,
+    };
+    match due_after(phase, k) {
+        Due::Wrong => seen_at(image, at, false),
+        Due::To(_) => seen_at(image, at, true),
     }
 }
 
@@ -147,23 +125,35 @@ fn is_wanted(sections: bool, blocks: bool, part: Part) -> bool
     }
 }
 
+// The place behind an item of kind k and n bytes that leads to phase q.
+fn position_behind(c: Position, k: Kind, n: usize, q: Phase) -> Position
+    requires { ⌜ c .at + 3 + n < 18446744073709551616 ⌝ }
+    ensures { λ r. ⌜ r ≡ after c k n q ⌝ }
+{
+    let start = c.at + 3;
+    Position {
+        at: start + n,
+        hdr1: first_behind(c.hdr1, start, k),
+        phase: q,
+        continues: continues_behind(c.continues, k),
+    }
+}
+
 // The first file from a place on, or section or block where they are looked for.
 pub(crate) fn search(image: &[u8], from: Position, sections: bool, blocks: bool) -> PartAt
     ensures { λ r. ⌜ r ≡ firstFrom from sections blocks (partsAt (now (image .entry)) from) ⌝ }
 {
-    let mut at = from.at;
-    let mut hdr1 = from.hdr1;
-    let mut phase = from.phase;
-    let mut continues = from.continues;
+    let mut here = from;
     loop {
-        match seen_at(image, phase, at) {
+        let phase = here.phase;
+        match seen_in(image, phase, here.at) {
             Seen::Nothing => {
                 return PartAt {
                     part: Part::None,
                     behind: from,
                 }
             }
-            Seen::Item(k, n) => match led_to(continues, phase, k) {
+            Seen::Item(k, n) => match led_to(here.continues, phase, k) {
                 Due::Wrong => {
                     return PartAt {
                         part: Part::None,
@@ -171,22 +161,10 @@ pub(crate) fn search(image: &[u8], from: Position, sections: bool, blocks: bool)
                     }
                 }
                 Due::To(q) => {
-                    let start = at + 3;
-                    let part = part_in(continues, hdr1, start, n, k);
-                    hdr1 = first_behind(hdr1, start, k);
-                    continues = continues_behind(continues, k);
-                    phase = q;
-                    at = start + n;
+                    let part = part_in(here.continues, here.hdr1, here.at + 3, n, k);
+                    here = position_behind(here, k, n, q);
                     if is_wanted(sections, blocks, part) {
-                        return PartAt {
-                            part,
-                            behind: Position {
-                                at,
-                                hdr1,
-                                phase,
-                                continues,
-                            },
-                        };
+                        return PartAt { part, behind: here };
                     }
                 }
             },
