@@ -14,11 +14,14 @@ use Rattle.base.specs.If.{ifB}
 use Rattle.base.proofs.Ifs.{if-true, if-false}
 use Rattle.base.specs.Part.{part}
 use Rattle.base.proofs.Parts.{length-part}
+use Rattle.charset.specs.declared.Number.{Number}
 use Rattle.image.specs.Item.{Item, shape, decode}
 use Rattle.image.specs.declared.Shape.{Shape}
 use Rattle.image.specs.declared.Shape.the-variants.{Block as Bytes, Mark, ReelEnd, Broken}
 use Rattle.image.proofs.Items.{block-within, mark-within, reel-end-within, decode-block, decode-mark, decode-reel-end, decode-broken, decode-past}
 use Rattle.order.specs.declared.Phase.the-variants.{Reel, Header, Data}
+use Rattle.label.specs.Field.{formatOf, recordLengthOf, offsetOf}
+use Rattle.volume.specs.Fault.{valueOf}
 use Rattle.volume.specs.Step.{bytesIn}
 use Rattle.content.specs.Part.{placeBehind, partsFrom, partsAt, parts, firstIn, firstFrom}
 use Rattle.content.specs.File.{markFrom, walkFrom, fileAt, asFile, fileIn, fileFrom, firstFile, nextFile, fileBehind, fromFile, filesOn, fileNumbered}
@@ -87,6 +90,11 @@ pub ruleset markings =
     (marking-none, marking-block, marking-mark, marking-reel-end, marking-broken, mark-fits, start-fits, end-fits, block-falls, needs)
 
 -- ---- up to a file
+
+pub walk-made : (f n o at : ℕ) (x y : Number) (l : List ℕ) → f ≡ formatOf l → n ≡ valueOf x → x ≡ recordLengthOf l → o ≡ valueOf y
+    → y ≡ offsetOf l
+    → _≡_ {A = Walk} (record { format = f; size = n; offset = o; at = at; left = 0 }) (walkFrom l at)
+walk-made f n o at x y l e g h i j = cc
 
 pub file-made : (s : List ℕ) (hdr1 hdr2 m : ℕ) (l : List ℕ) (w : Walk) → l ≡ part hdr2 80 s
     → m ≡ markFrom (hdr2 + 80) (decode (drop (hdr2 + 80) s)) → w ≡ walkFrom l m

@@ -1,4 +1,3 @@
-mod Composed
 pub mod Cases
 pub mod Parts
 pub mod Sections
@@ -19,5 +18,4 @@ pub mod Phases
 pub mod Read
 pub mod Walked
 pub mod Records
-pub mod Unsplit
 pub mod Shown

@@ -12,7 +12,7 @@ use lib.ListN.{length, length-append}
 use Rattle.base.proofs.Ifs.{if-true, if-false}
 use Rattle.base.specs.Part.{part}
 use Rattle.base.proofs.Parts.{length-part}
-use Rattle.content.specs.Walk.{isInside, unitNext, unitFrom, Rest, ends, fails, before, restBy, restAt, whole, nothing, splitBy, begunBy, recordAt}
+use Rattle.content.specs.Walk.{isInside, unitNext, unitFrom, Rest, ends, fails, before, restBy, restAt, whole, splitBy, begunBy, recordAt}
 use Rattle.content.specs.code.Heads.{Inside}
 use Rattle.content.specs.Measure.{measuredBy}
 use Rattle.content.specs.code.Joining.{tailBy, longer}

@@ -10,7 +10,7 @@ use lib.Dec.{eqb}
 use lib.ListN.{length, take, drop}
 use lib.Seq.{drop-length}
 use Rattle.base.specs.If.{ifB}
-use Rattle.base.proofs.Ifs.{if-true, if-false, and-first}
+use Rattle.base.proofs.Ifs.{if-false, and-first}
 use Rattle.base.specs.Part.{part}
 use Rattle.base.specs.Answer.{fault}
 use Rattle.image.specs.Item.{Item, block, mark, reelEnd, broken, decode}
@@ -40,7 +40,7 @@ use Rattle.reading.proofs.Steps.{view-quiet, label-none, context-none}
 use Rattle.reading.proofs.Legality.{header-long, Kept, kept-start, kept-step, image-end}
 use Rattle.content.specs.Part.{placeBehind, continuesBehind, firstBehind, after, partsFrom, parts, firstIn}
 use Rattle.content.specs.Section.{asBlock, blockIn, dataFrom}
-use Rattle.content.specs.File.{markFrom, walkFrom, fileAt, asFile, fileIn, fileFrom, nextFile}
+use Rattle.content.specs.File.{markFrom, walkFrom, asFile, fileIn, fileFrom, nextFile}
 use Rattle.content.specs.declared.NextFile.{NextFile}
 use Rattle.content.specs.declared.part.Part.{Part}
 use Rattle.content.specs.declared.part.Part.the-variants.{File, Section, Block}

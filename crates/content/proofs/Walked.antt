@@ -41,7 +41,6 @@ use Rattle.content.specs.declared.part.Part.the-variants.{File as NewFil
 use Rattle.content.specs.declared.section.Extent.{Extent}
 use Rattle.content.specs.declared.section.Extent.the-variants.{At as Block, Nowhere}
 use Rattle.content.specs.declared.unit.Place.{Place}
-use Rattle.content.proofs.Parts.{stands}
 use Rattle.content.proofs.Searches.{Follows, Leads}
 use Rattle.content.proofs.Records.{walks-end}
 use Rattle.content.proofs.Blocks.{Hands, block-hands, next-walks}

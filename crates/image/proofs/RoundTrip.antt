@@ -5,11 +5,9 @@ use mathlib.Core.Bool.{true, false, false≢true}
 use mathlib.Core.List.{List, [], _∷_, _++_, append-assoc}
 use Prim.Native.Nat.{ℕ, zero, suc, _+_, _*_, _/_, _%_, _≤_, _<_}
 use native.Mathlib.Omega.{arith}
-use mir.Syntax.{w8}
-use mir.Val.{Fits}
 use borrow.Author.Tests.{ne-eqb, le-leb, le-ltb, leb-true}
 use lib.Dec.{leb}
-use lib.ListN.{length, take, drop, getD, length-append, take-append-drop}
+use lib.ListN.{length, take, drop, length-append, take-append-drop}
 use lib.Seq.{drop-drop, getD-drop, take-append-seam, drop-append-seam}
 use Rattle.base.proofs.Ifs.{if-true, if-false, and-first, and-second}
 use Rattle.base.specs.Part.{part}
@@ -26,10 +24,6 @@ use Rattle.image.proofs.Frames.{framing-zero, framing-items}
 use Rattle.image.proofs.Items.{left-less, decode-more, BlockAt, WordAt, block-at, mark-at, reel-end-at}
 
 -- ---- lists of bytes
-
--- what the rule for a slice of bytes hands over
-pub bytes-given : (s : List ℕ) → ((i : ℕ) → Fits w8 (getD s i 0)) → Bytes s
-bytes-given s f = λ i. f i .fits
 
 -- behind some bytes are bytes
 pub bytes-drop : (n : ℕ) (s : List ℕ) → Bytes s → Bytes (drop n s)

@@ -7,7 +7,7 @@ use lib.ListN.{length, take, drop, replicate, length-append, length-replicate}
 use lib.Seq.{take-at, length-take-le, drop-append-add}
 use Rattle.base.specs.Part.{part, putAt}
 use Rattle.label.specs.Made.{fitted, laid}
-use Rattle.label.specs.Table.{placeOf, widthOf, vol1, hdr1, trailer1, hdr2, user}
+use Rattle.label.specs.Table.{placeOf, widthOf, vol1, hdr1, hdr2}
 use Rattle.base.proofs.Put.{put-front, put-behind}
 
 -- ---- the rows of a table
@@ -120,15 +120,7 @@ pub eighty-hdr1 : widths hdr1 ≡ 80
 unfolding widths
 eighty-hdr1 = refl
 
-pub eighty-trailer1 : widths trailer1 ≡ 80
-unfolding widths
-eighty-trailer1 = refl
-
 -- those of HDR2 too
 pub eighty-hdr2 : widths hdr2 ≡ 80
 unfolding widths
 eighty-hdr2 = refl
-
-pub eighty-user : widths user ≡ 80
-unfolding widths
-eighty-user = refl

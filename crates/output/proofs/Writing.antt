@@ -7,12 +7,11 @@ use borrow.Author.Needs.{needs}
 use borrow.Author.Tests.{le-leb, lt-ltb, le-ltb}
 use lib.Dec.{ltb}
 use lib.ListN.{length, length-append}
-use Rattle.base.specs.If.{ifB}
 use Rattle.base.proofs.Ifs.{if-true, if-false, if-case}
 use Rattle.base.specs.Part.{putAt, putIn}
 use Rattle.base.specs.Digits.{digits}
 use Rattle.base.proofs.Parts.{put-put}
-use Rattle.base.proofs.Copies.{put-in, length-put-in}
+use Rattle.base.proofs.Copies.{length-put-in}
 use Rattle.output.specs.Output.{Wrote, Put, putBelow, refused, refusalOf, Answers}
 
 -- ---- digits, side by side
@@ -225,8 +224,6 @@ wrote-four o a w p r x q s y t u z v b i j k l =
 pub wrote-same : {most : ℕ} (o : List ℕ) (a : ℕ) (bs cs p : List ℕ) (r : ℕ) → bs ≡ cs → Wrote most o a bs p r
     → Wrote most o a cs p r
 wrote-same {most = most} o a bs cs p r e w = subst (λ (s : List ℕ). Wrote most o a s p r) e w
-
-pub ruleset sames = (wrote-same, needs)
 
 -- ---- a refusal
 

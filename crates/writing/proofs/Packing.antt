@@ -203,10 +203,6 @@ enough (suc k) (suc j) f b (going t x xs) r h m =
     ap (λ (l : List (List ℕ)). fill f b 0 t x xs ∷ l)
     (enough k j f b (after f b 0 t x xs) (after-room f b t x xs r) (omega arith) (omega arith))
 
-pub blocks-finished : (f b : ℕ) → blocksLeft f b finished ≡ []
-unfolding blocksLeft blocksF weight
-blocks-finished f b = refl
-
 -- the blocks of what is left: one that is filled, and those behind it
 pub blocks-going : (f b t : ℕ) (x : List ℕ) (xs : List (List ℕ)) → RoomEach f b (x ∷ xs)
     → blocksLeft f b (going t x xs) ≡ fill f b 0 t x xs ∷ blocksLeft f b (after f b 0 t x xs)

@@ -1,4 +1,4 @@
-use Rattle.content.proofs.Composed.{composed}
+use Rattle.content.proofs.Files.{walk-made}
 use Rattle.base.proofs.Rules.{ifs}
 use Rattle.content.proofs.file.walk_from.Statement.{statement}
 use Rattle.content.proofs.file.walk_from.Tie as tie
@@ -25,7 +25,7 @@ cast-t9 : tie.Need-cast-t9
 cast-t9 c = search ifs
 
 returns : tie.Need-returns
-returns c = search composed
+returns c = search walk-made
 
 pub walk-from-spec : {M : Type 1} → statement M
 walk-from-spec =
