@@ -8,4 +8,5 @@ pub mod Loops
 pub mod Turns
 pub mod Blocks
 pub mod Helds
+pub mod Counts
 pub mod Rooms

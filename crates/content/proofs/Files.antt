@@ -32,7 +32,8 @@ use Rattle.content.specs.declared.part.PartAt.{PartAt}
 use Rattle.content.specs.declared.FileAt.{FileAt}
 use Rattle.content.specs.declared.NextFile.{NextFile}
 use Rattle.content.specs.declared.NextFile.the-variants.{At, Nowhere}
-use Rattle.content.proofs.Parts.{start-fits, end-fits, stands, found-part, IsAhead, first-ahead}
+use Rattle.content.proofs.Places.{start-fits, end-fits}
+use Rattle.content.proofs.Parts.{stands, found-part, IsAhead, first-ahead}
 use Rattle.content.proofs.Cases.{said}
 
 -- ---- up to the mark

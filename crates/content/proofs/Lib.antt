@@ -1,4 +1,5 @@
 pub mod Cases
+pub mod Places
 pub mod Parts
 pub mod Sections
 pub mod Searches
@@ -9,13 +10,18 @@ pub mod Wholes
 pub mod Segments
 pub mod Joins
 pub mod Stepping
+pub mod Pairs
 pub mod Rows
 pub mod Files
 pub mod Founds
+pub mod Cutting
+pub mod Onward
 pub mod Blocks
 pub mod Helds
+pub mod Counted
 pub mod Phases
 pub mod Read
 pub mod Walked
 pub mod Records
+pub mod Numbered
 pub mod Shown

@@ -33,7 +33,8 @@ use Rattle.content.specs.declared.part.Part.{Part}
 use Rattle.content.specs.declared.part.Part.the-variants.{File, Section, Block}
 use Rattle.content.specs.declared.part.PartAt.{PartAt}
 use Rattle.content.specs.declared.section.Extent.the-variants.{At, Nowhere}
-use Rattle.content.proofs.Parts.{sees, unseen, stands}
+use Rattle.content.proofs.Places.{sees, unseen}
+use Rattle.content.proofs.Parts.{stands}
 use Rattle.order.proofs.Groups.{block-data}
 
 -- ---- the items of an image by their places

@@ -23,7 +23,8 @@ use Rattle.content.specs.declared.part.PartAt.{PartAt}
 use Rattle.content.specs.declared.items.Seen.the-variants.{Item as Of}
 use Rattle.content.specs.declared.section.Extent.{Extent}
 use Rattle.content.specs.declared.section.Extent.the-variants.{At, Nowhere}
-use Rattle.content.proofs.Parts.{seen-data, start-fits, parts-seen, found-part, BlockAhead, IsAhead, first-ahead}
+use Rattle.content.proofs.Places.{seen-data, start-fits}
+use Rattle.content.proofs.Parts.{parts-seen, found-part, BlockAhead, IsAhead, first-ahead}
 
 -- what the search finds
 pub data-found : (s : List ℕ) (at : ℕ) (r : PartAt) (p : Part) (x : Extent)

@@ -32,7 +32,7 @@ use Rattle.content.specs.code.Seen.{seenIn}
 use Rattle.content.specs.declared.items.Seen.{Seen}
 use Rattle.content.specs.declared.items.Seen.the-variants.{Item as Of, Nothing}
 use Rattle.content.specs.declared.items.ItemAt.{ItemAt}
-use Rattle.content.proofs.Parts.{sees, unseen, item-start, item-room, by-place}
+use Rattle.content.proofs.Places.{sees, unseen, item-start, item-room, by-place}
 
 -- ---- the item at a place
 

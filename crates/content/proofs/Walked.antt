@@ -43,8 +43,10 @@ use Rattle.content.specs.declared.section.Extent.the-variants.{At as Blo
 use Rattle.content.specs.declared.unit.Place.{Place}
 use Rattle.content.proofs.Searches.{Follows, Leads}
 use Rattle.content.proofs.Records.{walks-end}
-use Rattle.content.proofs.Blocks.{Hands, block-hands, next-walks}
-use Rattle.content.proofs.Helds.{Sums, nextHeld, held-next, held-end, block-sums}
+use Rattle.content.proofs.Onward.{Hands}
+use Rattle.content.proofs.Blocks.{block-hands, next-walks}
+use Rattle.content.proofs.Helds.{held-end}
+use Rattle.content.proofs.Counted.{Sums, nextHeld, held-next, block-sums}
 use Rattle.content.proofs.Read.{FileRead, BlockRead, segmentsBy, Read, readOver, readFile, readSection, readBlock, parts-read}
 
 -- ---- what is told of all that is handed out from a part on

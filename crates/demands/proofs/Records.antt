@@ -40,7 +40,8 @@ use Rattle.content.specs.declared.Step.the-variants.{InImage, Joined, Refused a
 use Rattle.content.specs.declared.unit.Place.{Place}
 use Rattle.content.specs.declared.unit.Place.the-variants.{At, Nowhere}
 use Rattle.content.proofs.Files.{numbered-first, numbered-next}
-use Rattle.content.proofs.Records.{whole-within, walks-records}
+use Rattle.content.proofs.Records.{walks-records}
+use Rattle.content.proofs.Numbered.{whole-within}
 use Rattle.content.proofs.Walked.{walk-records, walk-none}
 use Rattle.listing.specs.Text.{textOf, listingOf, refusalLine}
 use Rattle.writing.specs.Rewrite.{rewrite}

@@ -12,7 +12,7 @@ use Rattle.base.proofs.Ifs.{if-true, if-false}
 use Rattle.base.specs.Part.{part}
 use Rattle.base.proofs.Parts.{length-part}
 use Rattle.content.specs.declared.measuring.Measured.the-variants.{Split}
-use Rattle.content.proofs.Records.{split-long}
+use Rattle.content.proofs.Numbered.{split-long}
 use Rattle.writing.specs.Pack.{Left, finished, going, startOf}
 use Rattle.block.specs.Room.{enters}
 use Rattle.writing.specs.code.Room.{RoomEach}

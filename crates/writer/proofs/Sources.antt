@@ -24,7 +24,8 @@ use Rattle.content.specs.declared.Walk.{Walk}
 use Rattle.content.specs.declared.measuring.Measured.{Measured}
 use Rattle.content.specs.declared.measuring.Measured.the-variants.{Whole, Split, Nothing as None}
 use Rattle.content.proofs.Wholes.{measured-whole as whole-measured, word-least, whole-left, whole-start, whole-end}
-use Rattle.content.proofs.Records.{handed-passes, measured-nothing, measured-whole, measured-split, measured-end-nothing, measured-end-whole, measured-end-split, whole-within}
+use Rattle.content.proofs.Records.{handed-passes}
+use Rattle.content.proofs.Numbered.{measured-nothing, measured-whole, measured-split, measured-end-nothing, measured-end-whole, measured-end-split, whole-within}
 use Rattle.writer.specs.declared.source.Cursor.{Cursor}
 use Rattle.writer.specs.declared.source.Found.{Found}
 use Rattle.writer.specs.code.Source.{walkOf, movedTo, lengthsAt, recordsOf, endAt, stopOf, GoodCursor, nothing, splitBytes, SplitHere, foundBytes, Finds}

@@ -22,7 +22,7 @@ use Rattle.content.specs.declared.measuring.Measured.the-variants.{Split}
 use Rattle.content.proofs.Units.{inside-true}
 use Rattle.content.proofs.Rests.{UnitBehind, next-behind, from-behind}
 use Rattle.content.proofs.Joins.{Splitting as First, JoinGoing}
-use Rattle.content.proofs.Records.{split-long, first-split, first-some, next-going, next-some}
+use Rattle.content.proofs.Numbered.{split-long, first-split, first-some, next-going, next-some}
 use Rattle.writing.specs.Pack.{going}
 use Rattle.writing.specs.code.Room.{RoomEach}
 use Rattle.writing.specs.Lay.{Sequel}

@@ -1,4 +1,4 @@
-use Rattle.block.proofs.Helds.{held-by-format}
+use Rattle.block.proofs.Counts.{held-by-format}
 use Rattle.block.proofs.block_held.Statement.{statement}
 use Rattle.block.proofs.block_held.Tie as tie
 

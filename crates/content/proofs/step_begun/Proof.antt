@@ -1,5 +1,5 @@
 use borrow.Author.Needs.{needs}
-use Rattle.content.proofs.Stepping.{two-at, begins-two}
+use Rattle.content.proofs.Pairs.{two-at, begins-two}
 use Rattle.content.proofs.step_begun.Statement.{statement}
 use Rattle.content.proofs.step_begun.Tie as tie
 

@@ -1,4 +1,4 @@
-use Rattle.content.proofs.Stepping.{steps-two}
+use Rattle.content.proofs.Pairs.{steps-two}
 use Rattle.content.proofs.step_two.Statement.{statement}
 use Rattle.content.proofs.step_two.Tie as tie
 

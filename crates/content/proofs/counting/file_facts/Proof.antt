@@ -1,6 +1,6 @@
 use Prim.Native.Nat.{_-_}
 use lib.ListN.{length}
-use Rattle.content.proofs.Records.{Counting, counts}
+use Rattle.content.proofs.Numbered.{Counting, counts}
 use Rattle.content.proofs.counting.file_facts.Statement.{statement}
 use Rattle.content.proofs.counting.file_facts.Tie as tie
 

@@ -1,4 +1,4 @@
-use Rattle.content.proofs.Parts.{seens}
+use Rattle.content.proofs.Places.{seens}
 use Rattle.content.proofs.items.seen_at.Statement.{statement}
 use Rattle.content.proofs.items.seen_at.Tie as tie
 

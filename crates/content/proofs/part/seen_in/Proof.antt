@@ -1,4 +1,4 @@
-use Rattle.content.proofs.Parts.{seens-in}
+use Rattle.content.proofs.Places.{seens-in}
 use Rattle.content.proofs.part.seen_in.Statement.{statement}
 use Rattle.content.proofs.part.seen_in.Tie as tie
 
