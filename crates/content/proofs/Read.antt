@@ -20,6 +20,7 @@ use Rattle.image.proofs.Frames.{framing-items}
 use Rattle.image.proofs.Coding.{all-first, all-rest}
 use Rattle.order.specs.Kind.{hdr, eof, eov, dataBlock, tapeMark, endOfReel, endOfImage, isKind}
 use Rattle.order.specs.Due.{dueAfter}
+use Rattle.order.specs.Group.{amongHeaders}
 use Rattle.order.specs.declared.Kind.{Kind}
 use Rattle.order.specs.declared.Phase.{Phase}
 use Rattle.order.specs.declared.Phase.the-variants.{Reel, Header, Data}
@@ -34,7 +35,8 @@ use Rattle.volume.specs.Run.{runs, imageVerdict}
 use Rattle.volume.specs.Meaning.{handedOut}
 use Rattle.volume.specs.Accepted.{All, MayEnd, stateBehind}
 use Rattle.volume.proofs.Accepted.{accepted-iff}
-use Rattle.order.proofs.Moves.{Stage, stage, before, within, fileOver, Numbered, Move, stays, nextReel, header1, nextFile as newFile, header2, datum, eof1, eov1, finish, due-goes}
+use Rattle.order.proofs.Moves.{Stage, before, within, fileOver, Move, stays, nextReel, header1, nextFile as newFile, header2, datum, eof1, eov1, finish}
+use Rattle.order.proofs.Phases.{stage, groupOf, Numbered, due-goes}
 use Rattle.reading.proofs.Stages.{View, view, Holds, isOpen, second-same}
 use Rattle.reading.proofs.Steps.{view-quiet, label-none, context-none}
 use Rattle.reading.proofs.Legality.{header-long, Kept, kept-start, kept-step, image-end}
@@ -47,7 +49,7 @@ use Rattle.content.specs.declared.part.Part.the-variants.{File, Section,
 use Rattle.content.proofs.Parts.{stands}
 use Rattle.content.proofs.Searches.{ItemStands, item-at, InOrder, parts-on, parts-block, parts-section, parts-file, data-from, Follows, follows-here, Passes, open-step}
 use Rattle.volume.proofs.Events.{handed-more, handed-none}
-use Rattle.order.proofs.Groups.{labels, second-behind, block-data, mark-data, label-labels}
+use Rattle.order.proofs.Groups.{second-behind, block-data, mark-data, label-labels}
 use Rattle.content.proofs.Phases.{block-no-mark, record-some}
 
 -- ---- what is read of a part
@@ -153,7 +155,7 @@ nothing-left s g p hdr1 at e fits =
           };
     }
 
-mark-body : (s : List ℕ) (g : Bool) (p q : Phase) (hdr1 at : ℕ) (xs : List Item) → Numbered p → labels p ≡ true
+mark-body : (s : List ℕ) (g : Bool) (p q : Phase) (hdr1 at : ℕ) (xs : List Item) → Numbered p → groupOf p ≡ amongHeaders
     → isOpen (stage p) g ≡ true
     → dueAfter p (kindIn p mark) ≡ To q → ItemStands s at mark xs → InOrder s q (placeBehind at mark) xs
     → Marked s (parts (stands at hdr1 p g) (mark ∷ xs)) (at + 3)
@@ -171,7 +173,7 @@ mark-body s g p q hdr1 at xs num h open' d c o =
       follows = follows-here s g′ q hdr1′ (at + 3 + 0) xs (mark-data p q h d) (c .rest) o;
     }))
 
-no-reel-end : (p q : Phase) → labels p ≡ true → dueAfter p (kindIn p reelEnd) ≡ To q → ⊥
+no-reel-end : (p q : Phase) → groupOf p ≡ amongHeaders → dueAfter p (kindIn p reelEnd) ≡ To q → ⊥
 unfolding kindIn isKind
 no-reel-end p q h d = false≢true (sym (label-labels p endOfReel q h refl d .reelEnd))
 
@@ -180,7 +182,7 @@ unfolding isItem
 no-broken h = false≢true h
 
 body-of : (s : List ℕ) (xs : List Item) (g : Bool) (p : Phase) (hdr1 at : ℕ) → InOrder s p at xs → decode (drop at s) ≡ xs
-    → at ≤ length s → labels p ≡ true → Numbered p
+    → at ≤ length s → groupOf p ≡ amongHeaders → Numbered p
     → isOpen (stage p) g ≡ true → Marked s (parts (stands at hdr1 p g) xs) (markFrom at xs)
 unfolding markFrom
 body-of s [] g p hdr1 at o e fits h num open' = nothing-left s g p hdr1 at e fits
@@ -193,7 +195,7 @@ body-of s (block l ∷ xs) g p hdr1 at (q, c, d, o) e fits h num open' =
     let step = open-step s g p q hdr1 at (block l) xs (go .move) refl d open' (k .datum) (k .fileEnd) in
     marked-by s _ _ _ (step .0)
     (body-of s xs (continuesBehind g (kindIn p (block l))) q (firstBehind hdr1 (at + 3) (kindIn p (block l)))
-    (placeBehind at (block l)) o (c .rest) (c .within) (k .phase)
+    (placeBehind at (block l)) o (c .rest) (c .within) (k .group)
     (go .numbered) (step .1))
 
 -- ---- one item without fault
@@ -308,10 +310,7 @@ read-second s false p r at hdr1 first second q x xs es c o e d idle f m here lon
     marked =
         subst (Marked s ps) (ap₂ markFrom behind-at items-at)
         (body-of s xs false (Header 2) hdr1 (placeBehind at x) (subst (λ (y : Phase). InOrder s y (placeBehind at x) xs) r2 o)
-        (c .rest) (c .within) refl two refl)
-      where
-        two : 2 ≤ 2
-        two = omega arith
+        (c .rest) (c .within) refl refl refl)
 
     read : FileRead s hdr1 (at + 3) first (bytesIn x) ps
     read = record {

@@ -18,7 +18,8 @@ use Rattle.order.specs.declared.Phase.{Phase}
 use Rattle.order.specs.declared.Phase.the-variants.{Header, Data}
 use Rattle.order.specs.declared.Due.{Due}
 use Rattle.order.specs.declared.Due.the-variants.{To}
-use Rattle.order.proofs.Moves.{Stage, stage, before, named, within, fileOver, reelOver, Numbered, Quiet, Move, stays, nextReel, header1, nextFile, header2, datum, eof1, eov1, finish, due-goes}
+use Rattle.order.proofs.Moves.{Stage, before, named, within, fileOver, reelOver, Quiet, Move, stays, nextReel, header1, nextFile, header2, datum, eof1, eov1, finish}
+use Rattle.order.proofs.Phases.{stage, Numbered, due-goes}
 use Rattle.volume.specs.Step.{kindIn, bytesIn}
 use Rattle.reading.proofs.Stages.{isOpen}
 use Rattle.content.specs.Part.{placeBehind, beginsFile, ledTo, continuesBehind, firstBehind, after, partIn, onto, partsBy, partsFrom, parts, isWanted, firstIn}
@@ -198,7 +199,7 @@ pub data-from : (s : List ℕ) (g : Bool) (q : Phase) (hdr1 b : ℕ) (xs : List 
 unfolding dataFrom
 data-from s g q hdr1 b xs e r o =
     ap (λ (p : Phase). blockIn (parts (stands b hdr1 p g) xs)) e
-    ∙ ap blockIn (parts-alike s xs g false Data hdr1 0 b tt (subst (λ (p : Phase). InOrder s p b xs) e o) tt)
+    ∙ ap blockIn (parts-alike s xs g false Data hdr1 0 b refl (subst (λ (p : Phase). InOrder s p b xs) e o) tt)
     ∙ ap (λ (ys : List Item). blockIn (parts (stands b 0 Data false) ys)) (sym r)
 
 -- ---- the file that follows
@@ -221,7 +222,7 @@ follows-here s g q hdr1 b xs e r o =
       ordered = subst (InOrder s Data b) (sym r) there;
       same =
           λ h m. ap (λ (ys : List Item). fileIn s (parts (stands b m Data h) ys)) r
-          ∙ ap (fileIn s) (parts-alike s xs h g Data m hdr1 b tt there tt);
+          ∙ ap (fileIn s) (parts-alike s xs h g Data m hdr1 b refl there tt);
     })
   where
     there : InOrder s Data b xs
@@ -376,4 +377,4 @@ pub data-leads : (s : List ℕ) (at start n : ℕ) → dataFrom Data at (decode 
 unfolding dataFrom
 data-leads s at start n e x f =
     subst (λ (y : NextFile). Follows s y (start + n)) (f .same false 0)
-    (block-follows s (decode (drop at s)) false Data 0 at start n tt refl (f .ordered) e)
+    (block-follows s (decode (drop at s)) false Data 0 at start n refl refl (f .ordered) e)

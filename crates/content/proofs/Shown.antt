@@ -22,7 +22,8 @@ use Rattle.order.specs.declared.Kind.{Kind}
 use Rattle.order.specs.declared.Phase.{Phase}
 use Rattle.order.specs.declared.Phase.the-variants.{Data}
 use Rattle.order.specs.declared.Due.the-variants.{To, Wrong}
-use Rattle.order.proofs.Groups.{groupOf, due-group, data-group}
+use Rattle.order.proofs.Phases.{groupOf}
+use Rattle.order.proofs.Groups.{due-group, data-group}
 use Rattle.volume.specs.State.{State, start}
 use Rattle.volume.specs.Step.{isDue, kindIn, bytesIn, stateAfter}
 use Rattle.volume.proofs.Reels.{broken-undue}

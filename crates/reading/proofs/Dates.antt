@@ -39,7 +39,8 @@ use Rattle.volume.proofs.Events.{handed-more, OneMeaning, meaning-behind, meani
 use Rattle.reading.proofs.Entries.{byte-part}
 use Rattle.reading.proofs.Stages.{crossed-none, lower-first}
 use Rattle.reading.proofs.Steps.{events-quiet}
-use Rattle.order.proofs.Moves.{Stage, stage, before, named, within, fileOver, reelOver, Numbered, Quiet, Move, Goes, stays, nextReel, header1, nextFile, header2, datum, eof1, eov1, finish, due-goes}
+use Rattle.order.proofs.Moves.{Stage, before, named, within, fileOver, reelOver, Quiet, Move, stays, nextReel, header1, nextFile, header2, datum, eof1, eov1, finish}
+use Rattle.order.proofs.Phases.{stage, Numbered, Goes, due-goes}
 
 -- ---- a label without its dates
 
@@ -373,5 +374,5 @@ pub later-dates : (a b : List ℕ) → imageVerdict a .number ≡ 0 → imageVer
 unfolding content meaningOf start
 later-dates a b h k e =
     let one : OneMeaning (handedOut (runs start (items a))) (handedOut (runs start (items b)))
-    = same-runs (items a) (items b) start [] tt (λ n. absurd (not-named before refl n)) e (accepted-iff a .0 h .followed) (accepted-iff b .0 k .followed) in
+    = same-runs (items a) (items b) start [] refl (λ n. absurd (not-named before refl n)) e (accepted-iff a .0 h .followed) (accepted-iff b .0 k .followed) in
     ap₂ (λ (set : List ℕ) (c : Collected). record { set = set; files = c .files }) (one .set) (one .collected)

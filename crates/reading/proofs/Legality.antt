@@ -25,7 +25,8 @@ use Rattle.volume.specs.Meaning.{collect, setFrom, meaningOf, handedOut, conten
 use Rattle.volume.specs.Accepted.{Faultless, stateBehind}
 use Rattle.volume.proofs.Accepted.{by-step, Ends, all-ends, accepted-iff}
 use Rattle.reading.specs.Legal.{legalFiles, legalMeaning, legalQuota, legalNames, legalSheet}
-use Rattle.order.proofs.Moves.{Stage, stage, fileOver, Numbered, Move, stays, nextReel, header1, nextFile, header2, datum, eof1, eov1, finish, due-goes}
+use Rattle.order.proofs.Moves.{Stage, fileOver, Move, stays, nextReel, header1, nextFile, header2, datum, eof1, eov1, finish}
+use Rattle.order.proofs.Phases.{stage, Numbered, due-goes}
 use Rattle.reading.proofs.Stages.{view, Holds, Promised, none-promise}
 use Rattle.reading.proofs.Steps.{step-holds, step-promise}
 
@@ -81,7 +82,7 @@ pub record Kept (s : State) : Type 0 where
 pub kept-start : Kept start
 unfolding start
 kept-start =
-    record { numbered = tt; holds = record { few = omega arith; idle = λ _. refl; some = λ on. absurd (false≢true on) } }
+    record { numbered = refl; holds = record { few = omega arith; idle = λ _. refl; some = λ on. absurd (false≢true on) } }
 
 -- and behind each item without fault
 pub kept-step : (s : State) (x : Item) (p : Phase) → Kept s → Faultless s x p → Kept (stateBehind s x p)
