@@ -63,7 +63,7 @@ front-part l m e a w h = sym (of l) ∙ ap (part a w) e ∙ of m
     of : (x : List ℕ) → part a w (part 0 41 x) ≡ part a w x
     of x = let z : 0 + a ≡ a = omega arith in part-part 0 a w 41 x h ∙ ap (λ (n : ℕ). part n w x) z
 
--- and one stateBehind them is one of the back
+-- and one behind them is one of the back
 back-part : (l m : List ℕ) → drop 53 l ≡ drop 53 m → (a w : ℕ) → 53 ≤ a → part a w l ≡ part a w m
 back-part l m e a w h = sym (of l) ∙ ap (part (a - 53) w) e ∙ of m
   where

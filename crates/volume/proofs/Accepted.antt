@@ -33,7 +33,7 @@ faultless-go s x p h =
     ap (ordered s (kindIn (s .phase) x) (bytesIn x)) (h .due)
     ∙ if-true _ _ _ (eq-eqb (itemFault s (kindIn (s .phase) x) (bytesIn x) .number) 0 (h .sound))
 
--- and reading goes on stateBehind it
+-- and reading goes on behind it
 pub faultless-runs : (s : State) (x : Item) (xs : List Item) (p : Phase) → Faultless s x p
     → runs s (x ∷ xs) ≡ further (eventsOf s (kindIn (s .phase) x) (bytesIn x)) (runs (stateBehind s x p) xs)
 unfolding runs next

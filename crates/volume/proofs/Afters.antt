@@ -50,19 +50,19 @@ label-after s t start len kept z =
     (λ h. sym (if-false t (part start len s) (labelAt s kept) h))
 
 -- the volume identifiers, with one more
-names-kept : (s names : List ℕ) (start len : ℕ) (t : Bool) → (t ≡ true → len ≡ 80)
-    → namesAt s (ifB t (names ++ (start ∷ [])) names)
-    ≡ ifB t (namesAt s names ++ (volumeOf (part start len s) ∷ [])) (namesAt s names)
+names-kept : (s volumes : List ℕ) (start len : ℕ) (t : Bool) → (t ≡ true → len ≡ 80)
+    → namesAt s (ifB t (volumes ++ (start ∷ [])) volumes)
+    ≡ ifB t (namesAt s volumes ++ (volumeOf (part start len s) ∷ [])) (namesAt s volumes)
 unfolding ifB
-names-kept s names start len true z =
-    names-append s names start ∙ ap (λ (l : List ℕ). namesAt s names ++ (volumeOf l ∷ [])) (label-sized s start len (z refl))
-names-kept s names start len false z = refl
+names-kept s volumes start len true z =
+    names-append s volumes start ∙ ap (λ (l : List ℕ). namesAt s volumes ++ (volumeOf l ∷ [])) (label-sized s start len (z refl))
+names-kept s volumes start len false z = refl
 
 -- ---- the whole state
 
 -- what the code makes of each field stands for the state behind the item
 pub contents-after : (s : List ℕ) (st : Reading) (p : Phase) (k : Kind) (start len files first second count pending : ℕ)
-    (continues : Bool) (names : List ℕ)
+    (continues : Bool) (volumes : List ℕ)
     → LabelSized k len
     → files ≡ ifB (isKind k (hdr 2)) (ifB (st .continues) (st .files) (st .files + 1)) (st .files)
     → continues ≡ ifB (isKind k (eov 1)) true (ifB (isKind k (eof 1)) false (st .continues))
@@ -71,13 +71,13 @@ pub contents-after : (s : List ℕ) (st : Reading) (p : Phase) (k : Kind) (start
     → count ≡ ifB (isKind k dataBlock) (st .count + 1) (ifB (isKind k (hdr 1)) 0 (st .count))
     → pending ≡ ifB (isKind k dataBlock) (outcomeIn (labelAt s (st .hdr2)) (st .pending) (part start len s) .pending)
     (st .pending)
-    → contents s (ifB (isKind k (vol 1)) (names ++ (start ∷ [])) names)
+    → contents s (ifB (isKind k (vol 1)) (volumes ++ (start ∷ [])) volumes)
     (record { hdr1 = first; hdr2 = second; count = count; pending = pending; files = files; phase = p; continues = continues })
-    ≡ stateAfter (contents s names st) p k (part start len s)
+    ≡ stateAfter (contents s volumes st) p k (part start len s)
 unfolding contents stateAfter volumesAfter filesAfter continuesAfter hdr1After hdr2After countAfter pendingAfter
-contents-after s st p k start len files first second count pending continues names z ef eo e1 e2 ec ep =
-    let a : namesAt s (ifB (isKind k (vol 1)) (names ++ (start ∷ [])) names) ≡ ifB (isKind k (vol 1)) (namesAt s names ++ (volumeOf (part start len s) ∷ [])) (namesAt s names)
-    = names-kept s names start len (isKind k (vol 1)) (z .volume) in
+contents-after s st p k start len files first second count pending continues volumes z ef eo e1 e2 ec ep =
+    let a : namesAt s (ifB (isKind k (vol 1)) (volumes ++ (start ∷ [])) volumes) ≡ ifB (isKind k (vol 1)) (namesAt s volumes ++ (volumeOf (part start len s) ∷ [])) (namesAt s volumes)
+    = names-kept s volumes start len (isKind k (vol 1)) (z .volume) in
     let b : labelAt s first ≡ ifB (isKind k (hdr 1)) (part start len s) (labelAt s (st .hdr1))
     = ap (labelAt s) e1 ∙ label-after s (isKind k (hdr 1)) start len (st .hdr1) (z .hdr1) in
     let d : labelAt s second ≡ ifB (isKind k (hdr 2)) (part start len s) (labelAt s (st .hdr2))
@@ -102,7 +102,7 @@ pub behind-made : (s : List ℕ) (st : Reading) (p : Phase) (k : Kind) (start le
     (record { hdr1 = first; hdr2 = second; count = count; pending = pending; files = files; phase = p; continues = continues })
 behind-made s st p k start len files first second count pending continues z ef eo e1 e2 ec ep =
     record {
-      same = λ names. contents-after s st p k start len files first second count pending continues names z ef eo e1 e2 ec ep;
+      same = λ volumes. contents-after s st p k start len files first second count pending continues volumes z ef eo e1 e2 ec ep;
       files =
           if-most _ _ _ _ _ (if-case (λ (y : ℕ). y ≤ st .files + 1) (st .continues) _ _ (λ _. omega arith) (λ _. omega arith))
           (omega arith) ef;
@@ -132,10 +132,10 @@ names-room names l =
     (λ _ h. absurd (eqb-false 2 0 refl h)) (λ e _. leb-false mostReels (length names) e)
 
 -- so one without fault is at most the sixteenth
-pub room-for-name : (s names : List ℕ) (st : Reading) (k : Kind) (l : List ℕ) → itemFault (contents s names st) k l .number ≡ 0
-    → isKind k (vol 1) ≡ true → length names < mostReels
+pub room-for-name : (s volumes : List ℕ) (st : Reading) (k : Kind) (l : List ℕ) → itemFault (contents s volumes st) k l .number ≡ 0
+    → isKind k (vol 1) ≡ true → length volumes < mostReels
 unfolding itemFault contextFault isKind ifB contents
-room-for-name s names st k l z v =
-    let here : itemFault (contents s names st) (vol 1) l .number ≡ 0 = subst (λ (j : Kind). itemFault (contents s names st) j l .number ≡ 0) (kind-is k (vol 1) v) z in
-    let few : length (namesAt s names) < 16 = names-room _ l (or-second (labelFault (vol 1) l) (volumeFault _ l) here) in
-    omega (arith, length-names s names)
+room-for-name s volumes st k l z v =
+    let here : itemFault (contents s volumes st) (vol 1) l .number ≡ 0 = subst (λ (j : Kind). itemFault (contents s volumes st) j l .number ≡ 0) (kind-is k (vol 1) v) z in
+    let few : length (namesAt s volumes) < 16 = names-room _ l (or-second (labelFault (vol 1) l) (volumeFault _ l) here) in
+    omega (arith, length-names s volumes)

@@ -56,7 +56,7 @@ pub record OneMeaning (es fs : List Event) : Type 0 where
   pub collected : collect es ≡ collect fs
   pub set : setFrom es ≡ setFrom fs
 
--- so they are stateBehind the same event
+-- so they are behind the same event
 pub meaning-behind : (x : Event) (es fs : List Event) → OneMeaning es fs → OneMeaning (x ∷ es) (x ∷ fs)
 unfolding collect setFrom
 meaning-behind (begins f s) es fs h =
@@ -80,7 +80,7 @@ meaning-behind (holds l xs) es fs h =
       set = h .set;
     }
 
--- and stateBehind a later section of a file, whatever its HDR1 and HDR2
+-- and behind a later section of a file, whatever its HDR1 and HDR2
 pub meaning-continued : (f s g t : List ℕ) (es fs : List Event) → OneMeaning es fs
     → OneMeaning (resumes f s ∷ es) (resumes g t ∷ fs)
 unfolding collect setFrom

@@ -140,80 +140,80 @@ pub ruleset frames =
 
 -- ---- the end of the walk
 
-pub end-good : (s names : List ℕ) (x : Spot) (f : Fault) → f .number ≡ 0 → verdict 0 0 0 ≡ toldEnd s names x f
+pub end-good : (s volumes : List ℕ) (x : Spot) (f : Fault) → f .number ≡ 0 → verdict 0 0 0 ≡ toldEnd s volumes x f
 unfolding toldEnd
-end-good s names x f z = sym (if-true _ _ _ (eq-eqb _ 0 z))
+end-good s volumes x f z = sym (if-true _ _ _ (eq-eqb _ 0 z))
 
-pub end-bad : (s names : List ℕ) (x : Spot) (f : Fault) (r : Verdict) → (f .number ≡ 0 → ⊥)
-    → r ≡ framedElse s (x .at) (x .item) (x .state .phase) (length names) (verdict (f .number) (x .item) (f .byte))
-    → r ≡ toldEnd s names x f
+pub end-bad : (s volumes : List ℕ) (x : Spot) (f : Fault) (r : Verdict) → (f .number ≡ 0 → ⊥)
+    → r ≡ framedElse s (x .at) (x .item) (x .state .phase) (length volumes) (verdict (f .number) (x .item) (f .byte))
+    → r ≡ toldEnd s volumes x f
 unfolding toldEnd
-end-bad s names x f r z e = e ∙ sym (if-false _ _ _ (ne-eqb _ 0 z))
+end-bad s volumes x f r z e = e ∙ sym (if-false _ _ _ (ne-eqb _ 0 z))
 
 -- ---- turns that stop
 
 -- a turn that ends with a number
-owes-last : (s names : List ℕ) (x : Spot) (v : Verdict) (number byte : ℕ) (r : Turn) → Bounded s (x .at) (x .item) (x .state)
+owes-last : (s volumes : List ℕ) (x : Spot) (v : Verdict) (number byte : ℕ) (r : Turn) → Bounded s (x .at) (x .item) (x .state)
     → r ≡ lastTurn x number byte
-    → v ≡ toldEnd s names x (fault number byte) → Owes s names (x .at) v r
+    → v ≡ toldEnd s volumes x (fault number byte) → Owes s volumes (x .at) v r
 unfolding toldAfter placesAfter ifB fault
-owes-last s names x v number byte r b e q =
-    subst (Owes s names (x .at) v) (sym e)
+owes-last s volumes x v number byte r b e q =
+    subst (Owes s volumes (x .at) v) (sym e)
     (record { same = sym q; onward = λ h. absurd (false≢true h); bounded = b; few = λ h. h })
 
 -- the verdict of a refusal
-told-refused : (s names : List ℕ) (x : Spot) (number byte : ℕ) → (number ≡ 0 → ⊥)
-    → framedOr (x .item) (contents s names (x .state)) (decode (drop (x .at) s)) (verdict number (x .item) byte)
-    ≡ toldEnd s names x (fault number byte)
+told-refused : (s volumes : List ℕ) (x : Spot) (number byte : ℕ) → (number ≡ 0 → ⊥)
+    → framedOr (x .item) (contents s volumes (x .state)) (decode (drop (x .at) s)) (verdict number (x .item) byte)
+    ≡ toldEnd s volumes x (fault number byte)
 unfolding toldEnd framedOr framedIn contents fault
-told-refused s names x number byte z =
-    ap (λ (m : ℕ). framedElse s (x .at) (x .item) (x .state .phase) m (verdict number (x .item) byte)) (length-names s names)
+told-refused s volumes x number byte z =
+    ap (λ (m : ℕ). framedElse s (x .at) (x .item) (x .state .phase) m (verdict number (x .item) byte)) (length-names s volumes)
     ∙ sym (if-false _ _ _ (ne-eqb number 0 z))
 
 -- the verdict by a refused item
-told-stop : (s names : List ℕ) (x : Spot) (behind k b : ℕ) → (k ≡ 0 → ⊥)
-    → toldStep s names x behind (no k b) ≡ toldEnd s names x (fault k b)
+told-stop : (s volumes : List ℕ) (x : Spot) (behind k b : ℕ) → (k ≡ 0 → ⊥)
+    → toldStep s volumes x behind (no k b) ≡ toldEnd s volumes x (fault k b)
 unfolding toldStep toldNext
-told-stop s names x behind k b z = told-refused s names x k b z
+told-stop s volumes x behind k b z = told-refused s volumes x k b z
 
 not-three : _≡_ {A = ℕ} 3 0 → ⊥
 not-three = eqb-false 3 0 refl
 
 -- an item that is not due
-undue-told : (s names : List ℕ) (x : Spot) (k : Kind) (l : List ℕ) (behind : ℕ) (d : Due) → d ≡ dueAfter (x .state .phase) k
+undue-told : (s volumes : List ℕ) (x : Spot) (k : Kind) (l : List ℕ) (behind : ℕ) (d : Due) → d ≡ dueAfter (x .state .phase) k
     → d ≡ Wrong
-    → toldBy s names x k l behind ≡ toldEnd s names x (fault 3 0)
+    → toldBy s volumes x k l behind ≡ toldEnd s volumes x (fault 3 0)
 unfolding toldBy ordered
-undue-told s names x k l behind d e w =
-    ap (λ (y : Due). toldStep s names x behind (ordered (contents s names (x .state)) k l y)) (sym e ∙ w)
-    ∙ told-stop s names x behind 3 0 not-three
+undue-told s volumes x k l behind d e w =
+    ap (λ (y : Due). toldStep s volumes x behind (ordered (contents s volumes (x .state)) k l y)) (sym e ∙ w)
+    ∙ told-stop s volumes x behind 3 0 not-three
 
-pub owes-undue : (s names : List ℕ) (x : Spot) (k : Kind) (l : List ℕ) (n behind : ℕ) (d : Due) (r : Turn) → BlockHere s x n
+pub owes-undue : (s volumes : List ℕ) (x : Spot) (k : Kind) (l : List ℕ) (n behind : ℕ) (d : Due) (r : Turn) → BlockHere s x n
     → d ≡ dueAfter (x .state .phase) k → d ≡ Wrong
-    → r ≡ lastTurn x 3 0 → Owes s names (x .at) (toldBy s names x k l behind) r
-owes-undue s names x k l n behind d r h e w q = owes-last s names x _ 3 0 r (h .bounded) q (undue-told s names x k l behind d e w)
+    → r ≡ lastTurn x 3 0 → Owes s volumes (x .at) (toldBy s volumes x k l behind) r
+owes-undue s volumes x k l n behind d r h e w q = owes-last s volumes x _ 3 0 r (h .bounded) q (undue-told s volumes x k l behind d e w)
 
 -- an item with a fault
-pub owes-fault : (s names : List ℕ) (x : Spot) (p : Phase) (k : Kind) (n : ℕ) (f : Fault) (r : Turn) → BlockHere s x n
-    → f ≡ itemFault (contents s names (x .state)) k (take (x .at + 3 + n - (x .at + 3)) (drop (x .at + 3) s))
+pub owes-fault : (s volumes : List ℕ) (x : Spot) (p : Phase) (k : Kind) (n : ℕ) (f : Fault) (r : Turn) → BlockHere s x n
+    → f ≡ itemFault (contents s volumes (x .state)) k (take (x .at + 3 + n - (x .at + 3)) (drop (x .at + 3) s))
     → (f .number ≡ 0 → ⊥) → r ≡ lastTurn x (f .number) (f .byte)
-    → Owes s names (x .at) (toldDue s names x p k (part (x .at + 3) n s) (x .at + 3 + n)) r
+    → Owes s volumes (x .at) (toldDue s volumes x p k (part (x .at + 3) n s) (x .at + 3 + n)) r
 unfolding toldDue judged
-owes-fault s names x p k n f r h e z q =
-    let t : State = contents s names (x .state) in
+owes-fault s volumes x p k n f r h e z q =
+    let t : State = contents s volumes (x .state) in
     let l : List ℕ = part (x .at + 3) n s in
     let same : itemFault t k l ≡ f = ap (itemFault t k) (sym (part-within (x .at + 3) n s)) ∙ sym e in
-    owes-last s names x _ (f .number) (f .byte) r (h .bounded) q
-    (ap (λ (y : Fault). toldStep s names x (x .at + 3 + n) (judged t p k l y)) same
-    ∙ ap (toldStep s names x (x .at + 3 + n)) (if-false _ _ _ (ne-eqb (f .number) 0 z))
-    ∙ told-stop s names x (x .at + 3 + n) (f .number) (f .byte) z)
+    owes-last s volumes x _ (f .number) (f .byte) r (h .bounded) q
+    (ap (λ (y : Fault). toldStep s volumes x (x .at + 3 + n) (judged t p k l y)) same
+    ∙ ap (toldStep s volumes x (x .at + 3 + n)) (if-false _ _ _ (ne-eqb (f .number) 0 z))
+    ∙ told-stop s volumes x (x .at + 3 + n) (f .number) (f .byte) z)
 
 -- ---- turns that go on
 
-told-on : (s names : List ℕ) (x : Spot) (behind : ℕ) (t : State) (es : List Event)
-    → toldStep s names x behind (go t es) ≡ toldFrom (x .item + 1) t (decode (drop behind s))
+told-on : (s volumes : List ℕ) (x : Spot) (behind : ℕ) (t : State) (es : List Event)
+    → toldStep s volumes x behind (go t es) ≡ toldFrom (x .item + 1) t (decode (drop behind s))
 unfolding toldStep toldNext
-told-on s names x behind t es = refl
+told-on s volumes x behind t es = refl
 
 pub onward-made : (s : List ℕ) (x : Spot) (p : Phase) (k : Kind) (n : ℕ) (t : Reading) (b : Bool) (r : Turn)
     → ReadingBehind s (x .state) p k (x .at + 3) n t → b ≡ isKind k (vol 1)
@@ -222,36 +222,36 @@ onward-made s x p k n t b r h e q =
     subst (Onward s x p k n) (sym q) (record { on = refl; at = refl; item = refl; named = e; label = refl; behind = h })
 
 -- one more name where there is room for it
-length-places : (t : Bool) (names : List ℕ) (a m : ℕ) → (t ≡ true → length names < m) → length names ≤ m
-    → length (ifB t (names ++ (a ∷ [])) names) ≤ m
-length-places t names a m f h =
-    if-case (λ (l : List ℕ). length l ≤ m) t _ _ (λ e. omega (arith, length-append names (a ∷ []), f e)) (λ _. h)
+length-places : (t : Bool) (volumes : List ℕ) (a m : ℕ) → (t ≡ true → length volumes < m) → length volumes ≤ m
+    → length (ifB t (volumes ++ (a ∷ [])) volumes) ≤ m
+length-places t volumes a m f h =
+    if-case (λ (l : List ℕ). length l ≤ m) t _ _ (λ e. omega (arith, length-append volumes (a ∷ []), f e)) (λ _. h)
 
-pub owes-on : (s names : List ℕ) (x : Spot) (p : Phase) (k : Kind) (n : ℕ) (f : Fault) (r : Turn) → BlockHere s x n
-    → f ≡ itemFault (contents s names (x .state)) k (take (x .at + 3 + n - (x .at + 3)) (drop (x .at + 3) s))
-    → f .number ≡ 0 → Onward s x p k n r → Owes s names (x .at) (toldDue s names x p k (part (x .at + 3) n s) (x .at + 3 + n)) r
+pub owes-on : (s volumes : List ℕ) (x : Spot) (p : Phase) (k : Kind) (n : ℕ) (f : Fault) (r : Turn) → BlockHere s x n
+    → f ≡ itemFault (contents s volumes (x .state)) k (take (x .at + 3 + n - (x .at + 3)) (drop (x .at + 3) s))
+    → f .number ≡ 0 → Onward s x p k n r → Owes s volumes (x .at) (toldDue s volumes x p k (part (x .at + 3) n s) (x .at + 3 + n)) r
 unfolding toldDue judged toldAfter toldAt placesAfter
-owes-on s names x p k n f r h e z o =
-    let t : State = contents s names (x .state) in
+owes-on s volumes x p k n f r h e z o =
+    let t : State = contents s volumes (x .state) in
     let l : List ℕ = part (x .at + 3) n s in
     let behind : ℕ = x .at + 3 + n in
     let same : itemFault t k l ≡ f = ap (itemFault t k) (sym (part-within (x .at + 3) n s)) ∙ sym e in
     let sound : itemFault t k l .number ≡ 0 = ap (λ (y : Fault). y .number) same ∙ z in
-    let places : ifB (r .named) (names ++ (r .label ∷ [])) names ≡ ifB (isKind k (vol 1)) (names ++ ((x .at + 3) ∷ [])) names
-    = ap (λ (b : Bool). ifB b (names ++ (r .label ∷ [])) names) (o .named) ∙ ap (λ (a : ℕ). ifB (isKind k (vol 1)) (names ++ (a ∷ [])) names) (o .label) in
+    let places : ifB (r .named) (volumes ++ (r .label ∷ [])) volumes ≡ ifB (isKind k (vol 1)) (volumes ++ ((x .at + 3) ∷ [])) volumes
+    = ap (λ (b : Bool). ifB b (volumes ++ (r .label ∷ [])) volumes) (o .named) ∙ ap (λ (a : ℕ). ifB (isKind k (vol 1)) (volumes ++ (a ∷ [])) volumes) (o .label) in
     let b : Bounded s (x .at) (x .item) (x .state) = h .bounded in
     record {
       same =
           if-true _ _ _ (o .on)
-          ∙ ap (λ (m : ℕ). toldFrom m (contents s (ifB (r .named) (names ++ (r .label ∷ [])) names) (r .spot .state))
+          ∙ ap (λ (m : ℕ). toldFrom m (contents s (ifB (r .named) (volumes ++ (r .label ∷ [])) volumes) (r .spot .state))
           (decode (drop (r .spot .at) s))) (o .item)
-          ∙ ap (λ (m : ℕ). toldFrom (x .item + 1) (contents s (ifB (r .named) (names ++ (r .label ∷ [])) names) (r .spot .state))
+          ∙ ap (λ (m : ℕ). toldFrom (x .item + 1) (contents s (ifB (r .named) (volumes ++ (r .label ∷ [])) volumes) (r .spot .state))
           (decode (drop m s))) (o .at)
           ∙ ap (λ (ns : List ℕ). toldFrom (x .item + 1) (contents s ns (r .spot .state)) (decode (drop behind s))) places
-          ∙ ap (λ (u : State). toldFrom (x .item + 1) u (decode (drop behind s))) (o .behind .same names)
-          ∙ sym (told-on s names x behind (stateAfter t p k l) (eventsOf t k l))
-          ∙ sym (ap (toldStep s names x behind) (if-true _ _ _ (eq-eqb (f .number) 0 z)))
-          ∙ ap (λ (y : Fault). toldStep s names x behind (judged t p k l y)) (sym same);
+          ∙ ap (λ (u : State). toldFrom (x .item + 1) u (decode (drop behind s))) (o .behind .same volumes)
+          ∙ sym (told-on s volumes x behind (stateAfter t p k l) (eventsOf t k l))
+          ∙ sym (ap (toldStep s volumes x behind) (if-true _ _ _ (eq-eqb (f .number) 0 z)))
+          ∙ ap (λ (y : Fault). toldStep s volumes x behind (judged t p k l y)) (sym same);
       onward = λ _. omega (arith, o .at);
       bounded =
           record {
@@ -262,45 +262,45 @@ owes-on s names x p k n f r h e z o =
             blocks = omega (arith, o .item, o .behind .blocks, b .blocks);
           };
       few = λ most. subst (λ (ns : List ℕ). length ns ≤ mostReels) (sym places)
-          (length-places (isKind k (vol 1)) names (x .at + 3) mostReels (room-for-name s names (x .state) k l sound) most);
+          (length-places (isKind k (vol 1)) volumes (x .at + 3) mostReels (room-for-name s volumes (x .state) k l sound) most);
     }
 
 -- an item that is due owes what its judgement owes
-pub owes-due : (s names : List ℕ) (x : Spot) (p : Phase) (k : Kind) (l : List ℕ) (behind : ℕ) (d : Due) (r : Turn)
+pub owes-due : (s volumes : List ℕ) (x : Spot) (p : Phase) (k : Kind) (l : List ℕ) (behind : ℕ) (d : Due) (r : Turn)
     → d ≡ dueAfter (x .state .phase) k → d ≡ To p
-    → Owes s names (x .at) (toldDue s names x p k l behind) r → Owes s names (x .at) (toldBy s names x k l behind) r
+    → Owes s volumes (x .at) (toldDue s volumes x p k l behind) r → Owes s volumes (x .at) (toldBy s volumes x k l behind) r
 unfolding toldBy toldDue ordered
-owes-due s names x p k l behind d r e q o =
-    subst (λ (v : Verdict). Owes s names (x .at) v r)
-    (sym (ap (λ (y : Due). toldStep s names x behind (ordered (contents s names (x .state)) k l y)) (sym e ∙ q))) o
+owes-due s volumes x p k l behind d r e q o =
+    subst (λ (v : Verdict). Owes s volumes (x .at) v r)
+    (sym (ap (λ (y : Due). toldStep s volumes x behind (ordered (contents s volumes (x .state)) k l y)) (sym e ∙ q))) o
 
 -- ---- the end of the image
 
-pub owes-end : (s names : List ℕ) (x : Spot) (d : Due) (p : Phase) (r : Turn) → Bounded s (x .at) (x .item) (x .state)
+pub owes-end : (s volumes : List ℕ) (x : Spot) (d : Due) (p : Phase) (r : Turn) → Bounded s (x .at) (x .item) (x .state)
     → length s ≤ x .at
-    → d ≡ dueAfter (x .state .phase) endOfImage → d ≡ To p → r ≡ lastTurn x 0 0 → Owes s names (x .at) (toldAt s names x) r
+    → d ≡ dueAfter (x .state .phase) endOfImage → d ≡ To p → r ≡ lastTurn x 0 0 → Owes s volumes (x .at) (toldAt s volumes x) r
 unfolding toldAt toldFrom isDue contents toldEnd fault ifB
-owes-end s names x d p r b h e q t =
-    owes-last s names x _ 0 0 r b t
-    (ap (toldFrom (x .item) (contents s names (x .state))) (decode-past s (x .at) h) ∙ if-true _ _ _ (ap isDue (sym e ∙ q)))
+owes-end s volumes x d p r b h e q t =
+    owes-last s volumes x _ 0 0 r b t
+    (ap (toldFrom (x .item) (contents s volumes (x .state))) (decode-past s (x .at) h) ∙ if-true _ _ _ (ap isDue (sym e ∙ q)))
 
-pub owes-early : (s names : List ℕ) (x : Spot) (d : Due) (r : Turn) → Bounded s (x .at) (x .item) (x .state) → length s ≤ x .at
-    → d ≡ dueAfter (x .state .phase) endOfImage → d ≡ Wrong → r ≡ lastTurn x 3 0 → Owes s names (x .at) (toldAt s names x) r
+pub owes-early : (s volumes : List ℕ) (x : Spot) (d : Due) (r : Turn) → Bounded s (x .at) (x .item) (x .state) → length s ≤ x .at
+    → d ≡ dueAfter (x .state .phase) endOfImage → d ≡ Wrong → r ≡ lastTurn x 3 0 → Owes s volumes (x .at) (toldAt s volumes x) r
 unfolding toldAt toldFrom isDue contents
-owes-early s names x d r b h e q t =
-    let t′ : State = contents s names (x .state) in
-    owes-last s names x _ 3 0 r b t
+owes-early s volumes x d r b h e q t =
+    let t′ : State = contents s volumes (x .state) in
+    owes-last s volumes x _ 3 0 r b t
     (ap (toldFrom (x .item) t′) (decode-past s (x .at) h) ∙ if-false _ _ _ (ap isDue (sym e ∙ q))
     ∙ ap (λ (xs : List Item). framedOr (x .item) t′ xs (verdict 3 (x .item) 0)) (sym (decode-past s (x .at) h))
-    ∙ told-refused s names x 3 0 not-three)
+    ∙ told-refused s volumes x 3 0 not-three)
 
 -- ---- the item that stands at a spot
 
-told-item : (s names : List ℕ) (x : Spot) (y : Item) (behind : ℕ) → decode (drop (x .at) s) ≡ y ∷ decode (drop behind s)
-    → toldBy s names x (kindIn (x .state .phase) y) (bytesIn y) behind ≡ toldAt s names x
+told-item : (s volumes : List ℕ) (x : Spot) (y : Item) (behind : ℕ) → decode (drop (x .at) s) ≡ y ∷ decode (drop behind s)
+    → toldBy s volumes x (kindIn (x .state .phase) y) (bytesIn y) behind ≡ toldAt s volumes x
 unfolding toldBy toldStep toldAt toldFrom step contents
-told-item s names x y behind h =
-    let t : State = contents s names (x .state) in
+told-item s volumes x y behind h =
+    let t : State = contents s volumes (x .state) in
     ap (λ (xs : List Item). toldNext (x .item) t xs (step t y) (λ u. toldFrom (x .item + 1) u (decode (drop behind s)))) h
     ∙ sym (ap (toldFrom (x .item) t) h)
 
@@ -335,51 +335,51 @@ sized-block s x n k h e =
     = λ f m d o q. sym long ∙ sized-of (x .state .phase) l f m d o (ap (λ (j : Kind). isKind j (kind f m)) (sym e) ∙ q) in
     record { volume = at 1 1 refl refl; hdr1 = at 3 1 refl refl; hdr2 = at 3 2 refl refl }
 
-pub owes-block : (s names : List ℕ) (x : Spot) (n : ℕ) (k : Kind) (r : Turn) → BlockHere s x n
+pub owes-block : (s volumes : List ℕ) (x : Spot) (n : ℕ) (k : Kind) (r : Turn) → BlockHere s x n
     → k ≡ kindIn (x .state .phase) (block (take (x .at + 3 + n - (x .at + 3)) (drop (x .at + 3) s)))
-    → Owes s names (x .at) (toldBy s names x k (part (x .at + 3) n s) (x .at + 3 + n)) r
-    → Owes s names (x .at) (toldAt s names x) r
+    → Owes s volumes (x .at) (toldBy s volumes x k (part (x .at + 3) n s) (x .at + 3 + n)) r
+    → Owes s volumes (x .at) (toldAt s volumes x) r
 unfolding bytesIn
-owes-block s names x n k r h e o =
+owes-block s volumes x n k r h e o =
     let l : List ℕ = part (x .at + 3) n s in
     let same : k ≡ kindIn (x .state .phase) (block l) = e ∙ ap (λ (m : List ℕ). kindIn (x .state .phase) (block m)) (part-within (x .at + 3) n s) in
-    subst (λ (v : Verdict). Owes s names (x .at) v r)
-    (ap (λ (j : Kind). toldBy s names x j l (x .at + 3 + n)) same ∙ told-item s names x (block l) (x .at + 3 + n) (h .here)) o
+    subst (λ (v : Verdict). Owes s volumes (x .at) v r)
+    (ap (λ (j : Kind). toldBy s volumes x j l (x .at + 3 + n)) same ∙ told-item s volumes x (block l) (x .at + 3 + n) (h .here)) o
 
 -- ---- items without bytes
 
-bare-told : (s names : List ℕ) (x : Spot) (family : ℕ) → BareHere s x family
-    → toldBy s names x (kind family 0) [] (x .at + 3) ≡ toldAt s names x
-bare-told s names x family h =
+bare-told : (s volumes : List ℕ) (x : Spot) (family : ℕ) → BareHere s x family
+    → toldBy s volumes x (kind family 0) [] (x .at + 3) ≡ toldAt s volumes x
+bare-told s volumes x family h =
     let y : Item = h .here .0 in
-    ap (λ (l : List ℕ). toldBy s names x (kind family 0) l (x .at + 3)) (sym (h .here .3))
-    ∙ ap (λ (j : Kind). toldBy s names x j (bytesIn y) (x .at + 3)) (sym (h .here .2))
-    ∙ told-item s names x y (x .at + 3) (h .here .1)
+    ap (λ (l : List ℕ). toldBy s volumes x (kind family 0) l (x .at + 3)) (sym (h .here .3))
+    ∙ ap (λ (j : Kind). toldBy s volumes x j (bytesIn y) (x .at + 3)) (sym (h .here .2))
+    ∙ told-item s volumes x y (x .at + 3) (h .here .1)
 
-pub bare-undue : (s names : List ℕ) (x : Spot) (family : ℕ) (d : Due) (r : Turn) → BareHere s x family
+pub bare-undue : (s volumes : List ℕ) (x : Spot) (family : ℕ) (d : Due) (r : Turn) → BareHere s x family
     → d ≡ dueAfter (x .state .phase) (kind family 0) → d ≡ Wrong
-    → r ≡ lastTurn x 3 0 → Owes s names (x .at) (toldAt s names x) r
-bare-undue s names x family d r h e w q =
-    owes-last s names x _ 3 0 r (h .bounded) q
-    (sym (bare-told s names x family h) ∙ undue-told s names x (kind family 0) [] (x .at + 3) d e w)
+    → r ≡ lastTurn x 3 0 → Owes s volumes (x .at) (toldAt s volumes x) r
+bare-undue s volumes x family d r h e w q =
+    owes-last s volumes x _ 3 0 r (h .bounded) q
+    (sym (bare-told s volumes x family h) ∙ undue-told s volumes x (kind family 0) [] (x .at + 3) d e w)
 
-pub bare-on : (s names : List ℕ) (x : Spot) (family : ℕ) (d : Due) (p : Phase) (r : Turn) → BareHere s x family
+pub bare-on : (s volumes : List ℕ) (x : Spot) (family : ℕ) (d : Due) (p : Phase) (r : Turn) → BareHere s x family
     → d ≡ dueAfter (x .state .phase) (kind family 0) → d ≡ To p → r ≡ bareTurn x p
-    → Owes s names (x .at) (toldAt s names x) r
+    → Owes s volumes (x .at) (toldAt s volumes x) r
 unfolding toldBy ordered judged toldAfter toldAt placesAfter ifB contents
-bare-on s names x family d p r h e w q =
-    let u : State = contents s names (x .state) in
+bare-on s volumes x family d p r h e w q =
+    let u : State = contents s volumes (x .state) in
     let k : Kind = kind family 0 in
     let behind : ℕ = x .at + 3 in
     let b : Bounded s (x .at) (x .item) (x .state) = h .bounded in
     let bare : Bare u p k = h .bare u p in
-    let told : toldAt s names x ≡ toldFrom (x .item + 1) (phased u p) (decode (drop behind s))
-    = sym (bare-told s names x family h)
-    ∙ ap (λ (y : Due). toldStep s names x behind (ordered u k [] y)) (sym e ∙ w)
-    ∙ ap (toldStep s names x behind) (if-true _ _ _ (eq-eqb _ 0 (bare .sound)))
-    ∙ told-on s names x behind (stateAfter u p k []) (eventsOf u k [])
+    let told : toldAt s volumes x ≡ toldFrom (x .item + 1) (phased u p) (decode (drop behind s))
+    = sym (bare-told s volumes x family h)
+    ∙ ap (λ (y : Due). toldStep s volumes x behind (ordered u k [] y)) (sym e ∙ w)
+    ∙ ap (toldStep s volumes x behind) (if-true _ _ _ (eq-eqb _ 0 (bare .sound)))
+    ∙ told-on s volumes x behind (stateAfter u p k []) (eventsOf u k [])
     ∙ ap (λ (y : State). toldFrom (x .item + 1) y (decode (drop behind s))) (bare .same) in
-    subst (Owes s names (x .at) (toldAt s names x)) (sym q)
+    subst (Owes s volumes (x .at) (toldAt s volumes x)) (sym q)
     (record {
       same = sym told;
       onward = λ _. omega arith;
@@ -422,16 +422,16 @@ broken-wrong : (p : Phase) (d : Due) → d ≡ dueAfter p other → d ≡ Wrong
 broken-wrong p Wrong e = refl
 broken-wrong p (To q) e = absurd (broken-undue p q (sym e))
 
-pub owes-broken : (s names : List ℕ) (x : Spot) (p : Shape) (r : Turn) → Bounded s (x .at) (x .item) (x .state) → x .at < length s
+pub owes-broken : (s volumes : List ℕ) (x : Spot) (p : Shape) (r : Turn) → Bounded s (x .at) (x .item) (x .state) → x .at < length s
     → p ≡ shape (drop (x .at) s) → p ≡ Broken
-    → r ≡ lastTurn x 3 0 → Owes s names (x .at) (toldAt s names x) r
+    → r ≡ lastTurn x 3 0 → Owes s volumes (x .at) (toldAt s volumes x) r
 unfolding kindIn bytesIn
-owes-broken s names x p r b m e q t =
+owes-broken s volumes x p r b m e q t =
     let here : decode (drop (x .at) s) ≡ broken ∷ decode (drop (length s) s)
     = decode-broken s (x .at) p m e q ∙ ap (λ (xs : List Item). broken ∷ xs) (sym (decode-past s (length s) (omega arith))) in
-    owes-last s names x _ 3 0 r b t
-    (sym (told-item s names x broken (length s) here)
-    ∙ undue-told s names x other [] (length s) (dueAfter (x .state .phase) other) refl (broken-wrong (x .state .phase) _ refl))
+    owes-last s volumes x _ 3 0 r b t
+    (sym (told-item s volumes x broken (length s) here)
+    ∙ undue-told s volumes x other [] (length s) (dueAfter (x .state .phase) other) refl (broken-wrong (x .state .phase) _ refl))
 
 pub block-stands : (s : List ℕ) (x : Spot) (n : ℕ) (p : Shape) → Bounded s (x .at) (x .item) (x .state) → x .at < length s
     → p ≡ shape (drop (x .at) s) → p ≡ Block n
@@ -495,9 +495,9 @@ pub past-data : (s : List ℕ) (x : Spot) (h : Lengths) (m : List ℕ) (b : Betw
 unfolding toldAt toldBetween contents labelAt
 past-data s x h m b e g k d w =
     record {
-      same = λ names.
-          let t : State = contents s names (x .state) in
-          let inData : contents s names (x .state) ≡ body t (x .state .count) (x .state .pending)
+      same = λ volumes.
+          let t : State = contents s volumes (x .state) in
+          let inData : contents s volumes (x .state) ≡ body t (x .state .count) (x .state .pending)
           = λ i. record { phase = d i; volumes = t .volumes; files = t .files; continues = t .continues; hdr1 = t .hdr1; hdr2 = t .hdr2; count = t .count; pending = t .pending } in
           sym (k .same t (subst (Given h) e g))
           ∙ sym (ap (λ (u : State). toldFrom (x .item) u (decode (drop (x .at) s))) inData);
@@ -536,89 +536,89 @@ begun s a b =
       bounded = record { short = b; within = a; items = omega arith; files = omega arith; blocks = omega arith };
     }
 
-pub walked-none : (s names : List ℕ) (x : Spot) → FirstSpot s [] x → length names ≡ 16 → Walked s names 0 x
-walked-none s names x b e = record { begun = b; few = omega arith; kept = e }
+pub walked-none : (s volumes : List ℕ) (x : Spot) → FirstSpot s [] x → length volumes ≡ 16 → Walked s volumes 0 x
+walked-none s volumes x b e = record { begun = b; few = omega arith; kept = e }
 
 -- a turn that goes on leads to a spot from which the verdict is the same
-begun-after : (s names : List ℕ) (x y : Spot) (t : Turn) → FirstSpot s names x → Past s x y
-    → Owes s names (y .at) (toldAt s names y) t → t .on ≡ true
-    → FirstSpot s (placesAfter names t) (t .spot)
+begun-after : (s volumes : List ℕ) (x y : Spot) (t : Turn) → FirstSpot s volumes x → Past s x y
+    → Owes s volumes (y .at) (toldAt s volumes y) t → t .on ≡ true
+    → FirstSpot s (placesAfter volumes t) (t .spot)
 unfolding toldAfter
-begun-after s names x y t b p o h =
-    record { same = sym (if-true _ _ _ h) ∙ o .same ∙ p .same names ∙ b .same; bounded = o .bounded }
+begun-after s volumes x y t b p o h =
+    record { same = sym (if-true _ _ _ h) ∙ o .same ∙ p .same volumes ∙ b .same; bounded = o .bounded }
 
-pub walk-on : (s names : List ℕ) (reels : ℕ) (x y : Spot) (t : Turn) → Walked s names reels x → Past s x y
-    → Owes s (take reels names) (y .at) (toldAt s (take reels names) y) t → t .on ≡ true → t .named ≡ false
-    → Walked s names reels (t .spot)
+pub walk-on : (s volumes : List ℕ) (reels : ℕ) (x y : Spot) (t : Turn) → Walked s volumes reels x → Past s x y
+    → Owes s (take reels volumes) (y .at) (toldAt s (take reels volumes) y) t → t .on ≡ true → t .named ≡ false
+    → Walked s volumes reels (t .spot)
 unfolding placesAfter
-walk-on s names reels x y t w p o h n =
+walk-on s volumes reels x y t w p o h n =
     record {
       begun =
           subst (λ (l : List ℕ). FirstSpot s l (t .spot)) (if-false _ _ _ n)
-          (begun-after s (take reels names) x y t (w .begun) p o h);
+          (begun-after s (take reels volumes) x y t (w .begun) p o h);
       few = w .few;
       kept = w .kept;
     }
 
 -- there is room for the name of a volume label that was passed
-pub walk-room : (s names : List ℕ) (reels : ℕ) (x y : Spot) (t : Turn) → Walked s names reels x
-    → Owes s (take reels names) (y .at) (toldAt s (take reels names) y) t → t .named ≡ true → reels < 16
+pub walk-room : (s volumes : List ℕ) (reels : ℕ) (x y : Spot) (t : Turn) → Walked s volumes reels x
+    → Owes s (take reels volumes) (y .at) (toldAt s (take reels volumes) y) t → t .named ≡ true → reels < 16
 unfolding placesAfter
-walk-room s names reels x y t w o n =
-    let long : length (take reels names) ≡ reels = length-take-le reels names (omega (arith, w .few, w .kept)) in
-    let most : length (take reels names ++ (t .label ∷ [])) ≤ 16
+walk-room s volumes reels x y t w o n =
+    let long : length (take reels volumes) ≡ reels = length-take-le reels volumes (omega (arith, w .few, w .kept)) in
+    let most : length (take reels volumes ++ (t .label ∷ [])) ≤ 16
     = subst (λ (l : List ℕ). length l ≤ 16) (if-true _ _ _ n) (o .few (omega (arith, long, w .few))) in
-    omega (arith, length-append (take reels names) (t .label ∷ []), long, most)
+    omega (arith, length-append (take reels volumes) (t .label ∷ []), long, most)
 
-pub walk-named : (s names : List ℕ) (reels : ℕ) (x y : Spot) (t : Turn) → Walked s names reels x → Past s x y
-    → Owes s (take reels names) (y .at) (toldAt s (take reels names) y) t → t .on ≡ true → t .named ≡ true
-    → Walked s (set names reels (t .label)) (reels + 1) (t .spot)
+pub walk-named : (s volumes : List ℕ) (reels : ℕ) (x y : Spot) (t : Turn) → Walked s volumes reels x → Past s x y
+    → Owes s (take reels volumes) (y .at) (toldAt s (take reels volumes) y) t → t .on ≡ true → t .named ≡ true
+    → Walked s (set volumes reels (t .label)) (reels + 1) (t .spot)
 unfolding placesAfter
-walk-named s names reels x y t w p o h n =
-    let room : reels < 16 = walk-room s names reels x y t w o n in
-    let places : take (reels + 1) (set names reels (t .label)) ≡ take reels names ++ (t .label ∷ [])
-    = ap (λ (m : ℕ). take m (set names reels (t .label))) (add-one reels) ∙ take-suc-set names reels (t .label) (omega (arith, w .kept)) in
+walk-named s volumes reels x y t w p o h n =
+    let room : reels < 16 = walk-room s volumes reels x y t w o n in
+    let places : take (reels + 1) (set volumes reels (t .label)) ≡ take reels volumes ++ (t .label ∷ [])
+    = ap (λ (m : ℕ). take m (set volumes reels (t .label))) (add-one reels) ∙ take-suc-set volumes reels (t .label) (omega (arith, w .kept)) in
     record {
       begun =
           subst (λ (l : List ℕ). FirstSpot s l (t .spot)) (if-true _ _ _ n ∙ sym places)
-          (begun-after s (take reels names) x y t (w .begun) p o h);
+          (begun-after s (take reels volumes) x y t (w .begun) p o h);
       few = omega arith;
-      kept = length-set names reels (t .label) ∙ w .kept;
+      kept = length-set volumes reels (t .label) ∙ w .kept;
     }
 
-pub walk-falls : (s names : List ℕ) (reels : ℕ) (x y : Spot) (t : Turn) → Past s x y
-    → Owes s (take reels names) (y .at) (toldAt s (take reels names) y) t → t .on ≡ true
+pub walk-falls : (s volumes : List ℕ) (reels : ℕ) (x y : Spot) (t : Turn) → Past s x y
+    → Owes s (take reels volumes) (y .at) (toldAt s (take reels volumes) y) t → t .on ≡ true
     → length s - t .spot .at < length s - x .at
-walk-falls s names reels x y t p o h = omega (arith, p .onward, o .onward h, o .bounded .within)
+walk-falls s volumes reels x y t p o h = omega (arith, p .onward, o .onward h, o .bounded .within)
 
-pub walk-framed : (s names : List ℕ) (reels : ℕ) (x y : Spot) (t : Turn) → Walked s names reels x
-    → Owes s (take reels names) (y .at) (toldAt s (take reels names) y) t
-    → FrameHere s (t .spot .at) (t .spot .item) (length (take reels names))
-walk-framed s names reels x y t w o =
+pub walk-framed : (s volumes : List ℕ) (reels : ℕ) (x y : Spot) (t : Turn) → Walked s volumes reels x
+    → Owes s (take reels volumes) (y .at) (toldAt s (take reels volumes) y) t
+    → FrameHere s (t .spot .at) (t .spot .item) (length (take reels volumes))
+walk-framed s volumes reels x y t w o =
     let b : Bounded s (t .spot .at) (t .spot .item) (t .spot .state) = o .bounded in
     record {
       short = b .short;
       within = b .within;
       items = b .items;
       few = omega
-          (arith, length-take-le reels names (omega (arith, w .few, w .kept)), w .few);
+          (arith, length-take-le reels volumes (omega (arith, w .few, w .kept)), w .few);
     }
 
-pub walk-done : (s names : List ℕ) (reels : ℕ) (x y : Spot) (t : Turn) (v : Verdict) → Walked s names reels x → Past s x y
-    → Owes s (take reels names) (y .at) (toldAt s (take reels names) y) t → t .on ≡ false
-    → v ≡ toldEnd s (take reels names) (t .spot) (t .fault)
+pub walk-done : (s volumes : List ℕ) (reels : ℕ) (x y : Spot) (t : Turn) (v : Verdict) → Walked s volumes reels x → Past s x y
+    → Owes s (take reels volumes) (y .at) (toldAt s (take reels volumes) y) t → t .on ≡ false
+    → v ≡ toldEnd s (take reels volumes) (t .spot) (t .fault)
     → v ≡ toldFrom 0 start (allItems s)
 unfolding toldAfter
-walk-done s names reels x y t v w p o h e = e ∙ sym (if-false _ _ _ h) ∙ o .same ∙ p .same (take reels names) ∙ w .begun .same
+walk-done s volumes reels x y t v w p o h e = e ∙ sym (if-false _ _ _ h) ∙ o .same ∙ p .same (take reels volumes) ∙ w .begun .same
 
-pub still-bounded : (s names : List ℕ) (reels : ℕ) (x : Spot) → Walked s names reels x → Bounded s (x .at) (x .item) (x .state)
-still-bounded s names reels x w = w .begun .bounded
+pub still-bounded : (s volumes : List ℕ) (reels : ℕ) (x : Spot) → Walked s volumes reels x → Bounded s (x .at) (x .item) (x .state)
+still-bounded s volumes reels x w = w .begun .bounded
 
 pub past-bounded : (s : List ℕ) (x y : Spot) → Past s x y → Bounded s (y .at) (y .item) (y .state)
 past-bounded s x y p = p .bounded
 
-pub reels-within : (s names : List ℕ) (reels : ℕ) (x : Spot) → Walked s names reels x → reels ≤ length names
-reels-within s names reels x w = omega (arith, w .few, w .kept)
+pub reels-within : (s volumes : List ℕ) (reels : ℕ) (x : Spot) → Walked s volumes reels x → reels ≤ length volumes
+reels-within s volumes reels x w = omega (arith, w .few, w .kept)
 
 pub ruleset walks =
     (begun, walked-none, walk-on, walk-room, walk-named, walk-falls, walk-framed, walk-done, still-bounded, past-bounded, reels-within, end-good, end-bad, needs)

@@ -20,16 +20,16 @@ use Rattle.volume.specs.State.{State, start}
 use Rattle.volume.specs.Fault.{itemFault}
 use Rattle.volume.specs.Step.{kindIn, bytesIn, stateAfter, isDue, step, no}
 
--- item x is due stateBehind s, and has no fault there; p is the phase stateBehind it
+-- item x is due behind s, and has no fault there; p is the phase behind it
 pub record Faultless (s : State) (x : Item) (p : Phase) : Type 0 where
   pub due : dueAfter (s .phase) (kindIn (s .phase) x) ≡ To p
   pub sound : itemFault s (kindIn (s .phase) x) (bytesIn x) .number ≡ 0
 
--- the state stateBehind it
+-- the state behind it
 abbrev pub stateBehind : State → Item → Phase → State
 stateBehind s x p = stateAfter s p (kindIn (s .phase) x) (bytesIn x)
 
--- every item from s on is without fault, and P holds of the state stateBehind the last
+-- every item from s on is without fault, and P holds of the state behind the last
 abbrev pub All : (State → Type 0) → State → List Item → Type 0
 All P s [] = P s
 All P s (x ∷ xs) = (p : Phase) × Faultless s x p × All P (stateBehind s x p) xs
@@ -55,7 +55,7 @@ pub record FirstWrong (s : State) (xs : List Item) (k i b : ℕ) : Type 0 where
 
 -- ---- the framing's first wrong item
 
--- an item stateBehind r ended reels may stand there: it is whole, and fewer than 16 have ended
+-- an item behind r ended reels may stand there: it is whole, and fewer than 16 have ended
 unfoldable pub mayStand : ℕ → Item → Bool
 mayStand r (block l) = not (eqb r mostReels)
 mayStand r mark = not (eqb r mostReels)
@@ -68,8 +68,8 @@ isReelEnd mark = false
 isReelEnd reelEnd = true
 isReelEnd broken = false
 
--- stateBehind r ended reels, with `closed` where the last item was an end of reel: i items may stand, and what follows them may
--- not, or is the end of an image that does not end stateBehind an end of reel
+-- behind r ended reels, with `closed` where the last item was an end of reel: i items may stand, and what follows them may
+-- not, or is the end of an image that does not end behind an end of reel
 abbrev pub Unframed : ℕ → Bool → List Item → ℕ → Type 0
 Unframed r closed [] zero = closed ≡ false
 Unframed r closed [] (suc i) = ⊥

@@ -111,13 +111,13 @@ fn or_else(f: Fault, g: Fault) -> Fault
 }
 
 // The fault of VOL1 behind the volume labels at these places: a 17th reel, or an identifier that one of them has.
-fn volume_fault(image: &[u8], names: &[usize], l: &[u8]) -> Fault
-    ensures { λ r. ⌜ r ≡ volumeFault (namesAt (now (image .entry)) (now (names .entry))) (now (l .entry)) ⌝ }
+fn volume_fault(image: &[u8], volumes: &[usize], l: &[u8]) -> Fault
+    ensures { λ r. ⌜ r ≡ volumeFault (namesAt (now (image .entry)) (now (volumes .entry))) (now (l .entry)) ⌝ }
 {
-    if REELS <= names.len() {
+    if REELS <= volumes.len() {
         return Fault { number: 2, byte: 0 };
     }
-    if is_among(image, names, volume_of(l)) {
+    if is_among(image, volumes, volume_of(l)) {
         return Fault {
             number: 6,
             byte: VOLUME_BP,
@@ -287,7 +287,7 @@ fn block_fault(hdr2: &[u8], pending: usize, l: &[u8]) -> Fault
 // The fault of an item of kind k and contents l against what was read before it, with the last HDR1 and HDR2 at hand.
 fn context_fault(
     image: &[u8],
-    names: &[usize],
+    volumes: &[usize],
     st: Reading,
     hdr1: &[u8],
     hdr2: &[u8],
@@ -297,7 +297,7 @@ fn context_fault(
     ensures { λ r. ⌜ r ≡ contextFault
         (record {
           phase = st .phase;
-          volumes = namesAt (now (image .entry)) (now (names .entry));
+          volumes = namesAt (now (image .entry)) (now (volumes .entry));
           files = st .files;
           continues = st .continues;
           hdr1 = now (hdr1 .entry);
@@ -310,7 +310,7 @@ fn context_fault(
         return block_fault(hdr2, st.pending, l);
     }
     if is(k, VOL, 1) {
-        return volume_fault(image, names, l);
+        return volume_fault(image, volumes, l);
     }
     if is(k, HDR, 1) {
         return hdr1_fault(st.continues, st.files, hdr1, l);
@@ -322,13 +322,13 @@ fn context_fault(
 }
 
 // Its first fault: 4 and 5 of its label by itself, then the others.
-pub(crate) fn item_fault(image: &[u8], names: &[usize], st: Reading, k: Kind, l: &[u8]) -> Fault
-    ensures { λ r. ⌜ r ≡ itemFault (contents (now (image .entry)) (now (names .entry)) st) k (now (l .entry)) ⌝ }
+pub(crate) fn item_fault(image: &[u8], volumes: &[usize], st: Reading, k: Kind, l: &[u8]) -> Fault
+    ensures { λ r. ⌜ r ≡ itemFault (contents (now (image .entry)) (now (volumes .entry)) st) k (now (l .entry)) ⌝ }
 {
     let hdr1 = label_at(image, st.hdr1);
     let hdr2 = label_at(image, st.hdr2);
     or_else(
         label_fault(k, l),
-        context_fault(image, names, st, hdr1, hdr2, k, l),
+        context_fault(image, volumes, st, hdr1, hdr2, k, l),
     )
 }

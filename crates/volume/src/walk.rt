@@ -103,15 +103,15 @@ fn go_on(image: &[u8], x: Spot, p: Phase, k: Kind, n: usize) -> Turn
 }
 
 // The turn of a block of n bytes that is due, with phase p behind it: past it, or its fault.
-fn judge(image: &[u8], names: &[usize], x: Spot, p: Phase, k: Kind, n: usize) -> Turn
+fn judge(image: &[u8], volumes: &[usize], x: Spot, p: Phase, k: Kind, n: usize) -> Turn
     requires { ⌜ LabelSized k n ⌝ }
     requires { ⌜ BlockHere (now image) x n ⌝ }
-    ensures { λ r. ⌜ Owes (now (image .entry)) (now (names .entry)) (x .at) (toldDue (now (image .entry)) (now (names .entry)) x p k (part (x .at + 3) n (now (image .entry))) (x .at + 3 + n)) r ⌝ }
+    ensures { λ r. ⌜ Owes (now (image .entry)) (now (volumes .entry)) (x .at) (toldDue (now (image .entry)) (now (volumes .entry)) x p k (part (x .at + 3) n (now (image .entry))) (x .at + 3 + n)) r ⌝ }
 {
     let st = x.state;
     let start = x.at + 3;
     let end = start + n;
-    let f = item_fault(image, names, st, k, &image[start..end]);
+    let f = item_fault(image, volumes, st, k, &image[start..end]);
     if f.number != 0 {
         return last(x, f.number, f.byte);
     }
@@ -119,24 +119,24 @@ fn judge(image: &[u8], names: &[usize], x: Spot, p: Phase, k: Kind, n: usize) ->
 }
 
 // The turn of a block of n bytes and of kind k: 3 where it is not due.
-fn order_turn(image: &[u8], names: &[usize], x: Spot, k: Kind, n: usize) -> Turn
+fn order_turn(image: &[u8], volumes: &[usize], x: Spot, k: Kind, n: usize) -> Turn
     requires { ⌜ LabelSized k n ⌝ }
     requires { ⌜ BlockHere (now image) x n ⌝ }
-    ensures { λ r. ⌜ Owes (now (image .entry)) (now (names .entry)) (x .at) (toldBy (now (image .entry)) (now (names .entry)) x k (part (x .at + 3) n (now (image .entry))) (x .at + 3 + n)) r ⌝ }
+    ensures { λ r. ⌜ Owes (now (image .entry)) (now (volumes .entry)) (x .at) (toldBy (now (image .entry)) (now (volumes .entry)) x k (part (x .at + 3) n (now (image .entry))) (x .at + 3 + n)) r ⌝ }
 {
     let st = x.state;
     let phase = st.phase;
     match due_after(phase, k) {
         Due::Wrong => last(x, 3, 0),
-        Due::To(p) => judge(image, names, x, p, k, n),
+        Due::To(p) => judge(image, volumes, x, p, k, n),
     }
 }
 
 // The turn at the end of the image.
-fn end_turn(image: &[u8], names: &[usize], x: Spot) -> Turn
+fn end_turn(image: &[u8], volumes: &[usize], x: Spot) -> Turn
     requires { ⌜ Bounded (now image) (x .at) (x .item) (x .state) ⌝ }
     requires { ⌜ length (now image) ≤ x .at ⌝ }
-    ensures { λ r. ⌜ Owes (now (image .entry)) (now (names .entry)) (x .at) (toldAt (now (image .entry)) (now (names .entry)) x) r ⌝ }
+    ensures { λ r. ⌜ Owes (now (image .entry)) (now (volumes .entry)) (x .at) (toldAt (now (image .entry)) (now (volumes .entry)) x) r ⌝ }
 {
     let st = x.state;
     let phase = st.phase;
@@ -165,16 +165,16 @@ pub fn kind_in(phase: Phase, l: &[u8]) -> Kind
 }
 
 // The turn of a block of n bytes.
-fn block_turn(image: &[u8], names: &[usize], x: Spot, n: usize) -> Turn
+fn block_turn(image: &[u8], volumes: &[usize], x: Spot, n: usize) -> Turn
     requires { ⌜ BlockHere (now image) x n ⌝ }
-    ensures { λ r. ⌜ Owes (now (image .entry)) (now (names .entry)) (x .at) (toldAt (now (image .entry)) (now (names .entry)) x) r ⌝ }
+    ensures { λ r. ⌜ Owes (now (image .entry)) (now (volumes .entry)) (x .at) (toldAt (now (image .entry)) (now (volumes .entry)) x) r ⌝ }
 {
     let st = x.state;
     let phase = st.phase;
     let start = x.at + 3;
     let end = start + n;
     let k = kind_in(phase, &image[start..end]);
-    order_turn(image, names, x, k, n)
+    order_turn(image, volumes, x, k, n)
 }
 
 // The state behind an item without bytes: only the phase is another.
@@ -203,9 +203,9 @@ fn pass(x: Spot, p: Phase) -> Turn
 }
 
 // The turn of a mark or the end of a reel, which has no fault where it is due.
-fn bare_turn(image: &[u8], names: &[usize], x: Spot, family: u32) -> Turn
+fn bare_turn(image: &[u8], volumes: &[usize], x: Spot, family: u32) -> Turn
     requires { ⌜ BareHere (now image) x family ⌝ }
-    ensures { λ r. ⌜ Owes (now (image .entry)) (now (names .entry)) (x .at) (toldAt (now (image .entry)) (now (names .entry)) x) r ⌝ }
+    ensures { λ r. ⌜ Owes (now (image .entry)) (now (volumes .entry)) (x .at) (toldAt (now (image .entry)) (now (volumes .entry)) x) r ⌝ }
 {
     let st = x.state;
     let phase = st.phase;
@@ -217,29 +217,29 @@ fn bare_turn(image: &[u8], names: &[usize], x: Spot, family: u32) -> Turn
 }
 
 // The turn of the item that stands here.
-fn item_turn(image: &[u8], names: &[usize], x: Spot) -> Turn
+fn item_turn(image: &[u8], volumes: &[usize], x: Spot) -> Turn
     requires { ⌜ Bounded (now image) (x .at) (x .item) (x .state) ⌝ }
     requires { ⌜ x .at < length (now image) ⌝ }
-    ensures { λ r. ⌜ Owes (now (image .entry)) (now (names .entry)) (x .at) (toldAt (now (image .entry)) (now (names .entry)) x) r ⌝ }
+    ensures { λ r. ⌜ Owes (now (image .entry)) (now (volumes .entry)) (x .at) (toldAt (now (image .entry)) (now (volumes .entry)) x) r ⌝ }
 {
     let at = x.at;
     match image::shape_at(image, at) {
-        Shape::Block(n) => block_turn(image, names, x, n),
-        Shape::Mark => bare_turn(image, names, x, TAPE_MARK),
-        Shape::ReelEnd => bare_turn(image, names, x, END_OF_REEL),
+        Shape::Block(n) => block_turn(image, volumes, x, n),
+        Shape::Mark => bare_turn(image, volumes, x, TAPE_MARK),
+        Shape::ReelEnd => bare_turn(image, volumes, x, END_OF_REEL),
         Shape::Broken => last(x, 3, 0),
     }
 }
 
 // The turn at a spot.
-fn take_turn(image: &[u8], names: &[usize], x: Spot) -> Turn
+fn take_turn(image: &[u8], volumes: &[usize], x: Spot) -> Turn
     requires { ⌜ Bounded (now image) (x .at) (x .item) (x .state) ⌝ }
-    ensures { λ r. ⌜ Owes (now (image .entry)) (now (names .entry)) (x .at) (toldAt (now (image .entry)) (now (names .entry)) x) r ⌝ }
+    ensures { λ r. ⌜ Owes (now (image .entry)) (now (volumes .entry)) (x .at) (toldAt (now (image .entry)) (now (volumes .entry)) x) r ⌝ }
 {
     if image.len() <= x.at {
-        return end_turn(image, names, x);
+        return end_turn(image, volumes, x);
     }
-    item_turn(image, names, x)
+    item_turn(image, volumes, x)
 }
 
 // The lengths of the blocks of a section, as its HDR2 gives them.
@@ -319,9 +319,9 @@ fn first_spot(image: &[u8]) -> Spot
 }
 
 // The verdict where a walk ends: that of the fault, or of the framing from there on.
-fn ended(image: &[u8], names: &[usize], x: Spot, f: Fault) -> Verdict
-    requires { ⌜ FrameHere (now image) (x .at) (x .item) (length (now names)) ⌝ }
-    ensures { λ r. ⌜ r ≡ toldEnd (now (image .entry)) (now (names .entry)) x f ⌝ }
+fn ended(image: &[u8], volumes: &[usize], x: Spot, f: Fault) -> Verdict
+    requires { ⌜ FrameHere (now image) (x .at) (x .item) (length (now volumes)) ⌝ }
+    ensures { λ r. ⌜ r ≡ toldEnd (now (image .entry)) (now (volumes .entry)) x f ⌝ }
 {
     if f.number == 0 {
         return Verdict {
@@ -337,7 +337,7 @@ fn ended(image: &[u8], names: &[usize], x: Spot, f: Fault) -> Verdict
         item: x.item,
         byte: f.byte,
     };
-    framed_or(image, x.at, x.item, phase, names.len(), v)
+    framed_or(image, x.at, x.item, phase, volumes.len(), v)
 }
 
 // The verdict on the items of an image, up to the first wrong one, and on the framing from there on.
@@ -346,19 +346,19 @@ pub(crate) fn walk(image: &[u8]) -> Verdict
     requires { ⌜ length (now image) ≤ mostImage ⌝ }
     ensures { λ r. ⌜ r ≡ toldFrom 0 begin (items (now (image .entry))) ⌝ }
 {
-    let mut names = [0usize; 16];
+    let mut volumes = [0usize; 16];
     let mut reels: usize = 0;
     let mut x = first_spot(image);
     loop {
-        let t = take_turn(image, &names[..reels], past(image, x));
+        let t = take_turn(image, &volumes[..reels], past(image, x));
         x = t.spot;
         if t.on {
             if t.named {
-                names[reels] = t.label;
+                volumes[reels] = t.label;
                 reels += 1;
             }
         } else {
-            return ended(image, &names[..reels], x, t.fault);
+            return ended(image, &volumes[..reels], x, t.fault);
         }
     }
 }

@@ -29,22 +29,22 @@ use Rattle.volume.specs.code.Place.{contents}
 
 -- the verdict from a spot on
 unfoldable pub toldAt : List ℕ → List ℕ → Spot → Verdict
-toldAt s names x = toldFrom (x .item) (contents s names (x .state)) (decode (drop (x .at) s))
+toldAt s volumes x = toldFrom (x .item) (contents s volumes (x .state)) (decode (drop (x .at) s))
 
 -- the verdict by the step of the item that stands there, behind which place `behind` follows
 unfoldable pub toldStep : List ℕ → List ℕ → Spot → ℕ → Next → Verdict
-toldStep s names x behind r =
-    toldNext (x .item) (contents s names (x .state)) (decode (drop (x .at) s)) r
+toldStep s volumes x behind r =
+    toldNext (x .item) (contents s volumes (x .state)) (decode (drop (x .at) s)) r
     (λ u. toldFrom (x .item + 1) u (decode (drop behind s)))
 
 -- the same where it is of kind k and contents l
 unfoldable pub toldBy : List ℕ → List ℕ → Spot → Kind → List ℕ → ℕ → Verdict
-toldBy s names x k l behind = toldStep s names x behind (ordered (contents s names (x .state)) k l (dueAfter (x .state .phase) k))
+toldBy s volumes x k l behind = toldStep s volumes x behind (ordered (contents s volumes (x .state)) k l (dueAfter (x .state .phase) k))
 
 -- and where it is due, with phase p behind it
 unfoldable pub toldDue : List ℕ → List ℕ → Spot → Phase → Kind → List ℕ → ℕ → Verdict
-toldDue s names x p k l behind =
-    toldStep s names x behind (judged (contents s names (x .state)) p k l (itemFault (contents s names (x .state)) k l))
+toldDue s volumes x p k l behind =
+    toldStep s volumes x behind (judged (contents s volumes (x .state)) p k l (itemFault (contents s volumes (x .state)) k l))
 
 -- the frame of a place
 abbrev pub frame : ℕ → ℕ → ℕ → Bool → Frame
@@ -61,17 +61,17 @@ framedElse s at item p reels v = ifB (eqb (framedAt s at item p reels .number) 0
 -- the verdict where reading ends at a spot: with no fault, or with a fault of the item that stands there, before which the
 -- framing from it on goes
 unfoldable pub toldEnd : List ℕ → List ℕ → Spot → Fault → Verdict
-toldEnd s names x f =
+toldEnd s volumes x f =
     ifB (eqb (f .number) 0) (verdict 0 0 0)
-    (framedElse s (x .at) (x .item) (x .state .phase) (length names) (verdict (f .number) (x .item) (f .byte)))
+    (framedElse s (x .at) (x .item) (x .state .phase) (length volumes) (verdict (f .number) (x .item) (f .byte)))
 
 -- the places of the volume labels behind a turn
 unfoldable pub placesAfter : List ℕ → Turn → List ℕ
-placesAfter names r = ifB (r .named) (names ++ (r .label ∷ [])) names
+placesAfter volumes r = ifB (r .named) (volumes ++ (r .label ∷ [])) volumes
 
 -- the verdict that a turn leads to: that from its spot on, or that of the end there
 unfoldable pub toldAfter : List ℕ → List ℕ → Turn → Verdict
-toldAfter s names r = ifB (r .on) (toldAt s (placesAfter names r) (r .spot)) (toldEnd s names (r .spot) (r .fault))
+toldAfter s volumes r = ifB (r .on) (toldAt s (placesAfter volumes r) (r .spot)) (toldEnd s volumes (r .spot) (r .fault))
 
 -- a place of an image that is not too long, behind few reels: each item before it took a byte or more
 pub record FrameHere (s : List ℕ) (at item reels : ℕ) : Type 0 where
@@ -102,9 +102,9 @@ pub record LabelSized (k : Kind) (len : ℕ) : Type 0 where
 -- a reading behind an item of kind k at `start`, whatever volume labels were read before it, and its counts, each of at most one
 -- more
 pub record ReadingBehind (s : List ℕ) (x : Reading) (p : Phase) (k : Kind) (start len : ℕ) (r : Reading) : Type 0 where
-  pub same : (names : List ℕ)
-      → contents s (ifB (isKind k (vol 1)) (names ++ (start ∷ [])) names) r
-      ≡ stateAfter (contents s names x) p k (part start len s)
+  pub same : (volumes : List ℕ)
+      → contents s (ifB (isKind k (vol 1)) (volumes ++ (start ∷ [])) volumes) r
+      ≡ stateAfter (contents s volumes x) p k (part start len s)
   pub files : r .files ≤ x .files + 1
   pub blocks : r .count ≤ x .count + 1
 
@@ -176,25 +176,25 @@ pub record BareHere (s : List ℕ) (x : Spot) (family : ℕ) : Type 0 where
   pub bare : (t : State) (p : Phase) → Bare t p (kind family 0)
 
 -- a turn from `at` on owes the verdict v; where it goes on, it went on by a byte or more; and it passes no 17th volume label
-pub record Owes (s names : List ℕ) (at : ℕ) (v : Verdict) (r : Turn) : Type 0 where
-  pub same : toldAfter s names r ≡ v
+pub record Owes (s volumes : List ℕ) (at : ℕ) (v : Verdict) (r : Turn) : Type 0 where
+  pub same : toldAfter s volumes r ≡ v
   pub onward : r .on ≡ true → at < r .spot .at
   pub bounded : Bounded s (r .spot .at) (r .spot .item) (r .spot .state)
-  pub few : length names ≤ mostReels → length (placesAfter names r) ≤ mostReels
+  pub few : length volumes ≤ mostReels → length (placesAfter volumes r) ≤ mostReels
 
 -- a spot further on from which the verdict is the same, whatever volume labels were read
 pub record Past (s : List ℕ) (x y : Spot) : Type 0 where
-  pub same : (names : List ℕ) → toldAt s names y ≡ toldAt s names x
+  pub same : (volumes : List ℕ) → toldAt s volumes y ≡ toldAt s volumes x
   pub onward : x .at ≤ y .at
   pub bounded : Bounded s (y .at) (y .item) (y .state)
 
 -- a spot from which the verdict is that from the first item on
-pub record FirstSpot (s names : List ℕ) (x : Spot) : Type 0 where
-  pub same : toldAt s names x ≡ toldFrom 0 start (items s)
+pub record FirstSpot (s volumes : List ℕ) (x : Spot) : Type 0 where
+  pub same : toldAt s volumes x ≡ toldFrom 0 start (items s)
   pub bounded : Bounded s (x .at) (x .item) (x .state)
 
 -- the same behind the first `reels` of sixteen places
-pub record Walked (s names : List ℕ) (reels : ℕ) (x : Spot) : Type 0 where
-  pub begun : FirstSpot s (take reels names) x
+pub record Walked (s volumes : List ℕ) (reels : ℕ) (x : Spot) : Type 0 where
+  pub begun : FirstSpot s (take reels volumes) x
   pub few : reels ≤ mostReels
-  pub kept : length names ≡ mostReels
+  pub kept : length volumes ≡ mostReels

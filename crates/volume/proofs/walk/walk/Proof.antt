@@ -7,10 +7,10 @@ use Rattle.volume.proofs.walk.walk.Statement.{statement}
 use Rattle.volume.proofs.walk.walk.Tie as tie
 
 abbrev Inv-loop : tie.InvT-loop
-Inv-loop image names₀ reels₀ x₀ names reels x = Walked image names reels x
+Inv-loop image volumes₀ reels₀ x₀ volumes reels x = Walked image volumes reels x
 
 abbrev μ-loop : tie.MeasureT-loop
-μ-loop image names₀ reels₀ x₀ names reels x = length image - x .at
+μ-loop image volumes₀ reels₀ x₀ volumes reels x = length image - x .at
 
 first-spot-requires : tie.Need-first-spot-requires Inv-loop μ-loop
 first-spot-requires c κs = search walks
@@ -18,8 +18,8 @@ first-spot-requires c κs = search walks
 loop-holds : tie.Need-loop-holds Inv-loop μ-loop
 loop-holds c = search walks
 
-array-share-prefix-names : tie.Need-array-share-prefix-names Inv-loop μ-loop
-array-share-prefix-names c = search walks
+array-share-prefix-volumes : tie.Need-array-share-prefix-volumes Inv-loop μ-loop
+array-share-prefix-volumes c = search walks
 
 slice-aggregate-take-turn : tie.Need-slice-aggregate-take-turn Inv-loop μ-loop
 slice-aggregate-take-turn c = counted _ _ (search walks)
@@ -30,11 +30,11 @@ past-requires c κs = search walks
 take-turn-requires : tie.Need-take-turn-requires Inv-loop μ-loop
 take-turn-requires c κs = search walks
 
-mul-names : tie.Need-mul-names Inv-loop μ-loop
-mul-names c = search walks
+mul-volumes : tie.Need-mul-volumes Inv-loop μ-loop
+mul-volumes c = search walks
 
-array-write-names : tie.Need-array-write-names Inv-loop μ-loop
-array-write-names c = search walks
+array-write-volumes : tie.Need-array-write-volumes Inv-loop μ-loop
+array-write-volumes c = search walks
 
 add-reels : tie.Need-add-reels Inv-loop μ-loop
 add-reels c = search walks
@@ -51,8 +51,8 @@ loop-less-2 c = search walks
 loop-again-2 : tie.Need-loop-again-2 Inv-loop μ-loop
 loop-again-2 c = search walks
 
-array-share-prefix-names-2 : tie.Need-array-share-prefix-names-2 Inv-loop μ-loop
-array-share-prefix-names-2 c = search walks
+array-share-prefix-volumes-2 : tie.Need-array-share-prefix-volumes-2 Inv-loop μ-loop
+array-share-prefix-volumes-2 c = search walks
 
 slice-aggregate-ended : tie.Need-slice-aggregate-ended Inv-loop μ-loop
 slice-aggregate-ended c = counted _ _ (search walks)
@@ -71,18 +71,18 @@ walk-spec =
     μ-loop
     first-spot-requires
     loop-holds
-    array-share-prefix-names
+    array-share-prefix-volumes
     slice-aggregate-take-turn
     past-requires
     take-turn-requires
-    mul-names
-    array-write-names
+    mul-volumes
+    array-write-volumes
     add-reels
     loop-less
     loop-again
     loop-less-2
     loop-again-2
-    array-share-prefix-names-2
+    array-share-prefix-volumes-2
     slice-aggregate-ended
     ended-requires
     returns)
