@@ -41,7 +41,7 @@ names-at : (s : List ℕ) (at : ℕ) → at < length s → inParts 6 (drop at s)
 unfolding part
 names-at s at h = let l = length-drop at s in parts-some 6 (drop at s) (omega arith) (omega arith)
 
--- ---- the loop of `is_among`: what is left from here is searched as the whole
+-- ---- the loop of `is_named_before`: what is left from here is searched as the whole
 
 pub record Sought (v s : List ℕ) (at : ℕ) : Type 0 where
   pub left : isAmong v (inParts 6 (drop at s)) ≡ isAmong v (inParts 6 s)

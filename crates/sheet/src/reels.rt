@@ -55,7 +55,7 @@ fn is_name_at(v: &[u8], names: &[u8], at: usize) -> bool
 }
 
 // Whether v is one of some names that stand one behind the other.
-fn is_among(v: &[u8], names: &[u8]) -> bool
+fn is_named_before(v: &[u8], names: &[u8]) -> bool
     ensures { λ r. ⌜ r ≡ isAmong (now (v .entry)) (inParts 6 (now (names .entry))) ⌝ }
 {
     let mut at = 0;
@@ -78,7 +78,7 @@ pub(crate) fn are_fresh(names: &[u8]) -> bool
         if !is_legal_name(name) {
             return false;
         }
-        if is_among(name, &names[..at]) {
+        if is_named_before(name, &names[..at]) {
             return false;
         }
         at += NAME;

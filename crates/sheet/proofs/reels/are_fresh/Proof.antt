@@ -22,11 +22,11 @@ is-legal-name-requires c κs = search freshes
 returns : tie.Need-returns Inv-loop μ-loop
 returns c = search freshes
 
-slice-aggregate-is-among : tie.Need-slice-aggregate-is-among Inv-loop μ-loop
-slice-aggregate-is-among c = search freshes
+slice-aggregate-is-named-before : tie.Need-slice-aggregate-is-named-before Inv-loop μ-loop
+slice-aggregate-is-named-before c = search freshes
 
-is-among-requires : tie.Need-is-among-requires Inv-loop μ-loop
-is-among-requires c κs = search freshes
+is-named-before-requires : tie.Need-is-named-before-requires Inv-loop μ-loop
+is-named-before-requires c κs = search freshes
 
 returns-2 : tie.Need-returns-2 Inv-loop μ-loop
 returns-2 c = search freshes
@@ -53,8 +53,8 @@ are-fresh-spec =
     part-of-requires
     is-legal-name-requires
     returns
-    slice-aggregate-is-among
-    is-among-requires
+    slice-aggregate-is-named-before
+    is-named-before-requires
     returns-2
     add-at
     loop-less

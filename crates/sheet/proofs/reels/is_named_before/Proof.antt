@@ -1,8 +1,8 @@
 use Prim.Native.Nat.{_-_}
 use lib.ListN.{length}
 use Rattle.sheet.proofs.Names.{Sought, seeks}
-use Rattle.sheet.proofs.reels.is_among.Statement.{statement}
-use Rattle.sheet.proofs.reels.is_among.Tie as tie
+use Rattle.sheet.proofs.reels.is_named_before.Statement.{statement}
+use Rattle.sheet.proofs.reels.is_named_before.Tie as tie
 
 abbrev Inv-loop : tie.InvT-loop
 Inv-loop v names at₀ at = Sought v names at
@@ -31,8 +31,8 @@ loop-again c = search seeks
 returns-2 : tie.Need-returns-2 Inv-loop μ-loop
 returns-2 c = search seeks
 
-pub is-among-spec : {M : Type 1} → statement M
-is-among-spec =
+pub is-named-before-spec : {M : Type 1} → statement M
+is-named-before-spec =
     tie.close
     (tie.spec
     Inv-loop
