@@ -35,6 +35,10 @@ entry =
     rowOf hdr1 identifierRow ++ rowOf hdr1 generationRow ++ rowOf hdr1 versionRow ++ rowOf hdr1 createdRow ++
     rowOf hdr1 expiresRow ++ rowOf hdr2 formatRow ++ rowOf hdr2 blockLengthRow ++ rowOf hdr2 recordLengthRow
 
+-- its bytes
+abbrev pub entryLength : ℕ
+entryLength = 46
+
 abbrev pub identifierIn : List ℕ → List ℕ
 identifierIn file = field entry 0 file
 

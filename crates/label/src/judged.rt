@@ -6,8 +6,8 @@ ghost use Rattle.label.specs.Judged.{wrongIn, accessOf, accessAt, fieldF
 ghost use Rattle.label.specs.Table.{fieldsOf};
 use super::rows::Ask;
 use super::rows::first_bad_of;
-use super::table::FILE_ACCESS;
-use super::table::VOLUME_ACCESS;
+use super::table::FILE_ACCESS_BP;
+use super::table::VOLUME_ACCESS_BP;
 use base::Fault;
 use base::equal;
 use base::part_of;
@@ -30,16 +30,16 @@ fn access_of(k: Kind) -> u32
     ensures { λ r. ⌜ r ≡ accessOf k ⌝ }
 {
     if is(k, VOL, 1) {
-        return VOLUME_ACCESS;
+        return VOLUME_ACCESS_BP;
     }
     if is(k, HDR, 1) {
-        return FILE_ACCESS;
+        return FILE_ACCESS_BP;
     }
     if is(k, EOV, 1) {
-        return FILE_ACCESS;
+        return FILE_ACCESS_BP;
     }
     if is(k, EOF, 1) {
-        return FILE_ACCESS;
+        return FILE_ACCESS_BP;
     }
     0
 }

@@ -28,6 +28,7 @@ pub use made::second_label;
 pub use made::volume_label;
 pub use name::kind;
 pub use table::COUNT_BP;
+pub use table::ENTRY;
 pub use table::FORMAT_IN;
 pub use table::IDENTIFIER;
 pub use table::IDENTIFIER_WIDTH;

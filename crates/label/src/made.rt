@@ -52,8 +52,7 @@ fn with_part(l: [u8; 80], at: usize, w: usize, file: &[u8], from: usize) -> [u8;
 pub fn volume_label(id: &[u8]) -> [u8; 80]
     ensures { λ r. ⌜ r ≡ madeVolume (now (id .entry)) ⌝ }
 {
-    let blank = [b' '; 80];
-    let named = with_field(blank, table::NAME, table::NAME_WIDTH, b"VOL1");
+    let named = with_field([b' '; 80], table::NAME, table::NAME_WIDTH, b"VOL1");
     let identified = with_field(named, table::VOLUME, table::VOLUME_WIDTH, id);
     with_field(
         identified,
@@ -74,8 +73,7 @@ pub fn first_label(
 ) -> [u8; 80]
     ensures { λ r. ⌜ r ≡ madeFirst (now (name .entry)) (now (set .entry)) (now (file .entry)) section sequence count ⌝ }
 {
-    let blank = [b' '; 80];
-    let named = with_field(blank, table::NAME, table::NAME_WIDTH, name);
+    let named = with_field([b' '; 80], table::NAME, table::NAME_WIDTH, name);
     let identified = with_part(
         named,
         table::IDENTIFIER,
@@ -121,8 +119,7 @@ pub fn first_label(
 pub fn second_label(name: &[u8], file: &[u8]) -> [u8; 80]
     ensures { λ r. ⌜ r ≡ madeSecond (now (name .entry)) (now (file .entry)) ⌝ }
 {
-    let blank = [b' '; 80];
-    let named = with_field(blank, table::NAME, table::NAME_WIDTH, name);
+    let named = with_field([b' '; 80], table::NAME, table::NAME_WIDTH, name);
     let format = with_part(
         named,
         table::RECORD_FORMAT,

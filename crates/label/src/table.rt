@@ -63,51 +63,58 @@ pub(crate) const VOL1: [u8; 24] = [
     PER_LABEL, // 80 `4`
 ];
 
+// HDR1; EOV1 and EOF1 but for the rule of the block count.
+const HDR1: [u8; 39] = [
+    4,
+    FREE,
+    PER_LABEL, // 1-4 the kind
+    17,
+    CHARACTERS,
+    PER_FILE, // 5-21 file identifier
+    6,
+    CHARACTERS,
+    PER_FILE, // 22-27 set identifier
+    4,
+    DIGITS,
+    PER_SECTION, // 28-31 section
+    4,
+    DIGITS,
+    PER_FILE, // 32-35 sequence
+    4,
+    POSITIVE,
+    PER_FILE, // 36-39 generation
+    2,
+    DIGITS,
+    PER_FILE, // 40-41 version
+    6,
+    DATE,
+    PER_SECTION, // 42-47 creation date
+    6,
+    DATE,
+    PER_SECTION, // 48-53 expiration date
+    1,
+    CHARACTERS,
+    PER_FILE, // 54 accessibility
+    6,
+    ZEROS,
+    PER_LABEL, // 55-60 block count
+    13,
+    CHARACTERS,
+    PER_LABEL, // 61-73 implementation
+    7,
+    SPACES,
+    PER_SECTION, // 74-80
+];
+
+const COUNT_RULE: usize = 31;
+
 // HDR1, EOV1 and EOF1, with the rule of the block count.
 pub(crate) fn first(count: u8) -> [u8; 39]
     ensures { λ r. ⌜ r ≡ first count ⌝ }
 {
-    [
-        4,
-        FREE,
-        PER_LABEL, // 1-4 the kind
-        17,
-        CHARACTERS,
-        PER_FILE, // 5-21 file identifier
-        6,
-        CHARACTERS,
-        PER_FILE, // 22-27 set identifier
-        4,
-        DIGITS,
-        PER_SECTION, // 28-31 section
-        4,
-        DIGITS,
-        PER_FILE, // 32-35 sequence
-        4,
-        POSITIVE,
-        PER_FILE, // 36-39 generation
-        2,
-        DIGITS,
-        PER_FILE, // 40-41 version
-        6,
-        DATE,
-        PER_SECTION, // 42-47 creation date
-        6,
-        DATE,
-        PER_SECTION, // 48-53 expiration date
-        1,
-        CHARACTERS,
-        PER_FILE, // 54 accessibility
-        6,
-        count,
-        PER_LABEL, // 55-60 block count
-        13,
-        CHARACTERS,
-        PER_LABEL, // 61-73 implementation
-        7,
-        SPACES,
-        PER_SECTION, // 74-80
-    ]
+    let mut rows = HDR1;
+    rows[COUNT_RULE] = count;
+    rows
 }
 
 // HDR2, EOV2 and EOF2.
@@ -160,6 +167,8 @@ pub(crate) const VOLUME: usize = 4;
 
 pub(crate) const VOLUME_WIDTH: usize = 6;
 
+pub(crate) const VOLUME_ACCESS: usize = 10;
+
 pub(crate) const STANDARD_VERSION: usize = 79;
 
 pub(crate) const STANDARD_VERSION_WIDTH: usize = 1;
@@ -197,6 +206,8 @@ pub(crate) const CREATED_WIDTH: usize = 6;
 pub(crate) const EXPIRES: usize = 47;
 
 pub(crate) const EXPIRES_WIDTH: usize = 6;
+
+pub(crate) const FILE_ACCESS: usize = 53;
 
 pub(crate) const COUNT: usize = 54;
 
@@ -238,11 +249,14 @@ pub(crate) const BLOCK_LENGTH_IN: usize = 36;
 
 pub const SIZE_IN: usize = 41;
 
+// The bytes of an entry.
+pub const ENTRY: usize = SIZE_IN + SIZE_WIDTH;
+
 // ---- the BPs that a refusal names: of the accessibility of a volume and of a file, and of what is checked against other labels
 
-pub(crate) const VOLUME_ACCESS: u32 = 11;
+pub(crate) const VOLUME_ACCESS_BP: u32 = VOLUME_ACCESS as u32 + 1;
 
-pub(crate) const FILE_ACCESS: u32 = 54;
+pub(crate) const FILE_ACCESS_BP: u32 = FILE_ACCESS as u32 + 1;
 
 pub const VOLUME_BP: u32 = VOLUME as u32 + 1;
 

@@ -16,7 +16,7 @@ use Rattle.order.specs.Kind.{vol, hdr}
 use Rattle.label.specs.Name.{HDR1, HDR2}
 use Rattle.label.specs.Judged.{labelFault}
 use Rattle.label.specs.Table.{placeOf}
-use Rattle.label.specs.Made.{entry, madeVolume, madeFirst, madeSecond, blockLengthIn, recordLengthIn}
+use Rattle.label.specs.Made.{entry, entryLength, madeVolume, madeFirst, madeSecond, blockLengthIn, recordLengthIn}
 use Rattle.block.specs.Unit.{pad}
 use Rattle.volume.specs.Fault.{isAmong, valueOf, mostFiles}
 use Rattle.volume.specs.Meaning.{File, Meaning}
@@ -43,11 +43,11 @@ recordLengthFrom e = valueOf (numberIn (recordLengthIn e))
 unfoldable pub isSound : Fault → Bool
 isSound f = eqb (f .number) 0
 
--- the set identifier and the 46 bytes of a file's entry: the header labels made of them have no fault
+-- the set identifier and a file's entry: the header labels made of them have no fault
 unfoldable pub legalEntry : List ℕ → List ℕ → Bool
 legalEntry set e =
     ifB (eqb (length set) 6)
-    (ifB (eqb (length e) 46)
+    (ifB (eqb (length e) entryLength)
     (ifB (isSound (labelFault (hdr 1) (madeFirst HDR1 set e 1 1 0))) (isSound (labelFault (hdr 2) (madeSecond HDR2 e))) false)
     false)
     false

@@ -1,12 +1,12 @@
 -- The labels that the writer makes around the blocks of a section. Document 01: the writer makes no optional labels.
 use mathlib.Core.List.{List, [], _∷_, _++_}
-use Prim.Native.Nat.{ℕ}
+use Prim.Native.Nat.{ℕ, _+_}
 use lib.ListN.{getD}
 use Rattle.base.specs.Part.{part}
 use Rattle.image.specs.Item.{Item, block, mark, reelEnd, encode}
 use Rattle.image.specs.Framing.{head}
 use Rattle.label.specs.Name.{HDR1, HDR2, EOV1, EOV2, EOF1, EOF2}
-use Rattle.label.specs.Made.{madeVolume, madeFirst, madeSecond}
+use Rattle.label.specs.Made.{madeVolume, entryLength, madeFirst, madeSecond}
 
 -- HDR1, HDR2 and a mark
 unfoldable pub headers : List ℕ → List ℕ → ℕ → ℕ → List Item
@@ -26,12 +26,16 @@ volumeEnd set e section sequence count =
 unfoldable pub imageHead : List ℕ → List ℕ
 imageHead name = head ++ encode (block (madeVolume name) ∷ [])
 
+-- the bytes of the set entry
+abbrev pub setLength : ℕ
+setLength = 6
+
 -- what the labels of a file are made of, one behind the other: the file's entry, its number in the set, and the set entry
 abbrev pub entryIn : List ℕ → List ℕ
-entryIn labels = part 0 46 labels
+entryIn labels = part 0 entryLength labels
 
 abbrev pub sequenceIn : List ℕ → ℕ
-sequenceIn labels = getD labels 46 0
+sequenceIn labels = getD labels entryLength 0
 
 abbrev pub setIn : List ℕ → List ℕ
-setIn labels = part 47 6 labels
+setIn labels = part (entryLength + 1) setLength labels

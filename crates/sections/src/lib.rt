@@ -9,6 +9,7 @@ ghost use Rattle.sections.specs.code.Pair.{pairOf};
 use base::part_of;
 use base::put_few;
 use base::put_in;
+use label::ENTRY;
 use label::first_label;
 use label::second_label;
 use label::volume_label;
@@ -17,10 +18,8 @@ use label::volume_label;
 // names of the reels.
 pub type Labels = [u8; 149];
 
-// The bytes of the entry, which stands first; the place of the number; the place of the set entry, and its bytes; the place of the
-// names, and the bytes of each.
-pub const ENTRY: usize = 46;
-
+// The place of the number behind the entry; the place of the set entry, and its bytes; the place of the names, and the bytes of
+// each.
 pub const SEQUENCE: usize = ENTRY;
 
 pub const SET: usize = SEQUENCE + 1;

@@ -8,6 +8,7 @@ use lib.ListN.{length, take, drop}
 use Rattle.base.specs.If.{ifB}
 use Rattle.base.specs.Sum.{sum, cutBy}
 use Rattle.image.specs.Framing.{mostReels}
+use Rattle.label.specs.Made.{entryLength}
 use Rattle.volume.specs.Fault.{mostFiles}
 use Rattle.volume.specs.Meaning.{File}
 use Rattle.reading.specs.Legal.{Sheet, legalQuota, legalNames, legalSheet}
@@ -40,7 +41,7 @@ filesFrom (e ∷ es) (c ∷ cs) ls bs =
 -- counts and lengths add up
 unfoldable pub addsUp : Flat → Bool
 addsUp x =
-    ifB (eqb (length (x .files)) (46 * length (x .counts)))
+    ifB (eqb (length (x .files)) (entryLength * length (x .counts)))
     (ifB (eqb (sum (x .counts)) (length (x .lengths)))
     (ifB (eqb (sum (x .lengths)) (length (x .bytes)))
     (eqb (length (x .names) % 6) 0)
@@ -51,7 +52,7 @@ addsUp x =
 unfoldable pub sheetOf : Flat → Sheet
 sheetOf x =
     record {
-      meaning = record { set = x .set; files = filesFrom (inParts 46 (x .files)) (x .counts) (x .lengths) (x .bytes) };
+      meaning = record { set = x .set; files = filesFrom (inParts entryLength (x .files)) (x .counts) (x .lengths) (x .bytes) };
       quota = x .quota;
       names = inParts 6 (x .names);
     }
@@ -59,7 +60,7 @@ sheetOf x =
 -- 9: a 65th file or a 17th name; 11: not legal; else 0
 unfoldable pub sheetNumber : Flat → ℕ
 sheetNumber x =
-    ifB (ltb mostFiles (length (x .files) / 46)) 9
+    ifB (ltb mostFiles (length (x .files) / entryLength)) 9
     (ifB (ltb mostReels (length (x .names) / 6)) 9
     (ifB (addsUp x) (ifB (legalSheet (sheetOf x)) 0 11) 11))
 

@@ -1,4 +1,4 @@
-// The files on a sheet: their entries of 46 bytes and their records. It knows nothing of reels.
+// The files on a sheet: their entries and their records. It knows nothing of reels.
 ghost use mathlib.Core.Path.{_≡_};
 ghost use Prim.Native.Nat.{_+_, _≤_};
 ghost use lib.ListN.{length, drop};
@@ -6,7 +6,7 @@ ghost use Rattle.base.specs.Sum.{sum, cutBy};
 ghost use Rattle.order.specs.Kind.{hdr};
 ghost use Rattle.label.specs.Name.{HDR1, HDR2};
 ghost use Rattle.label.specs.Judged.{labelFault};
-ghost use Rattle.label.specs.Made.{madeFirst, madeSecond};
+ghost use Rattle.label.specs.Made.{entryLength, madeFirst, madeSecond};
 ghost use Rattle.reading.specs.Legal.{isSound, formatFrom, recordLengthFrom, legalEntry, legalRecord, legalRecords, legalFile, legalFiles};
 ghost use Rattle.sheet.specs.Flat.{inParts, filesFrom};
 ghost use Rattle.sheet.specs.code.Passing.{RecordsPassed, tooLong};
@@ -17,6 +17,7 @@ use base::part_of;
 use block::all_padding;
 use charset::Number;
 use charset::number_in;
+use label::ENTRY;
 use label::FORMAT_IN;
 use label::SIZE_IN;
 use label::SIZE_WIDTH;
@@ -25,9 +26,6 @@ use label::label_fault;
 use label::second_label;
 use order::HDR;
 use order::Kind;
-
-// The bytes of a file's entry.
-pub(crate) const ENTRY: usize = 46;
 
 // The least length of a record that four digits of a control word cannot say.
 const UNSAYABLE: usize = 9_996;
@@ -218,7 +216,7 @@ pub(crate) fn are_legal(
     bytes: &[u8],
 ) -> bool
     requires { ⌜ sum (now lengths) ≤ length (now bytes) ⌝ }
-    ensures { λ r. ⌜ r ≡ legalFiles (now (set .entry)) (filesFrom (inParts 46 (now (files .entry))) (now (counts .entry)) (now (lengths .entry)) (now (bytes .entry))) ⌝ }
+    ensures { λ r. ⌜ r ≡ legalFiles (now (set .entry)) (filesFrom (inParts entryLength (now (files .entry))) (now (counts .entry)) (now (lengths .entry)) (now (bytes .entry))) ⌝ }
 {
     let mut entry = 0;
     let mut first = 0;

@@ -15,7 +15,7 @@ use base::part_of;
 use base::put_in;
 use charset::Number;
 use charset::number_in;
-use sections::ENTRY;
+use label::ENTRY;
 use sections::FILE_END;
 use sections::HEADERS;
 use sections::Labels;

@@ -16,7 +16,7 @@ use base::put_in;
 use content::FileAt;
 use content::NextFile;
 use content::file_behind;
-use sections::ENTRY;
+use label::ENTRY;
 use sections::HEAD;
 use sections::Labels;
 use sections::NAME;

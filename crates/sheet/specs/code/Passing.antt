@@ -8,6 +8,7 @@ use lib.ListN.{length}
 use Rattle.base.specs.If.{ifB}
 use Rattle.base.specs.Format.{D}
 use Rattle.base.specs.Sum.{sum}
+use Rattle.label.specs.Made.{entryLength}
 use Rattle.reading.specs.Legal.{legalFiles}
 use Rattle.sheet.specs.Flat.{inParts, filesFrom}
 use Rattle.sheet.specs.declared.file.Passed.{Passed}
@@ -24,13 +25,13 @@ tooLong f r = ifB (eqb f D) (min (r - 3) 9996) (r + 1)
 -- the lengths add up to the bytes, and all files are legal
 unfoldable pub fillBytes : List ℕ → List ℕ → List ℕ → List ℕ → List ℕ → Bool
 fillBytes set files counts lengths bytes =
-    ifB (eqb (sum lengths) (length bytes)) (legalFiles set (filesFrom (inParts 46 files) counts lengths bytes)) false
+    ifB (eqb (sum lengths) (length bytes)) (legalFiles set (filesFrom (inParts entryLength files) counts lengths bytes)) false
 
 -- counts and lengths add up, and there are files, all of them legal: the tests in the order in which they are made
 unfoldable pub saysFiles : List ℕ → List ℕ → List ℕ → List ℕ → List ℕ → Bool
 saysFiles set files counts lengths bytes =
-    ifB (eqb (length files % 46) 0)
-    (ifB (eqb (length files / 46) (length counts))
+    ifB (eqb (length files % entryLength) 0)
+    (ifB (eqb (length files / entryLength) (length counts))
     (ifB (eqb (length counts) 0) false
     (ifB (eqb (sum counts) (length lengths)) (fillBytes set files counts lengths bytes) false))
     false)

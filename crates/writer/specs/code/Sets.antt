@@ -10,6 +10,7 @@ use Rattle.base.specs.If.{ifB}
 use Rattle.base.specs.Part.{part}
 use Rattle.base.specs.Sum.{sum}
 use Rattle.image.specs.Item.{mark, reelEnd}
+use Rattle.label.specs.Made.{entryLength}
 use Rattle.volume.specs.Meaning.{File, Meaning, fieldsFrom, content}
 use Rattle.reading.specs.Legal.{Sheet, legalFiles, legalNames, legalQuota}
 use Rattle.sheet.specs.Flat.{inParts, filesFrom}
@@ -42,12 +43,12 @@ totalOf read bytes = length (content bytes .files)
 -- the files from a place on
 unfoldable pub filesAt : Origin → List ℕ → List ℕ → Place → List File
 filesAt (listed files counts) lengths bytes g =
-    filesFrom (inParts 46 (drop (46 * g .nth) files)) (drop (g .nth) counts) (drop (g .first) lengths) (drop (g .byte) bytes)
+    filesFrom (inParts entryLength (drop (entryLength * g .nth) files)) (drop (g .nth) counts) (drop (g .first) lengths) (drop (g .byte) bytes)
 filesAt read lengths bytes g = drop (g .nth) (content bytes .files)
 
 -- a place among the files of a sheet, where what is left adds up
 pub record Listed (files counts lengths bytes : List ℕ) (g : Place) : Type 0 where
-  pub entries : length files ≡ 46 * length counts
+  pub entries : length files ≡ entryLength * length counts
   pub records : g .first + sum (drop (g .nth) counts) ≡ length lengths
   pub inside : g .byte + sum (drop (g .first) lengths) ≡ length bytes
 
@@ -85,11 +86,11 @@ pub record Countable (image : Bool) (counts : List ℕ) (n : ℕ) (g : Place) : 
 -- the entry of the file at a place, which stands within so many bytes
 unfoldable pub entryAt : Bool → List ℕ → List ℕ → Place → List ℕ
 entryAt image files bytes g =
-    ifB image (fieldsFrom (part (g .file .hdr1) 80 bytes) (part (g .file .hdr2) 80 bytes)) (part (46 * g .nth) 46 files)
+    ifB image (fieldsFrom (part (g .file .hdr1) 80 bytes) (part (g .file .hdr2) 80 bytes)) (part (entryLength * g .nth) entryLength files)
 
 pub record Enterable (image : Bool) (entries size : ℕ) (g : Place) : Type 0 where
   pub few : g .nth < 64
-  pub listed : image ≡ false → 46 * g .nth + 46 ≤ entries
+  pub listed : image ≡ false → entryLength * g .nth + entryLength ≤ entries
   pub first : image ≡ true → g .file .hdr1 + 80 ≤ size
   pub second : image ≡ true → g .file .hdr2 + 80 ≤ size
 
