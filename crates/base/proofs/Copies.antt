@@ -93,6 +93,7 @@ first-four (a ∷ b ∷ []) h = absurd (omega arith)
 first-four (a ∷ b ∷ c ∷ []) h = absurd (omega arith)
 first-four (a ∷ b ∷ c ∷ d ∷ t) h = refl
 
+-- four bytes, one by one, are the part that they make up
 pub four-read : (s : List ℕ) (a : ℕ) → a + 4 ≤ length s
     → getD s a 0 ∷ getD s (a + 1) 0 ∷ getD s (a + 2) 0 ∷ getD s (a + 3) 0 ∷ [] ≡ part a 4 s
 unfolding part
@@ -155,34 +156,34 @@ pub ruleset doubled = (half-first, half-last, half-room, half-behind, put-twice,
 
 -- ---- two words, which may meet, are all of it
 
-module _ (w : ℕ) (o s : List ℕ) (at : ℕ) (y : Short w (length s)) where
+module _ (v w : ℕ) (o s : List ℕ) (at : ℕ) (y : Short v w (length s)) where
   pub ends-behind : length s - w + w ≤ length s
-  ends-behind = omega (arith, y .least)
+  ends-behind = omega (arith, y .last)
 
   pub ends-least : w ≤ length s
-  ends-least = y .least
+  ends-least = y .last
 
-  pub ends-front : 0 + w ≤ length s
-  ends-front = omega (arith, y .least)
+  pub ends-front : 0 + v ≤ length s
+  ends-front = omega (arith, y .first)
 
   module _ (h : at + length s ≤ length o) where
-    pub ends-room : at + w ≤ length o
-    ends-room = omega (arith, y .least)
+    pub ends-room : at + v ≤ length o
+    ends-room = omega (arith, y .first)
 
     pub ends-last : at + (length s - w) + w ≤ length o
-    ends-last = omega (arith, y .least)
+    ends-last = omega (arith, y .last)
 
-    pub put-ends : (x z p q : List ℕ) → x ≡ part 0 w s → z ≡ part (length s - w) w s → p ≡ putAt o at x
+    pub put-ends : (x z p q : List ℕ) → x ≡ part 0 v s → z ≡ part (length s - w) w s → p ≡ putAt o at x
         → q ≡ putAt p (at + (length s - w)) z → q ≡ putAt o at s
     unfolding part
     put-ends x z p q i j e f =
         let rest : length (drop (length s - w) s) ≡ length s - (length s - w) = length-drop (length s - w) s in
         f
         ∙ ap₂ (λ (l t : List ℕ). putAt l (at + (length s - w)) t) (e ∙ ap (putAt o at) i)
-        (j ∙ take-all w (drop (length s - w) s) (omega (arith, y .least)))
-        ∙ put-meet o s at w (length s - w) (omega (arith, y .most)) (y .least) h
+        (j ∙ take-all w (drop (length s - w) s) (omega (arith, y .last)))
+        ∙ put-meet o s at v (length s - w) (omega (arith, y .most)) (y .first) h
 
-    pub put-both : (p q : List ℕ) → p ≡ putAt o at (part 0 w s) → q ≡ putAt p (at + (length s - w)) (part (length s - w) w s)
+    pub put-both : (p q : List ℕ) → p ≡ putAt o at (part 0 v s) → q ≡ putAt p (at + (length s - w)) (part (length s - w) w s)
         → q ≡ putAt o at s
     put-both p q e f = put-ends _ _ p q refl refl e f
 
@@ -327,6 +328,10 @@ length-put-in o a bs =
     if-case (λ (p : List ℕ). length p ≡ length o) (leb (a + length bs) (length o)) _ _
     (λ room. length-put o a bs (leb-true (a + length bs) (length o) room))
     (λ _. refl)
+
+-- of a buffer behind such a write
+pub kept-in : (o : List ℕ) (at : ℕ) (bs q : List ℕ) → q ≡ putIn o at bs → length q ≡ length o
+kept-in o at bs q e = ap length e ∙ length-put-in o at bs
 
 pub ruleset roomy = (put-over, put-right, room-left, needs)
 

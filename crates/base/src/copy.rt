@@ -83,7 +83,7 @@ fn put_64(out: &mut [u8], at: usize, s: &[u8], from: usize)
 
 // Writes 4 to 8 bytes.
 fn copy_by_4(out: &mut [u8], at: usize, s: &[u8])
-    requires { ⌜ Short 4 (length (now s)) ⌝ }
+    requires { ⌜ Short 4 4 (length (now s)) ⌝ }
     requires { ⌜ at + length (now s) ≤ length (now out) ⌝ }
     ensures { λ _. ⌜ now (out .exit) ≡ putAt (now (out .entry)) at (now (s .entry)) ⌝ }
 {
@@ -96,7 +96,7 @@ fn copy_by_4(out: &mut [u8], at: usize, s: &[u8])
 
 // Writes 8 to 16 bytes.
 fn copy_by_8(out: &mut [u8], at: usize, s: &[u8])
-    requires { ⌜ Short 8 (length (now s)) ⌝ }
+    requires { ⌜ Short 8 8 (length (now s)) ⌝ }
     requires { ⌜ at + length (now s) ≤ length (now out) ⌝ }
     ensures { λ _. ⌜ now (out .exit) ≡ putAt (now (out .entry)) at (now (s .entry)) ⌝ }
 {
@@ -109,7 +109,7 @@ fn copy_by_8(out: &mut [u8], at: usize, s: &[u8])
 
 // Writes 16 to 32 bytes.
 fn copy_by_16(out: &mut [u8], at: usize, s: &[u8])
-    requires { ⌜ Short 16 (length (now s)) ⌝ }
+    requires { ⌜ Short 16 16 (length (now s)) ⌝ }
     requires { ⌜ at + length (now s) ≤ length (now out) ⌝ }
     ensures { λ _. ⌜ now (out .exit) ≡ putAt (now (out .entry)) at (now (s .entry)) ⌝ }
 {
@@ -120,7 +120,7 @@ fn copy_by_16(out: &mut [u8], at: usize, s: &[u8])
 
 // Writes 32 to 64 bytes.
 fn copy_by_32(out: &mut [u8], at: usize, s: &[u8])
-    requires { ⌜ Short 32 (length (now s)) ⌝ }
+    requires { ⌜ Short 32 32 (length (now s)) ⌝ }
     requires { ⌜ at + length (now s) ≤ length (now out) ⌝ }
     ensures { λ _. ⌜ now (out .exit) ≡ putAt (now (out .entry)) at (now (s .entry)) ⌝ }
 {
@@ -129,9 +129,20 @@ fn copy_by_32(out: &mut [u8], at: usize, s: &[u8])
     put_32(out, at + behind, s, behind);
 }
 
+// Writes 64 to 96 bytes.
+fn copy_by_64_and_32(out: &mut [u8], at: usize, s: &[u8])
+    requires { ⌜ Short 64 32 (length (now s)) ⌝ }
+    requires { ⌜ at + length (now s) ≤ length (now out) ⌝ }
+    ensures { λ _. ⌜ now (out .exit) ≡ putAt (now (out .entry)) at (now (s .entry)) ⌝ }
+{
+    let behind = s.len() - 32;
+    put_64(out, at, s, 0);
+    put_32(out, at + behind, s, behind);
+}
+
 // Writes 64 to 128 bytes.
 fn copy_by_64(out: &mut [u8], at: usize, s: &[u8])
-    requires { ⌜ Short 64 (length (now s)) ⌝ }
+    requires { ⌜ Short 64 64 (length (now s)) ⌝ }
     requires { ⌜ at + length (now s) ≤ length (now out) ⌝ }
     ensures { λ _. ⌜ now (out .exit) ≡ putAt (now (out .entry)) at (now (s .entry)) ⌝ }
 {
@@ -159,10 +170,10 @@ fn copy_few(out: &mut [u8], at: usize, s: &[u8])
     copy_by_8(out, at, s);
 }
 
-// Writes 16 to 128 bytes.
+// Writes 16 to 96 bytes.
 fn copy_some(out: &mut [u8], at: usize, s: &[u8])
     requires { ⌜ 16 ≤ length (now s) ⌝ }
-    requires { ⌜ length (now s) ≤ 128 ⌝ }
+    requires { ⌜ length (now s) ≤ 96 ⌝ }
     requires { ⌜ at + length (now s) ≤ length (now out) ⌝ }
     ensures { λ _. ⌜ now (out .exit) ≡ putAt (now (out .entry)) at (now (s .entry)) ⌝ }
 {
@@ -174,7 +185,7 @@ fn copy_some(out: &mut [u8], at: usize, s: &[u8])
         copy_by_32(out, at, s);
         return;
     }
-    copy_by_64(out, at, s);
+    copy_by_64_and_32(out, at, s);
 }
 
 // Writes the first 64 bytes of s, and 64 from where the places become multiples of 16 on: a write across two lines of the cache
@@ -227,18 +238,24 @@ fn copy(out: &mut [u8], at: usize, s: &[u8])
         copy_some(out, at, s);
         return;
     }
+    if s.len() < MANY {
+        copy_by_64(out, at, s);
+        return;
+    }
     copy_many(out, at, s);
 }
 
 // ---- what has room, or is not written
 
-// Less than so many bytes are few, and up to so many are some.
+// Less than so many bytes are few, up to so many are some, and from so many on they are many.
 const FEW: usize = 16;
 
-const SOME: usize = 128;
+const SOME: usize = 96;
+
+const MANY: usize = 128;
 
 // Whether n bytes have room at a place of a buffer of so many.
-fn has_room(size: usize, at: usize, n: usize) -> bool
+pub fn has_room(size: usize, at: usize, n: usize) -> bool
     ensures { λ r. ⌜ r ≡ leb (at + n) size ⌝ }
 {
     if size < n {
@@ -272,10 +289,10 @@ pub fn put_few(out: &mut [u8], at: usize, s: &[u8])
     }
 }
 
-// Writes 16 to 128 bytes likewise.
+// Writes 16 to 96 bytes likewise.
 fn put_middling(out: &mut [u8], at: usize, s: &[u8])
     requires { ⌜ 16 ≤ length (now s) ⌝ }
-    requires { ⌜ length (now s) ≤ 128 ⌝ }
+    requires { ⌜ length (now s) ≤ 96 ⌝ }
     ensures { λ _. ⌜ now (out .exit) ≡ putIn (now (out .entry)) at (now (s .entry)) ⌝ }
 {
     if has_room(out.len(), at, s.len()) {
@@ -283,7 +300,7 @@ fn put_middling(out: &mut [u8], at: usize, s: &[u8])
     }
 }
 
-// The same, for a caller who has most often up to 128 bytes.
+// The same, for a caller who has most often up to 96 bytes.
 pub fn put_short(out: &mut [u8], at: usize, s: &[u8])
     ensures { λ _. ⌜ now (out .exit) ≡ putIn (now (out .entry)) at (now (s .entry)) ⌝ }
 {

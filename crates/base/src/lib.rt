@@ -2,6 +2,7 @@
 // up, and how bytes get into a lent buffer. It knows no rule of a label, a block or an image.
 mod copy; // copy.rt: bytes into a lent buffer
 
+pub use copy::has_room;
 pub use copy::put_few;
 pub use copy::put_in;
 pub use copy::put_short;

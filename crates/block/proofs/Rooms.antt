@@ -5,14 +5,17 @@ use mathlib.Core.List.{List, [], _∷_}
 use Prim.Native.Nat.{ℕ, _+_, _-_, _≤_, _<_, min}
 use native.Mathlib.Omega.{arith}
 use borrow.Author.Needs.{needs}
-use borrow.Author.Tests.{eq-eqb, ne-eqb, le-leb, lt-leb}
+use borrow.Author.Tests.{eq-eqb, ne-eqb, le-leb, lt-leb, leb-true}
+use mir.Val.{Fits as FitsIn}
+use mir.Syntax.{w64}
 use lib.Dec.{leb}
-use lib.ListN.{length, getD}
+use lib.ListN.{length, getD, set, length-set}
 use lib.Seq.{take-all}
 use Rattle.base.specs.Part.{part, putAt, putIn}
 use Rattle.base.proofs.Ifs.{if-true, if-false, if-case}
-use Rattle.base.proofs.Parts.{put-none}
-use Rattle.base.proofs.Copies.{four-read, length-put-in}
+use Rattle.base.proofs.Parts.{length-put, put-none}
+use Rattle.base.proofs.Put.{put-first}
+use Rattle.base.proofs.Copies.{four-read, put-over, put-right}
 use Rattle.block.specs.Unit.{wordOf}
 use Rattle.block.specs.Room.{enters, taken, indicatorOf, wordWith}
 
@@ -76,6 +79,23 @@ pub ruleset indicators = (only-segment, last-segment, first-segment, middle-segm
 
 -- ---- the control word
 
+-- k bytes have room in n
+pub room-for : (k n at : ℕ) (fits : Bool) → fits ≡ leb (at + k) n → fits ≡ true → at + k ≤ n
+room-for k n at fits r t = leb-true (at + k) n (sym r ∙ t)
+
+-- an indicator and four digits
+module _ (o : List ℕ) (at : ℕ) where
+  pub five-first : (fits : Bool) → fits ≡ leb (at + 5) (length o) → fits ≡ true → at < length o
+  five-first fits r t = let room = room-for 5 (length o) at fits r t in omega arith
+
+  pub five-fits : (fits : Bool) → fits ≡ leb (at + 5) (length o) → fits ≡ true → length o < 18446744073709551616 → FitsIn w64 (at + 1)
+  five-fits fits r t h = let room = room-for 5 (length o) at fits r t in record { fits = omega arith }
+
+  pub five-behind : (c : ℕ) (fits : Bool) → fits ≡ leb (at + 5) (length o) → fits ≡ true → at + 1 + 4 ≤ length (set o at c)
+  five-behind c fits r t = let room = room-for 5 (length o) at fits r t in omega (arith, length-set o at c)
+
+pub ruleset fives = (five-first, five-fits, five-behind, needs)
+
 module _ (f c : ℕ) (o : List ℕ) (at : ℕ) (d : List ℕ) where
   pub word-fixed : f ≡ 70 → o ≡ putIn o at (wordWith f c d)
   unfolding wordWith putIn
@@ -83,21 +103,75 @@ module _ (f c : ℕ) (o : List ℕ) (at : ℕ) (d : List ℕ) where
       let none : wordWith f c d ≡ [] = if-true _ _ _ (eq-eqb f 70 e) in
       sym (ap (putIn o at) none ∙ if-case (λ (l : List ℕ). l ≡ o) (leb (at + 0) (length o)) (putAt o at []) o (λ _. put-none o at) (λ _. refl))
 
-  pub word-variable-put : (q : List ℕ) → (f ≡ 70 → ⊥) → f ≡ 68 → q ≡ putIn o at d → q ≡ putIn o at (wordWith f c d)
-  unfolding wordWith
-  word-variable-put q a e x = x ∙ ap (putIn o at) (sym (if-false _ _ _ (ne-eqb f 70 a) ∙ if-true _ _ _ (eq-eqb f 68 e)))
+  -- four digits, where they have room or not
+  module _ (fits : Bool) (r : fits ≡ leb (at + 4) (length o)) where
+    pub word-kept : (q : List ℕ) → fits ≡ true → length d ≡ 4 → q ≡ putAt o at d → length q ≡ length o
+    word-kept q t four x = let room = room-for 4 (length o) at fits r t in ap length x ∙ length-put o at d (omega arith)
 
-  pub word-segment-put : (q : List ℕ) → length d ≡ 4 → (f ≡ 70 → ⊥) → (f ≡ 68 → ⊥)
-      → q ≡ putIn o at (c ∷ getD d 0 0 ∷ getD d 1 0 ∷ getD d 2 0 ∷ getD d 3 0 ∷ [])
-      → q ≡ putIn o at (wordWith f c d)
-  unfolding wordWith part
-  word-segment-put q l a e x =
-      x
-      ∙ ap (λ (s : List ℕ). putIn o at (c ∷ s)) (four-read d 0 (omega arith) ∙ take-all 4 d (omega arith))
-      ∙ ap (putIn o at) (sym (if-false _ _ _ (ne-eqb f 70 a) ∙ if-false _ _ _ (ne-eqb f 68 e)))
+    module _ (four : length d ≡ 4) (a : f ≡ 70 → ⊥) (e : f ≡ 68) where
+      word-digits : d ≡ wordWith f c d
+      unfolding wordWith
+      word-digits = sym (if-false _ _ _ (ne-eqb f 70 a) ∙ if-true _ _ _ (eq-eqb f 68 e))
 
--- such a write leaves the length as it was
-pub word-kept : (o : List ℕ) (at : ℕ) (bs q : List ℕ) → q ≡ putIn o at bs → length q ≡ length o
-word-kept o at bs q e = ap length e ∙ length-put-in o at bs
+      word-fits : fits ≡ leb (at + length d) (length o)
+      word-fits = r ∙ ap (λ (n : ℕ). leb (at + n) (length o)) (sym four)
 
-pub ruleset words = (word-fixed, word-variable-put, word-segment-put, word-kept, needs)
+      pub word-over : fits ≡ false → o ≡ putIn o at (wordWith f c d)
+      word-over t = put-over o at d fits word-fits t ∙ ap (putIn o at) word-digits
+
+      pub word-put : (q : List ℕ) → fits ≡ true → q ≡ putAt o at d → q ≡ putIn o at (wordWith f c d)
+      word-put q t x = put-right o at d fits word-fits t q x ∙ ap (putIn o at) word-digits
+
+  -- and these behind an indicator
+  module _ (fits : Bool) (r : fits ≡ leb (at + 5) (length o)) where
+    pub segment-kept : (q : List ℕ) → fits ≡ true → length d ≡ 4 → q ≡ putAt (set o at c) (at + 1) d → length q ≡ length o
+    segment-kept q t four x =
+        let room = five-behind o at c fits r t in
+        ap length x ∙ length-put (set o at c) (at + 1) d (omega arith) ∙ length-set o at c
+
+    module _ (four : length d ≡ 4) (a : f ≡ 70 → ⊥) (e : f ≡ 68 → ⊥) where
+      segment-digits : c ∷ d ≡ wordWith f c d
+      unfolding wordWith
+      segment-digits = sym (if-false _ _ _ (ne-eqb f 70 a) ∙ if-false _ _ _ (ne-eqb f 68 e))
+
+      segment-fits : fits ≡ leb (at + length (c ∷ d)) (length o)
+      segment-fits = let five : 5 ≡ length (c ∷ d) = omega arith in r ∙ ap (λ (n : ℕ). leb (at + n) (length o)) five
+
+      pub segment-over : fits ≡ false → o ≡ putIn o at (wordWith f c d)
+      segment-over t = put-over o at (c ∷ d) fits segment-fits t ∙ ap (putIn o at) segment-digits
+
+      pub segment-put : (q : List ℕ) → fits ≡ true → q ≡ putAt (set o at c) (at + 1) d → q ≡ putIn o at (wordWith f c d)
+      segment-put q t x =
+          put-right o at (c ∷ d) fits segment-fits t q (x ∙ sym (put-first o at c d (five-first o at fits r t)))
+          ∙ ap (putIn o at) segment-digits
+
+pub ruleset words = (word-fixed, word-over, word-put, word-kept, segment-over, segment-put, segment-kept, needs)
+
+-- four digits, one by one
+put-four : (o : List ℕ) (at x y z w : ℕ) → at + 4 ≤ length o
+    → set (set (set (set o at x) (at + 1) y) (at + 2) z) (at + 3) w ≡ putAt o at (x ∷ y ∷ z ∷ w ∷ [])
+put-four o at x y z w r =
+    let a : List ℕ = set o at x in
+    let b : List ℕ = set a (at + 1) y in
+    let c : List ℕ = set b (at + 2) z in
+    let la : length a ≡ length o = length-set o at x in
+    let lb : length b ≡ length a = length-set a (at + 1) y in
+    let lc : length c ≡ length b = length-set b (at + 2) z in
+    let second : at + 1 + 1 ≡ at + 2 = omega arith in
+    let third : at + 2 + 1 ≡ at + 3 = omega arith in
+    sym (put-first o at x _ (omega arith)
+    ∙ put-first a (at + 1) y _ (omega arith)
+    ∙ ap (λ (k : ℕ). putAt b k (z ∷ w ∷ [])) second
+    ∙ put-first b (at + 2) z _ (omega arith)
+    ∙ ap (λ (k : ℕ). putAt c k (w ∷ [])) third
+    ∙ put-first c (at + 3) w [] (omega arith)
+    ∙ put-none _ _)
+
+pub put-digits : (o : List ℕ) (at : ℕ) (d : List ℕ) → length d ≡ 4 → at + 4 ≤ length o
+    → set (set (set (set o at (getD d 0 0)) (at + 1) (getD d 1 0)) (at + 2) (getD d 2 0)) (at + 3) (getD d 3 0) ≡ putAt o at d
+unfolding part
+put-digits o at d l r =
+    put-four o at (getD d 0 0) (getD d 1 0) (getD d 2 0) (getD d 3 0) r
+    ∙ ap (putAt o at) (four-read d 0 (omega arith) ∙ take-all 4 d (omega arith))
+
+pub ruleset digitwise = (put-digits, needs)

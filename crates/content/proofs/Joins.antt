@@ -13,7 +13,7 @@ use lib.ListN.{length, length-append}
 use Rattle.base.proofs.Ifs.{if-case}
 use Rattle.base.specs.Part.{part, putAt, putIn}
 use Rattle.base.proofs.Parts.{length-part, length-put, put-put}
-use Rattle.base.proofs.Copies.{put-in, length-put-in}
+use Rattle.base.proofs.Copies.{put-in, kept-in}
 use Rattle.content.specs.Walk.{isInside, unitNext, unitFrom, Rest, ends, fails, before, restBy, restAt, Record, whole, nothing, splitBy, begunBy, recordAt}
 use Rattle.content.specs.code.Heads.{Inside}
 use Rattle.content.specs.code.Joining.{isEnded, restBytes, bytesBehind, RestFits, recordBytes, isSplit, SplitAt}
@@ -32,7 +32,8 @@ pub record JoinGoing (s : List ℕ) (w : Walk) (i start n : ℕ) (v : Walk) : Ty
   pub inside : Inside s v
   pub some : n ≤ length (bytesBehind s w)
   pub last : i ≡ 3 → bytesBehind s w ≡ part start n s
-  pub more : (i ≡ 3 → ⊥) → (bytesBehind s w ≡ part start n s ++ bytesBehind s v) × (isEnded (restAt s (v .size) v) ≡ true)
+  pub more : (i ≡ 3 → ⊥)
+      → (bytesBehind s w ≡ part start n s ++ bytesBehind s v) × (isEnded (restAt s (v .«record_length») v) ≡ true)
 
 bytes-before : (bs : List ℕ) (x : Rest) → isEnded x ≡ true → restBytes (before bs x) ≡ bs ++ restBytes x
 unfolding restBytes before isEnded
@@ -40,20 +41,20 @@ bytes-before bs (ends cs v) h = refl
 bytes-before bs fails h = absurd (false≢true h)
 
 -- what ended in what room was left ends in the record length
-ended-roomy : (s : List ℕ) (room : ℕ) (v : Walk) → room ≤ v .size → isEnded (restAt s room v) ≡ true
-    → (restBytes (restAt s room v) ≡ bytesBehind s v) × (isEnded (restAt s (v .size) v) ≡ true)
+ended-roomy : (s : List ℕ) (room : ℕ) (v : Walk) → room ≤ v .«record_length» → isEnded (restAt s room v) ≡ true
+    → (restBytes (restAt s room v) ≡ bytesBehind s v) × (isEnded (restAt s (v .«record_length») v) ≡ true)
 unfolding bytesBehind
 ended-roomy s room v h e =
-    let k = rest-roomy s room (v .size) v h e in
+    let k = rest-roomy s room (v .«record_length») v h e in
     (ap restBytes (sym k), ap isEnded k ∙ e)
 
 -- the two ways in which a unit goes on with a record
 abbrev Ways : List ℕ → ℕ → ℕ → ℕ → Walk → Rest → Type 0
 Ways s i start n v x =
     (i ≡ 3 → restBytes x ≡ part start n s)
-    × ((i ≡ 3 → ⊥) → (restBytes x ≡ part start n s ++ bytesBehind s v) × (isEnded (restAt s (v .size) v) ≡ true))
+    × ((i ≡ 3 → ⊥) → (restBytes x ≡ part start n s ++ bytesBehind s v) × (isEnded (restAt s (v .«record_length») v) ≡ true))
 
-goes-by : (s : List ℕ) (room i start n : ℕ) (v : Walk) → room ≤ v .size
+goes-by : (s : List ℕ) (room i start n : ℕ) (v : Walk) → room ≤ v .«record_length»
     → isEnded (restBy s room (One i start n v) (λ r u. restAt s r u)) ≡ true
     → Ways s i start n v (restBy s room (One i start n v) (λ r u. restAt s r u))
 unfolding restBy isEnded restBytes
@@ -74,7 +75,7 @@ goes-by s room i start n v small =
 
     goes-on : n ≤ room → isEnded (restAt s (room - n) v) ≡ true
         → (restBytes (before (part start n s) (restAt s (room - n) v)) ≡ part start n s ++ bytesBehind s v)
-        × (isEnded (restAt s (v .size) v) ≡ true)
+        × (isEnded (restAt s (v .«record_length») v) ≡ true)
     goes-on k q =
         let both = ended-roomy s (room - n) v (omega arith) q in
         (bytes-before (part start n s) (restAt s (room - n) v) q ∙ ap (λ (l : List ℕ). part start n s ++ l) (both .0), both .1)
@@ -96,34 +97,34 @@ going s w at m i start n v t c e q = record {
     long : length (part start n s) ≡ n
     long = length-part start n s (b .within)
 
-    k : restAt s (w .size) w ≡ restBy s (w .size) (One i start n v) (λ r u. restAt s r u)
-    k = rest-at s (w .size) w ∙ ap (λ (x : Taken). restBy s (w .size) x (λ r u. restAt s r u)) (sym e ∙ q)
+    k : restAt s (w .«record_length») w ≡ restBy s (w .«record_length») (One i start n v) (λ r u. restAt s r u)
+    k = rest-at s (w .«record_length») w ∙ ap (λ (x : Taken). restBy s (w .«record_length») x (λ r u. restAt s r u)) (sym e ∙ q)
 
-    small : w .size ≤ v .size
-    small = omega (arith, b .size)
+    small : w .«record_length» ≤ v .«record_length»
+    small = omega (arith, b .«record_length»)
 
-    ways : Ways s i start n v (restBy s (w .size) (One i start n v) (λ r u. restAt s r u))
-    ways = goes-by s (w .size) i start n v small (ap isEnded (sym k) ∙ c .ended)
+    ways : Ways s i start n v (restBy s (w .«record_length») (One i start n v) (λ r u. restAt s r u))
+    ways = goes-by s (w .«record_length») i start n v small (ap isEnded (sym k) ∙ c .ended)
 
-    by-flag : (x : Bool) → eqb i 3 ≡ x → n ≤ length (restBytes (restAt s (w .size) w))
+    by-flag : (x : Bool) → eqb i 3 ≡ x → n ≤ length (restBytes (restAt s (w .«record_length») w))
     by-flag true z = omega (arith, ap length (ap restBytes k ∙ ways .0 (eqb-true i 3 z)), long)
     by-flag false z =
         omega (
           arith,
           ap length (ap restBytes k ∙ ways .1 (eqb-false i 3 z) .0),
           length-append (part start n s)
-              (restBytes (restAt s (v .size) v)),
+              (restBytes (restAt s (v .«record_length») v)),
           long,
         )
 
-    some : n ≤ length (restBytes (restAt s (w .size) w))
+    some : n ≤ length (restBytes (restAt s (w .«record_length») w))
     some = by-flag (eqb i 3) refl
 
 pub not-nothing : (s : List ℕ) (w : Walk) (at m : ℕ) (t : Taken) → RestFits s w at m → t ≡ unitNext s w → t ≡ Nothing → ⊥
 unfolding isEnded restBy
 not-nothing s w at m t c e q =
     false≢true (ap isEnded
-    (sym (rest-at s (w .size) w ∙ ap (λ (x : Taken). restBy s (w .size) x (λ r u. restAt s r u)) (sym e ∙ q))) ∙ c .ended)
+    (sym (rest-at s (w .«record_length») w ∙ ap (λ (x : Taken). restBy s (w .«record_length») x (λ r u. restAt s r u)) (sym e ∙ q))) ∙ c .ended)
 
 -- with what is behind w put from `at` on, the buffer is as with what is behind the first walk put from its place on
 pub record Joining (s old : List ℕ) (place : ℕ) (from : Walk) (out : List ℕ) (at : ℕ) (w : Walk) : Type 0 where
@@ -211,7 +212,7 @@ pub ruleset joinings =
 pub record Splitting (s : List ℕ) (w : Walk) (start n : ℕ) (v : Walk) : Type 0 where
   pub long : length (part start n s) ≡ n
   pub inside : Inside s v
-  pub ended : isEnded (restAt s (v .size) v) ≡ true
+  pub ended : isEnded (restAt s (v .«record_length») v) ≡ true
   pub bytes : recordBytes (recordAt s w) ≡ part start n s ++ bytesBehind s v
 
 split-ended : (bs : List ℕ) (x : Rest) → isSplit (splitBy bs x) ≡ true → isEnded x ≡ true
@@ -226,9 +227,9 @@ split-bytes bs fails h = absurd (false≢true h)
 
 -- what a unit that begins a split record is
 abbrev Begins : List ℕ → ℕ → ℕ → Walk → Record → Type 0
-Begins s start n v x = (recordBytes x ≡ part start n s ++ bytesBehind s v) × (isEnded (restAt s (v .size) v) ≡ true)
+Begins s start n v x = (recordBytes x ≡ part start n s ++ bytesBehind s v) × (isEnded (restAt s (v .«record_length») v) ≡ true)
 
-begins-by : (s : List ℕ) (r i start n : ℕ) (v : Walk) → r ≤ v .size → isSplit (begunBy s r (One i start n v)) ≡ true
+begins-by : (s : List ℕ) (r i start n : ℕ) (v : Walk) → r ≤ v .«record_length» → isSplit (begunBy s r (One i start n v)) ≡ true
     → Begins s start n v (begunBy s r (One i start n v))
 unfolding begunBy isSplit
 begins-by s r i start n v small =
@@ -248,15 +249,15 @@ begins-by s r i start n v small =
 
 -- a record that is not nothing is that which the unit at the walk's place begins
 begun-split : (s : List ℕ) (w : Walk) → isSplit (recordAt s w) ≡ true
-    → (Inside s w) × (recordAt s w ≡ begunBy s (w .size) (unitFrom s w))
+    → (Inside s w) × (recordAt s w ≡ begunBy s (w .«record_length») (unitFrom s w))
 unfolding recordAt isSplit
 begun-split s w =
-    if-case P (eqb (w .size) 0) nothing _ (λ _ q. absurd (false≢true q))
-    (λ _. if-case P (isInside s w) (begunBy s (w .size) (unitFrom s w)) nothing (λ a q. (inside-true s w true (sym a) refl, refl))
+    if-case P (eqb (w .«record_length») 0) nothing _ (λ _ q. absurd (false≢true q))
+    (λ _. if-case P (isInside s w) (begunBy s (w .«record_length») (unitFrom s w)) nothing (λ a q. (inside-true s w true (sym a) refl, refl))
     (λ _ q. absurd (false≢true q)))
   where
     P : Record → Type 0
-    P x = isSplit x ≡ true → (Inside s w) × (x ≡ begunBy s (w .size) (unitFrom s w))
+    P x = isSplit x ≡ true → (Inside s w) × (x ≡ begunBy s (w .«record_length») (unitFrom s w))
 
 pub split-inside : (s : List ℕ) (w : Walk) → isSplit (recordAt s w) ≡ true → Inside s w
 split-inside s w h = begun-split s w h .0
@@ -273,16 +274,16 @@ splitting s w m i start n v t c e q = record {
     b : UnitBehind s w start n v
     b = from-behind s w i start n v (c .inside) (sym e ∙ q)
 
-    k : recordAt s w ≡ begunBy s (w .size) (One i start n v)
-    k = begun-split s w (c .is) .1 ∙ ap (begunBy s (w .size)) (sym e ∙ q)
+    k : recordAt s w ≡ begunBy s (w .«record_length») (One i start n v)
+    k = begun-split s w (c .is) .1 ∙ ap (begunBy s (w .«record_length»)) (sym e ∙ q)
 
-    ways : Begins s start n v (begunBy s (w .size) (One i start n v))
-    ways = begins-by s (w .size) i start n v (omega (arith, b .size)) (ap isSplit (sym k) ∙ c .is)
+    ways : Begins s start n v (begunBy s (w .«record_length») (One i start n v))
+    ways = begins-by s (w .«record_length») i start n v (omega (arith, b .«record_length»)) (ap isSplit (sym k) ∙ c .is)
 
 pub split-not-nothing : (s : List ℕ) (w : Walk) (m : ℕ) (t : Taken) → SplitAt s w m → t ≡ unitFrom s w → t ≡ Nothing → ⊥
 unfolding begunBy isSplit
 split-not-nothing s w m t c e q =
-    false≢true (ap isSplit (sym (begun-split s w (c .is) .1 ∙ ap (begunBy s (w .size)) (sym e ∙ q))) ∙ c .is)
+    false≢true (ap isSplit (sym (begun-split s w (c .is) .1 ∙ ap (begunBy s (w .«record_length»)) (sym e ∙ q))) ∙ c .is)
 
 pub join-nothing : (s old : List ℕ) (w : Walk) (t : Taken) → SplitAt s w (length old) → t ≡ unitFrom s w → t ≡ Nothing
     → old ≡ putAt old 0 (recordBytes (recordAt s w))
@@ -368,8 +369,4 @@ joined-two s old start n next m a b out new g h k e p f q =
     ∙ ap₂ (λ (x : List ℕ) (j : ℕ). putAt x j (part next m s)) made z
     ∙ put-put old 0 (part start n s) (part next m s) first
 
--- the buffer keeps its length
-pub length-in : (old a : List ℕ) (at : ℕ) (out : List ℕ) → out ≡ putIn old at a → length out ≡ length old
-length-in old a at out p = ap length p ∙ length-put-in old at a
-
-pub ruleset joins-two = (joined-two, length-in, needs)
+pub ruleset joins-two = (joined-two, kept-in, needs)

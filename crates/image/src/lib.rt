@@ -1,12 +1,12 @@
 // The container of a set: items from bytes, and their length words. It knows lengths, and nothing of what a block holds.
 use base::Verdict;
-use base::put_few;
+use base::has_room;
 use base::wide;
 ghost use mathlib.Core.Path.{_≡_};
 ghost use mathlib.Core.Bool.{false};
-ghost use Prim.Native.Nat.{_≤_, _<_, min};
+ghost use Prim.Native.Nat.{_+_, _≤_, _<_, min};
 ghost use lib.ListN.{length, take, drop};
-ghost use Rattle.base.specs.Part.{putIn, same};
+ghost use Rattle.base.specs.Part.{putAt, putIn, same};
 ghost use Rattle.base.specs.Answer.{verdict};
 ghost use Rattle.image.specs.Item.{ledBy, shape, blockLength, decode, three};
 ghost use Rattle.image.specs.Framing.{mostImage, mostReels, head, framedFrom, framingFrom, opens, framing};
@@ -226,16 +226,23 @@ fn sayable(n: usize) -> usize
     REEL_END_WORD
 }
 
-// Writes a length word, the high byte first, if it has room at its place; a length that no word can say as the largest that one
-// can.
+// Writes a length word, the high byte first. It is as many single bytes: the compiler takes a loop over so few for a long one.
+fn put_three(out: &mut [u8], at: usize, n: usize)
+    requires { ⌜ at + 3 ≤ length (now out) ⌝ }
+    requires { ⌜ n < 16777216 ⌝ }
+    ensures { λ _. ⌜ now (out .exit) ≡ putAt (now (out .entry)) at (three n) ⌝ }
+{
+    out[at] = (n / 65536) as u8;
+    out[at + 1] = (n / 256 % 256) as u8;
+    out[at + 2] = (n % 256) as u8;
+}
+
+// The same if it has room at its place; a length that no word can say as the largest that one can.
 pub fn put_length(out: &mut [u8], at: usize, n: usize)
     ensures { λ _. ⌜ now (out .exit) ≡ putIn (now (out .entry)) at (three (min n 16777215)) ⌝ }
 {
     let said = sayable(n);
-    let word = [
-        (said / 65536) as u8,
-        (said / 256 % 256) as u8,
-        (said % 256) as u8,
-    ];
-    put_few(out, at, &word);
+    if has_room(out.len(), at, 3) {
+        put_three(out, at, said);
+    }
 }

@@ -1,6 +1,6 @@
 -- Bytes made of parts, one behind the other, in an array of their length. Assumes nothing.
 use mathlib.Core.Path.{_≡_, refl, sym, ap, ap₂, _∙_}
-use mathlib.Core.List.{List, [], _∷_, _++_, append-assoc, append-nil}
+use mathlib.Core.List.{List, [], _∷_, _++_, append-nil}
 use Prim.Native.Nat.{ℕ, _+_, _≤_}
 use native.Mathlib.Omega.{arith}
 use borrow.Author.Needs.{needs}
@@ -87,7 +87,8 @@ unfolding encode encodeBy bytesOf three
 mark-alone = refl
 
 -- two labels and the mark behind them have 169 bytes, with a mark before them 172
-length-pair : (first second labels : List ℕ) (section count : ℕ) → length (encode (pairOf first second labels section count)) ≡ 169
+length-pair : (first second labels : List ℕ) (section count : ℕ)
+    → length (encode (pairOf first second labels section count)) ≡ 169
 length-pair first second labels section count =
     length-label _ _ 86 (length-first first (setIn labels) (entryIn labels) section (sequenceIn labels) count)
     (length-label _ _ 3 (length-second second (entryIn labels)) (length-mark [] 0 none))

@@ -1,26 +1,24 @@
 -- Bytes that are written where the pass lays. Assumes nothing.
-use mathlib.Core.Path.{_≡_, refl, sym, ap, ap₂, _∙_, subst}
+use mathlib.Core.Path.{_≡_, sym, ap, _∙_, subst}
 use mathlib.Core.Bool.{Bool, true, false}
-use mathlib.Core.List.{List, [], _∷_, _++_}
-use Prim.Native.Nat.{ℕ, _+_, _-_, _/_, _%_, _≤_, _<_, min}
+use mathlib.Core.List.{List, _∷_, _++_}
+use Prim.Native.Nat.{ℕ, _+_, _-_, _≤_, min}
 use native.Mathlib.Omega.{arith}
 use borrow.Author.Needs.{needs}
-use borrow.Author.Tests.{eq-eqb, ne-eqb, eqb-true, eqb-false, leb-true}
+use borrow.Author.Tests.{ne-eqb, eqb-true, eqb-false}
 use mir.Val.{Fits as FitsIn}
 use mir.Syntax.{w64}
-use lib.Dec.{eqb, leb}
-use lib.ListN.{length, take, drop, getD, set, length-set}
-use lib.Seq.{take-all}
+use lib.Dec.{eqb}
+use lib.ListN.{length, take, drop}
 use Rattle.base.proofs.Ifs.{if-true, if-false, if-case}
 use Rattle.base.specs.Part.{part, putAt, putIn}
 use Rattle.base.specs.Digits.{digits}
-use Rattle.base.proofs.Copies.{put-in, four-read}
-use Rattle.base.proofs.Parts.{put-none, put-put, length-part, part-within, length-put as put-length}
-use Rattle.image.specs.Item.{three}
-use Rattle.base.proofs.Put.{put-first}
+use Rattle.base.proofs.Copies.{put-in, kept-in}
+use Rattle.base.proofs.Parts.{put-put, length-part, part-within, length-put as put-length}
 use Rattle.block.specs.Unit.{wordOf}
 use Rattle.block.specs.Room.{wordWith}
 use Rattle.block.proofs.Wholes.{word-variable}
+use Rattle.block.proofs.Rooms.{word-fixed}
 use Rattle.writing.specs.Pack.{controlWord}
 use Rattle.writing.proofs.Packing.{by-test}
 use Rattle.writing.proofs.Units.{length-control}
@@ -32,7 +30,8 @@ unfolding inkAt
 ink-put lay o at bs q l e = e ∙ sym (if-true _ _ _ l)
 
 -- a write that asks for room, where it has it
-pub ink-put-in : (lay : Bool) (o : List ℕ) (at : ℕ) (bs q : List ℕ) → (lay ≡ true → at + length bs ≤ length o) → lay ≡ true → q ≡ putIn o at bs → q ≡ inkAt lay o at bs
+pub ink-put-in : (lay : Bool) (o : List ℕ) (at : ℕ) (bs q : List ℕ) → (lay ≡ true → at + length bs ≤ length o) → lay ≡ true
+    → q ≡ putIn o at bs → q ≡ inkAt lay o at bs
 ink-put-in lay o at bs q r l e = ink-put lay o at bs q l (e ∙ put-in o at bs (r l))
 
 -- n bytes that were made before, where they have room
@@ -112,9 +111,9 @@ module _ (f i n : ℕ) (o : List ℕ) (at w : ℕ) (word : w ≡ wordOf f) (byte
     long : length s ≡ n
     long = ap length (part-within from n bytes) ∙ length-part from n bytes inside
 
-    module _ (d q : List ℕ) (e : d ≡ digits 4 (min (w + n) 9999)) (y : q ≡ putIn o at (wordWith f (48 + i) d)) where
-      says : d ≡ digits 4 (min (n + wordOf f) 9999)
-      says = let same : w + n ≡ n + wordOf f = omega arith in e ∙ ap (λ (k : ℕ). digits 4 (min k 9999)) same
+    module _ (q : List ℕ) (y : q ≡ putIn o at (wordWith f (48 + i) (digits 4 (min (w + n) 9999)))) where
+      says : digits 4 (min (w + n) 9999) ≡ digits 4 (min (n + wordOf f) 9999)
+      says = let same : w + n ≡ n + wordOf f = omega arith in ap (λ (k : ℕ). digits 4 (min k 9999)) same
 
       x : q ≡ putAt o at (controlWord f i n)
       x =
@@ -140,3 +139,13 @@ module _ (f i n : ℕ) (o : List ℕ) (at w : ℕ) (word : w ≡ wordOf f) (byte
 
       pub unit-kept : (z : List ℕ) → z ≡ putIn q (at + w) s → length z ≡ length o
       unit-kept z l = ap length (l ∙ put-in q (at + w) s unit-room) ∙ put-length q (at + w) s unit-room ∙ kept
+
+-- the control word of a whole record
+pub said-none : (f : ℕ) (o : List ℕ) (at : ℕ) (d : List ℕ) → f ≡ 70 → o ≡ putIn o at (wordWith f 48 d)
+said-none f o at d e = word-fixed f 48 o at d e
+
+pub said-word : (f : ℕ) (o : List ℕ) (at n : ℕ) (d q : List ℕ) → d ≡ digits 4 (min n 9999) → q ≡ putIn o at (wordWith f 48 d)
+    → q ≡ putIn o at (wordWith f 48 (digits 4 (min n 9999)))
+said-word f o at n d q e x = x ∙ ap (λ (l : List ℕ). putIn o at (wordWith f 48 l)) e
+
+pub ruleset saids = (said-none, said-word, kept-in, needs)

@@ -1,13 +1,15 @@
 // A record that stands in one piece, packed into blocks: most often it goes whole into the open block or into the next one.
 ghost use mathlib.Core.Path.{_≡_};
 ghost use mathlib.Core.Bool.{true, false};
-ghost use Prim.Native.Nat.{_≤_};
+ghost use Prim.Native.Nat.{_≤_, min};
 ghost use lib.ListN.{length};
-ghost use Rattle.base.specs.Part.{part};
+ghost use Rattle.base.specs.Digits.{digits};
+ghost use Rattle.base.specs.Part.{part, putIn};
 ghost use Rattle.block.specs.Unit.{wordOf};
+ghost use Rattle.block.specs.Room.{wordWith};
 ghost use Rattle.writer.specs.code.Pass.{jobOf};
 ghost use Rattle.writer.specs.code.Pens.{mostOf};
-ghost use Rattle.writer.specs.code.Records.{GoesIn, GoesNext, Wholable, Wholed, Recordable, Recorded, Somewhere, QuickBlock};
+ghost use Rattle.writer.specs.code.Records.{GoesIn, GoesNext, CanPutWhole, DidPutWhole, CanPutRecord, DidPutRecord, CanQuickBlock, DidQuickBlock};
 use crate::pack::Flow;
 use crate::pack::enters_on;
 use crate::pack::more;
@@ -85,6 +87,16 @@ fn goes_next(
     false
 }
 
+// Writes the control word of a whole record, which has n bytes with it; a record of an F file has none, and takes no digits.
+fn put_said(out: &mut [u8], at: usize, f: u8, n: usize)
+    ensures { λ _. ⌜ now (out .exit) ≡ putIn (now (out .entry)) at (wordWith f 48 (digits 4 (min n 9999))) ⌝ }
+{
+    if f == FIXED {
+        return;
+    }
+    put_word(out, at, f, b'0', figures(n));
+}
+
 // Writes a whole record into the open block, its control word before it.
 pub(crate) fn put_whole(
     f: u8,
@@ -97,15 +109,14 @@ pub(crate) fn put_whole(
     lay: bool,
 ) -> Pen
     requires { ⌜ w ≡ wordOf f ⌝ }
-    requires { ⌜ Wholable lay f (now bytes) from n p (length (now out)) ⌝ }
-    ensures { λ r. ⌜ Wholed lay f (now (bytes .entry)) from n p (now (out .entry)) (now (out .exit)) r ⌝ }
+    requires { ⌜ CanPutWhole lay f (now bytes) from n p (length (now out)) ⌝ }
+    ensures { λ r. ⌜ DidPutWhole lay f (now (bytes .entry)) from n p (now (out .entry)) (now (out .exit)) r ⌝ }
 {
     let r = more(p, w + n);
     if lay {
         let at = p.at + WORD + p.used;
         let end = from + n;
-        let d = figures(w + n);
-        put_word(out, at, f, b'0', d);
+        put_said(out, at, f, w + n);
         put_short(out, at + w, &bytes[from..end]);
     }
     r
@@ -124,8 +135,8 @@ pub(crate) fn put_slow(
     out: &mut [u8],
     lay: bool,
 ) -> Pen
-    requires { ⌜ Recordable lay f b (jobOf (now labels) (now rooms)) (now bytes) from n p (now out) ⌝ }
-    ensures { λ r. ⌜ Recorded lay f b (jobOf (now (labels .entry)) (now (rooms .entry))) (part from n (now (bytes .entry))) p (now (out .entry)) (now (out .exit)) r ⌝ }
+    requires { ⌜ CanPutRecord lay f b (jobOf (now labels) (now rooms)) (now bytes) from n p (now out) ⌝ }
+    ensures { λ r. ⌜ DidPutRecord lay f b (jobOf (now (labels .entry)) (now (rooms .entry))) (part from n (now (bytes .entry))) p (now (out .entry)) (now (out .exit)) r ⌝ }
 {
     let end = from + n;
     let first = Flow {
@@ -154,8 +165,8 @@ pub(crate) fn quick_block(
 ) -> Quick
     requires { ⌜ w ≡ wordOf f ⌝ }
     requires { ⌜ most ≡ mostOf f ⌝ }
-    requires { ⌜ Somewhere lay f b n p (now out) ⌝ }
-    ensures { λ r. ⌜ QuickBlock lay f b n p (now (out .entry)) (now (out .exit)) r ⌝ }
+    requires { ⌜ CanQuickBlock lay f b n p (now out) ⌝ }
+    ensures { λ r. ⌜ DidQuickBlock lay f b n p (now (out .entry)) (now (out .exit)) r ⌝ }
 {
     if goes_in(f, b, w, most, p.on, p.used, n) {
         return Quick { pen: p, ok: true };

@@ -5,10 +5,11 @@ use Prim.Native.Nat.{ℕ, _+_, _≤_}
 use lib.ListN.{length, take}
 use Rattle.base.specs.Part.{putAt}
 
--- n bytes are covered by the first w of them and the last w
-pub record Short (w n : ℕ) : Type 0 where
-  pub least : w ≤ n
-  pub most : n ≤ w + w
+-- n bytes are covered by the first v of them and the last w
+pub record Short (v w n : ℕ) : Type 0 where
+  pub first : v ≤ n
+  pub last : w ≤ n
+  pub most : n ≤ v + w
 
 -- words of 64 bytes, one behind the other: the first i bytes are written
 pub record Chunked (old : List ℕ) (at : ℕ) (s out : List ℕ) (i : ℕ) : Type 0 where

@@ -5,20 +5,11 @@ use Rattle.image.proofs.put_length.Tie as tie
 sayable-requires : tie.Need-sayable-requires
 sayable-requires c κs = search lengthWords
 
-cast-t7 : tie.Need-cast-t7
-cast-t7 c = search lengthWords
+has-room-requires : tie.Need-has-room-requires
+has-room-requires c κs = search lengthWords
 
-cast-t10 : tie.Need-cast-t10
-cast-t10 c = search lengthWords
-
-cast-t12 : tie.Need-cast-t12
-cast-t12 c = search lengthWords
-
-slice-aggregate-put-few : tie.Need-slice-aggregate-put-few
-slice-aggregate-put-few c = search lengthWords
-
-put-few-requires : tie.Need-put-few-requires
-put-few-requires c κs = search lengthWords
+put-three-requires : tie.Need-put-three-requires
+put-three-requires c κs = search lengthWords
 
 same-length : tie.Need-same-length
 same-length c = search lengthWords
@@ -26,15 +17,10 @@ same-length c = search lengthWords
 returns : tie.Need-returns
 returns c = search lengthWords
 
+returns-2 : tie.Need-returns-2
+returns-2 c = search lengthWords
+
 pub put-length-spec : {M : Type 1} → statement M
 put-length-spec =
     tie.close
-    (tie.spec
-    sayable-requires
-    cast-t7
-    cast-t10
-    cast-t12
-    slice-aggregate-put-few
-    put-few-requires
-    same-length
-    returns)
+    (tie.spec sayable-requires has-room-requires put-three-requires same-length returns returns-2)

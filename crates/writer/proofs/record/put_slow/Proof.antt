@@ -1,5 +1,5 @@
 use borrow.Author.Needs.{needs}
-use Rattle.writer.proofs.Records.{slows}
+use Rattle.writer.proofs.RecordBlocks.{slows}
 use Rattle.writer.proofs.record.put_slow.Statement.{statement}
 use Rattle.writer.proofs.record.put_slow.Tie as tie
 

@@ -18,14 +18,11 @@ add-at-2 c = search wholes
 add-end : tie.Need-add-end
 add-end c = search wholes
 
-add-figures : tie.Need-add-figures
-add-figures c = search wholes
+add-put-said : tie.Need-add-put-said
+add-put-said c = search wholes
 
-figures-requires : tie.Need-figures-requires
-figures-requires c κs = search needs
-
-put-word-requires : tie.Need-put-word-requires
-put-word-requires c κs = search needs
+put-said-requires : tie.Need-put-said-requires
+put-said-requires c κs = search needs
 
 add-put-short : tie.Need-add-put-short
 add-put-short c = search wholes
@@ -60,9 +57,8 @@ put-whole-spec =
     add-at
     add-at-2
     add-end
-    add-figures
-    figures-requires
-    put-word-requires
+    add-put-said
+    put-said-requires
     add-put-short
     sub-put-short
     part-put-short-start

@@ -1,5 +1,4 @@
-use borrow.Author.Needs.{needs}
-use Rattle.writer.proofs.Records.{quicks}
+use Rattle.writer.proofs.RecordBlocks.{quicks}
 use Rattle.writer.proofs.record.quick_block.Statement.{statement}
 use Rattle.writer.proofs.record.quick_block.Tie as tie
 

@@ -1,0 +1,62 @@
+use native.Mathlib.Omega.{arith}
+use lib.ListN.{length-set}
+use Rattle.block.proofs.Rooms.{digitwise}
+use Rattle.block.proofs.word.put_four.Statement.{statement}
+use Rattle.block.proofs.word.put_four.Tie as tie
+
+array-read-out : tie.Need-array-read-out
+array-read-out c = search digitwise
+
+slice-write-out : tie.Need-slice-write-out
+slice-write-out c = search digitwise
+
+array-read-out-2 : tie.Need-array-read-out-2
+array-read-out-2 c = search digitwise
+
+add-out : tie.Need-add-out
+add-out c = search digitwise
+
+slice-write-out-2 : tie.Need-slice-write-out-2
+slice-write-out-2 c = simp length-set (omega arith)
+
+array-read-out-3 : tie.Need-array-read-out-3
+array-read-out-3 c = search digitwise
+
+add-out-2 : tie.Need-add-out-2
+add-out-2 c = search digitwise
+
+slice-write-out-3 : tie.Need-slice-write-out-3
+slice-write-out-3 c = simp length-set (omega arith)
+
+array-read-out-4 : tie.Need-array-read-out-4
+array-read-out-4 c = search digitwise
+
+add-out-3 : tie.Need-add-out-3
+add-out-3 c = search digitwise
+
+slice-write-out-4 : tie.Need-slice-write-out-4
+slice-write-out-4 c = simp length-set (omega arith)
+
+same-length : tie.Need-same-length
+same-length c = search digitwise
+
+returns : tie.Need-returns
+returns c = search digitwise
+
+pub put-four-spec : {M : Type 1} → statement M
+put-four-spec =
+    tie.close
+    (tie.spec
+    array-read-out
+    slice-write-out
+    array-read-out-2
+    add-out
+    slice-write-out-2
+    array-read-out-3
+    add-out-2
+    slice-write-out-3
+    array-read-out-4
+    add-out-3
+    slice-write-out-4
+    same-length
+    returns)
