@@ -1,5 +1,5 @@
 // One data block: its units for the formats F, D and S, and the turns of segments. It knows no label.
-// `size` is the record length R. It has 32 bits, so that what is pending, which goes by R, fits a usize whatever is handed in.
+// `record_length` is the record length R. It has 32 bits, so that what is pending, which goes by R, fits a usize whatever is handed in.
 mod room; // room.rt: the room in a block that is being filled
 mod word; // word.rt: the control word of a unit
 
@@ -184,13 +184,13 @@ fn left_of(s: &[u8], at: usize) -> usize
 
 // The bytes of the fixed-length record at a place, or 0 where there is none. Most records differ from padding in their first
 // byte.
-fn fixed_length(size: u32, s: &[u8], at: usize) -> usize
-    ensures { λ r. ⌜ r ≡ lengthOf (fixed size (drop at (now (s .entry)))) ⌝ }
+fn fixed_length(record_length: u32, s: &[u8], at: usize) -> usize
+    ensures { λ r. ⌜ r ≡ lengthOf (fixed «record_length» (drop at (now (s .entry)))) ⌝ }
 {
-    if size == 0 {
+    if record_length == 0 {
         return 0;
     }
-    let n = size as usize;
+    let n = record_length as usize;
     if left_of(s, at) < n {
         return 0;
     }
@@ -228,15 +228,15 @@ fn measured_length(word: u32, longest: u32, left: usize, n: Number) -> usize
 }
 
 // The bytes of the variable-length record at a place, with its control word, or 0 where there is none.
-fn variable_length(size: u32, s: &[u8], at: usize) -> usize
-    ensures { λ r. ⌜ r ≡ lengthOf (variable size (drop at (now (s .entry)))) ⌝ }
+fn variable_length(record_length: u32, s: &[u8], at: usize) -> usize
+    ensures { λ r. ⌜ r ≡ lengthOf (variable «record_length» (drop at (now (s .entry)))) ⌝ }
 {
     let left = left_of(s, at);
     if left < 4 {
         return 0;
     }
     let n = four_digits(s[at], s[at + 1], s[at + 2], s[at + 3]);
-    measured_length(4, size, left, n)
+    measured_length(4, record_length, left, n)
 }
 
 // The bytes of the segment at a place, with its control word, or 0 where there is none.
@@ -270,18 +270,18 @@ fn segment_at(s: &[u8], at: usize) -> Unit
 }
 
 // The unit at a place, in a file of that format and record length.
-pub fn unit_at(format: u8, size: u32, s: &[u8], at: usize) -> Unit
-    ensures { λ r. ⌜ r ≡ unitOf format size (drop at (now (s .entry))) ⌝ }
+pub fn unit_at(format: u8, record_length: u32, s: &[u8], at: usize) -> Unit
+    ensures { λ r. ⌜ r ≡ unitOf format «record_length» (drop at (now (s .entry))) ⌝ }
 {
     if format == FIXED {
-        let n = fixed_length(size, s, at);
+        let n = fixed_length(record_length, s, at);
         if n == 0 {
             return Unit::None;
         }
         return Unit::Of(0, 0, n);
     }
     if format == VARIABLE {
-        let n = variable_length(size, s, at);
+        let n = variable_length(record_length, s, at);
         if n == 0 {
             return Unit::None;
         }
@@ -294,8 +294,8 @@ pub fn unit_at(format: u8, size: u32, s: &[u8], at: usize) -> Unit
 }
 
 // The bytes of the segment at a place, with its control word, where it is a whole record of at most R bytes; or 0.
-fn whole_segment(size: u32, s: &[u8], at: usize) -> usize
-    ensures { λ r. ⌜ r ≡ wholeOf size (segment (drop at (now (s .entry)))) ⌝ }
+fn whole_segment(record_length: u32, s: &[u8], at: usize) -> usize
+    ensures { λ r. ⌜ r ≡ wholeOf «record_length» (segment (drop at (now (s .entry)))) ⌝ }
 {
     let n = segment_length(s, at);
     if n == 0 {
@@ -304,7 +304,7 @@ fn whole_segment(size: u32, s: &[u8], at: usize) -> usize
     if s[at] != b'0' {
         return 0;
     }
-    let most = size as usize;
+    let most = record_length as usize;
     if most < n - 5 {
         return 0;
     }
@@ -312,17 +312,17 @@ fn whole_segment(size: u32, s: &[u8], at: usize) -> usize
 }
 
 // The bytes of the unit at a place, with its control word, where it is a whole record of at most R bytes; or 0.
-pub fn whole_length(format: u8, size: u32, s: &[u8], at: usize) -> usize
-    ensures { λ r. ⌜ r ≡ wholeOf size (unitOf format size (drop at (now (s .entry)))) ⌝ }
+pub fn whole_length(format: u8, record_length: u32, s: &[u8], at: usize) -> usize
+    ensures { λ r. ⌜ r ≡ wholeOf «record_length» (unitOf format «record_length» (drop at (now (s .entry)))) ⌝ }
 {
     if format == FIXED {
-        return fixed_length(size, s, at);
+        return fixed_length(record_length, s, at);
     }
     if format == VARIABLE {
-        return variable_length(size, s, at);
+        return variable_length(record_length, s, at);
     }
     if format == SEGMENTED {
-        return whole_segment(size, s, at);
+        return whole_segment(record_length, s, at);
     }
     0
 }
@@ -331,12 +331,12 @@ pub fn whole_length(format: u8, size: u32, s: &[u8], at: usize) -> usize
 
 // Whether there are one or more fixed-length records from a place on, then padding.
 // Each format has a loop of its own: a block may hold very many units, and this is what an image's blocks are read by.
-fn fixed_cuts(size: u32, s: &[u8], from: usize) -> bool
-    ensures { λ r. ⌜ r ≡ isCut (someUnits (cut F size (drop from (now (s .entry))))) ⌝ }
+fn fixed_cuts(record_length: u32, s: &[u8], from: usize) -> bool
+    ensures { λ r. ⌜ r ≡ isCut (someUnits (cut F «record_length» (drop from (now (s .entry))))) ⌝ }
 {
     let mut at = from;
     loop {
-        let n = fixed_length(size, s, at);
+        let n = fixed_length(record_length, s, at);
         if n == 0 {
             if at == from {
                 return false;
@@ -348,12 +348,12 @@ fn fixed_cuts(size: u32, s: &[u8], from: usize) -> bool
 }
 
 // Whether there are variable-length records from a place on, none or more, then padding.
-fn variable_rest(size: u32, s: &[u8], from: usize) -> bool
-    ensures { λ r. ⌜ r ≡ isCut (cut D size (drop from (now (s .entry)))) ⌝ }
+fn variable_rest(record_length: u32, s: &[u8], from: usize) -> bool
+    ensures { λ r. ⌜ r ≡ isCut (cut D «record_length» (drop from (now (s .entry)))) ⌝ }
 {
     let mut at = from;
     loop {
-        let n = variable_length(size, s, at);
+        let n = variable_length(record_length, s, at);
         if n == 0 {
             return padding_from(s, at);
         }
@@ -362,24 +362,24 @@ fn variable_rest(size: u32, s: &[u8], from: usize) -> bool
 }
 
 // The same for one or more.
-fn variable_cuts(size: u32, s: &[u8], from: usize) -> bool
-    ensures { λ r. ⌜ r ≡ isCut (someUnits (cut D size (drop from (now (s .entry))))) ⌝ }
+fn variable_cuts(record_length: u32, s: &[u8], from: usize) -> bool
+    ensures { λ r. ⌜ r ≡ isCut (someUnits (cut D «record_length» (drop from (now (s .entry))))) ⌝ }
 {
-    let n = variable_length(size, s, from);
+    let n = variable_length(record_length, s, from);
     if n == 0 {
         return false;
     }
-    variable_rest(size, s, from + n)
+    variable_rest(record_length, s, from + n)
 }
 
 // Whether a block of a D file can be cut. A short block is most often one record, which needs no loop and so no call of one.
-pub fn is_variable_block(block: usize, size: u32, offset: usize, s: &[u8]) -> bool
-    ensures { λ r. ⌜ r ≡ isCut (units D block size offset (now (s .entry))) ⌝ }
+pub fn is_variable_block(block: usize, record_length: u32, offset: usize, s: &[u8]) -> bool
+    ensures { λ r. ⌜ r ≡ isCut (units D block «record_length» offset (now (s .entry))) ⌝ }
 {
     if block < s.len() {
         return false;
     }
-    let n = variable_length(size, s, offset);
+    let n = variable_length(record_length, s, offset);
     if n == 0 {
         return false;
     }
@@ -387,12 +387,12 @@ pub fn is_variable_block(block: usize, size: u32, offset: usize, s: &[u8]) -> bo
     if s.len() <= at {
         return true;
     }
-    variable_rest(size, s, at)
+    variable_rest(record_length, s, at)
 }
 
-// Whether there are one or more segments from a place on, then padding, whatever their turns; `size` has no part in it.
-fn segments_cut(size: u32, s: &[u8], from: usize) -> bool
-    ensures { λ r. ⌜ r ≡ isCut (someUnits (cut S size (drop from (now (s .entry))))) ⌝ }
+// Whether there are one or more segments from a place on, then padding, whatever their turns; `record_length` has no part in it.
+fn segments_cut(record_length: u32, s: &[u8], from: usize) -> bool
+    ensures { λ r. ⌜ r ≡ isCut (someUnits (cut S «record_length» (drop from (now (s .entry))))) ⌝ }
 {
     let mut at = from;
     loop {
@@ -410,10 +410,10 @@ fn segments_cut(size: u32, s: &[u8], from: usize) -> bool
 // ---- turns
 
 // Whether a segment of n bytes may stand here: at the head of its block or not, with that much pending.
-fn in_turn(size: u32, pending: usize, head: bool, indicator: u32, n: usize) -> bool
-    ensures { λ r. ⌜ r ≡ isTurn size pending head indicator n ⌝ }
+fn in_turn(record_length: u32, pending: usize, head: bool, indicator: u32, n: usize) -> bool
+    ensures { λ r. ⌜ r ≡ isTurn «record_length» pending head indicator n ⌝ }
 {
-    let most = size as usize;
+    let most = record_length as usize;
     if indicator <= 1 {
         if pending != 0 {
             return false;
@@ -472,15 +472,15 @@ fn whole_outcome(cuts: bool, pending: usize) -> Outcome
 // turns, with `carried` open there.
 // Where one is out of turn, a unit that cannot be cut goes before it, wherever it stands.
 fn segments_outcome(
-    size: u32,
+    record_length: u32,
     pending: usize,
     s: &[u8],
     from: usize,
     carried: usize,
     begin: usize,
 ) -> Outcome
-    requires { ⌜ Turning size (now s) pending from carried begin ⌝ }
-    ensures { λ r. ⌜ r ≡ turned size pending true (someUnits (cut S size (drop from (now (s .entry))))) ⌝ }
+    requires { ⌜ Turning «record_length» (now s) pending from carried begin ⌝ }
+    ensures { λ r. ⌜ r ≡ turned «record_length» pending true (someUnits (cut S «record_length» (drop from (now (s .entry))))) ⌝ }
 {
     let mut held = carried;
     let mut at = begin;
@@ -488,8 +488,8 @@ fn segments_outcome(
         let unit = segment_at(s, at);
         match unit {
             Unit::Of(indicator, word, n) => {
-                if !in_turn(size, held, at == from, indicator, n) {
-                    if segments_cut(size, s, from) {
+                if !in_turn(record_length, held, at == from, indicator, n) {
+                    if segments_cut(record_length, s, from) {
                         return answer(8, 0);
                     }
                     return answer(7, 0);
@@ -513,12 +513,12 @@ fn segments_outcome(
 // The answer on a block of an S file. A short block is most often one segment, which needs no loop and so no call of one.
 pub fn segmented_outcome(
     block: usize,
-    size: u32,
+    record_length: u32,
     offset: usize,
     pending: usize,
     s: &[u8],
 ) -> Outcome
-    ensures { λ r. ⌜ r ≡ blockOutcome S block size offset pending (now (s .entry)) ⌝ }
+    ensures { λ r. ⌜ r ≡ blockOutcome S block «record_length» offset pending (now (s .entry)) ⌝ }
 {
     if block < s.len() {
         return answer(7, 0);
@@ -526,52 +526,58 @@ pub fn segmented_outcome(
     let unit = segment_at(s, offset);
     match unit {
         Unit::Of(indicator, word, n) => {
-            if in_turn(size, pending, true, indicator, n) {
+            if in_turn(record_length, pending, true, indicator, n) {
                 let held = open_after(pending, indicator, n);
                 let at = offset + word + n;
                 if s.len() <= at {
                     return answer(0, held);
                 }
-                return segments_outcome(size, pending, s, offset, held, at);
+                return segments_outcome(record_length, pending, s, offset, held, at);
             }
-            segments_outcome(size, pending, s, offset, pending, offset)
+            segments_outcome(record_length, pending, s, offset, pending, offset)
         }
         Unit::None => answer(7, 0),
     }
 }
 
 // The same, without that way out: an S block, where it is not walked past, is one that is refused.
-fn segments_block(block: usize, size: u32, offset: usize, pending: usize, s: &[u8]) -> Outcome
-    ensures { λ r. ⌜ r ≡ blockOutcome S block size offset pending (now (s .entry)) ⌝ }
+fn segments_block(
+    block: usize,
+    record_length: u32,
+    offset: usize,
+    pending: usize,
+    s: &[u8],
+) -> Outcome
+    ensures { λ r. ⌜ r ≡ blockOutcome S block «record_length» offset pending (now (s .entry)) ⌝ }
 {
     if block < s.len() {
         return answer(7, 0);
     }
-    segments_outcome(size, pending, s, offset, pending, offset)
+    segments_outcome(record_length, pending, s, offset, pending, offset)
 }
 
 // The answer on one block, in a file of that format, block length, record length and offset length, with that much pending.
 pub fn block_outcome(
     format: u8,
     block: usize,
-    size: u32,
+    record_length: u32,
     offset: usize,
     pending: usize,
     s: &[u8],
 ) -> Outcome
-    ensures { λ r. ⌜ r ≡ blockOutcome format block size offset pending (now (s .entry)) ⌝ }
+    ensures { λ r. ⌜ r ≡ blockOutcome format block «record_length» offset pending (now (s .entry)) ⌝ }
 {
     if format == SEGMENTED {
-        return segments_block(block, size, offset, pending, s);
+        return segments_block(block, record_length, offset, pending, s);
     }
     if block < s.len() {
         return answer(7, 0);
     }
     if format == FIXED {
-        return whole_outcome(fixed_cuts(size, s, offset), pending);
+        return whole_outcome(fixed_cuts(record_length, s, offset), pending);
     }
     if format == VARIABLE {
-        return whole_outcome(variable_cuts(size, s, offset), pending);
+        return whole_outcome(variable_cuts(record_length, s, offset), pending);
     }
     answer(7, 0)
 }
@@ -627,13 +633,13 @@ fn held_up_to(s: &[u8], offset: usize, at: usize, word: usize, units: usize, rec
 }
 
 // What a block of fixed-length records holds.
-fn fixed_held(size: u32, offset: usize, s: &[u8]) -> Held
-    ensures { λ r. ⌜ r ≡ heldIn F size offset (now (s .entry)) ⌝ }
+fn fixed_held(record_length: u32, offset: usize, s: &[u8]) -> Held
+    ensures { λ r. ⌜ r ≡ heldIn F «record_length» offset (now (s .entry)) ⌝ }
 {
     let mut units: usize = 0;
     let mut at = offset;
     loop {
-        let n = fixed_length(size, s, at);
+        let n = fixed_length(record_length, s, at);
         if n == 0 {
             return held_up_to(s, offset, at, 0, units, units);
         }
@@ -643,13 +649,13 @@ fn fixed_held(size: u32, offset: usize, s: &[u8]) -> Held
 }
 
 // What a block of variable-length records holds.
-fn variable_held(size: u32, offset: usize, s: &[u8]) -> Held
-    ensures { λ r. ⌜ r ≡ heldIn D size offset (now (s .entry)) ⌝ }
+fn variable_held(record_length: u32, offset: usize, s: &[u8]) -> Held
+    ensures { λ r. ⌜ r ≡ heldIn D «record_length» offset (now (s .entry)) ⌝ }
 {
     let mut units: usize = 0;
     let mut at = offset;
     loop {
-        let n = variable_length(size, s, at);
+        let n = variable_length(record_length, s, at);
         if n == 0 {
             return held_up_to(s, offset, at, 4, units, units);
         }
@@ -658,9 +664,9 @@ fn variable_held(size: u32, offset: usize, s: &[u8]) -> Held
     }
 }
 
-// What a block of segments holds; `size` has no part in it.
-fn segments_held(size: u32, offset: usize, s: &[u8]) -> Held
-    ensures { λ r. ⌜ r ≡ heldIn S size offset (now (s .entry)) ⌝ }
+// What a block of segments holds; `record_length` has no part in it.
+fn segments_held(record_length: u32, offset: usize, s: &[u8]) -> Held
+    ensures { λ r. ⌜ r ≡ heldIn S «record_length» offset (now (s .entry)) ⌝ }
 {
     let mut units: usize = 0;
     let mut records: usize = 0;
@@ -677,17 +683,17 @@ fn segments_held(size: u32, offset: usize, s: &[u8]) -> Held
 }
 
 // What a block holds, in a file of that format, record length and offset length.
-pub fn block_held(format: u32, size: u32, offset: usize, s: &[u8]) -> Held
-    ensures { λ r. ⌜ r ≡ heldIn format size offset (now (s .entry)) ⌝ }
+pub fn block_held(format: u32, record_length: u32, offset: usize, s: &[u8]) -> Held
+    ensures { λ r. ⌜ r ≡ heldIn format «record_length» offset (now (s .entry)) ⌝ }
 {
     if format == FIXED as u32 {
-        return fixed_held(size, offset, s);
+        return fixed_held(record_length, offset, s);
     }
     if format == VARIABLE as u32 {
-        return variable_held(size, offset, s);
+        return variable_held(record_length, offset, s);
     }
     if format == SEGMENTED as u32 {
-        return segments_held(size, offset, s);
+        return segments_held(record_length, offset, s);
     }
     empty()
 }

@@ -133,16 +133,16 @@ pub record Sums (h : Held) (rs : List (List ℕ)) : Type 0 where
 
 -- what is held from the next data block on
 abbrev pub nextHeld : List ℕ → Walk → Extent → Held
-nextHeld s w x = heldBy s (w .format) (w .size) (w .offset) 0 x (λ i. heldFrom s (w .format) (w .size) (w .offset) i) .held
+nextHeld s w x = heldBy s (w .format) (w .«record_length») (w .offset) 0 x (λ i. heldFrom s (w .format) (w .«record_length») (w .offset) i) .held
 
 pub held-next : (s : List ℕ) (w : Walk) (at : ℕ)
-    → heldFrom s (w .format) (w .size) (w .offset) at .held ≡ nextHeld s w (dataFrom Data at (decode (drop at s)))
+    → heldFrom s (w .format) (w .«record_length») (w .offset) at .held ≡ nextHeld s w (dataFrom Data at (decode (drop at s)))
 held-next s w at =
-    ap (λ (x : FileHeld). x .held) (held-at s (w .format) (w .size) (w .offset) at)
+    ap (λ (x : FileHeld). x .held) (held-at s (w .format) (w .«record_length») (w .offset) at)
     ∙ anywhere (dataFrom Data at (decode (drop at s)))
   where
     anywhere : (x : Extent)
-        → heldBy s (w .format) (w .size) (w .offset) at x (λ i. heldFrom s (w .format) (w .size) (w .offset) i) .held
+        → heldBy s (w .format) (w .«record_length») (w .offset) at x (λ i. heldFrom s (w .format) (w .«record_length») (w .offset) i) .held
         ≡ nextHeld s w x
     anywhere (Block start n) = unfold heldBy in refl
     anywhere Nowhere = unfold heldBy in refl
@@ -160,28 +160,28 @@ held-units f r o l x xs e =
 
 -- a block, and those behind it
 pub block-sums : (s : List ℕ) (w : Walk) (b start n q : ℕ) (ys : List Segment) (t : Taken)
-    → blockOutcome (w .format) b (w .size) (w .offset) q (part start n s) .number ≡ 0
-    → Hands s (w .size) (blockOutcome (w .format) b (w .size) (w .offset) q (part start n s) .pending) t (joined ys)
+    → blockOutcome (w .format) b (w .«record_length») (w .offset) q (part start n s) .number ≡ 0
+    → Hands s (w .«record_length») (blockOutcome (w .format) b (w .«record_length») (w .offset) q (part start n s) .pending) t (joined ys)
     → Sums (nextHeld s w (dataFrom Data (start + n) (decode (drop (start + n) s)))) (joined ys)
-    → Sums (nextHeld s w (Block start n)) (joined (segmentsOf (units (w .format) b (w .size) (w .offset) (part start n s)) ++ ys))
+    → Sums (nextHeld s w (Block start n)) (joined (segmentsOf (units (w .format) b (w .«record_length») (w .offset) (part start n s)) ++ ys))
 unfolding blockOutcome turned segmentsOf outcome heldBy
-block-sums s w b start n q ys t = by-units (units (w .format) b (w .size) (w .offset) (part start n s)) refl
+block-sums s w b start n q ys t = by-units (units (w .format) b (w .«record_length») (w .offset) (part start n s)) refl
   where
     l : List ℕ
     l = part start n s
 
-    by-units : (c : Option (List Segment)) → units (w .format) b (w .size) (w .offset) l ≡ c
-        → turned (w .size) q true c .number ≡ 0
-        → Hands s (w .size) (turned (w .size) q true c .pending) t (joined ys)
+    by-units : (c : Option (List Segment)) → units (w .format) b (w .«record_length») (w .offset) l ≡ c
+        → turned (w .«record_length») q true c .number ≡ 0
+        → Hands s (w .«record_length») (turned (w .«record_length») q true c .pending) t (joined ys)
         → Sums (nextHeld s w (dataFrom Data (start + n) (decode (drop (start + n) s)))) (joined ys)
         → Sums (nextHeld s w (Block start n)) (joined (segmentsOf c ++ ys))
     by-units none e h k c = absurd (eqb-false 7 0 refl h)
-    by-units (some []) e h k c = absurd (units-empty (w .format) b (w .size) (w .offset) l e)
+    by-units (some []) e h k c = absurd (units-empty (w .format) b (w .«record_length») (w .offset) l e)
     by-units (some (x ∷ xs)) e h k c =
-        let u = units-of (w .format) b (w .size) (w .offset) l x xs e in
-        let here = held-units (w .format) (w .size) (w .offset) l x xs (u .cuts) in
+        let u = units-of (w .format) b (w .«record_length») (w .offset) l x xs e in
+        let here = held-units (w .format) (w .«record_length») (w .offset) l x xs (u .cuts) in
         let rest = held-next s w (start + n) in
-        let number = joined-number (w .size) (x ∷ xs) ys q true h (hands-goes s (w .size) (turnsFrom (w .size) q true (x ∷ xs) .pending) t ys k) in
+        let number = joined-number (w .«record_length») (x ∷ xs) ys q true h (hands-goes s (w .«record_length») (turnsFrom (w .«record_length») q true (x ∷ xs) .pending) t ys k) in
         record {
           number = omega (arith, here .0, c .number, ap (λ (y : Held). y .records) rest, number);
           bytes = omega (arith, here .1, c .bytes, ap (λ (y : Held). y .bytes) rest, joined-bytes (x ∷ xs) ys);

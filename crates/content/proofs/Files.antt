@@ -94,7 +94,7 @@ pub ruleset markings =
 
 pub walk-made : (f n o at : ℕ) (x y : Number) (l : List ℕ) → f ≡ formatOf l → n ≡ valueOf x → x ≡ recordLengthOf l → o ≡ valueOf y
     → y ≡ offsetOf l
-    → _≡_ {A = Walk} (record { format = f; size = n; offset = o; at = at; left = 0 }) (walkFrom l at)
+    → _≡_ {A = Walk} (record { format = f; «record_length» = n; offset = o; at = at; left = 0 }) (walkFrom l at)
 walk-made f n o at x y l e g h i j = cc
 
 pub file-made : (s : List ℕ) (hdr1 hdr2 m : ℕ) (l : List ℕ) (w : Walk) → l ≡ part hdr2 80 s

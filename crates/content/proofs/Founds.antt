@@ -128,7 +128,8 @@ pub in-nowhere : (s : List ℕ) (room : ℕ) (p : Place) (a : Verdict) → p ≡
 unfolding foundIn
 in-nowhere s room p a e h = ap No h ∙ sym (ap (foundIn s room) e)
 
-pub in-at : (s : List ℕ) (room : ℕ) (p : Place) (w : Walk) (x : Step) (f : Found) → p ≡ Behind w → x ≡ stepAt s room w → f ≡ foundBy x → f ≡ foundIn s room p
+pub in-at : (s : List ℕ) (room : ℕ) (p : Place) (w : Walk) (x : Step) (f : Found) → p ≡ Behind w → x ≡ stepAt s room w
+    → f ≡ foundBy x → f ≡ foundIn s room p
 unfolding foundIn
 in-at s room p w x f e h k = k ∙ ap foundBy h ∙ sym (ap (foundIn s room) e)
 

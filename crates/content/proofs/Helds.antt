@@ -73,7 +73,7 @@ pub record Summing (s : List ℕ) (w : Walk) (h : Held) (at : ℕ) : Type 0 wher
   pub room : length s < 18446744073709551616
   pub records : h .records ≤ at
   pub bytes : total h ≤ at
-  pub left : adding h (heldFrom s (w .format) (w .size) (w .offset) at) ≡ fileHeld s w
+  pub left : adding h (heldFrom s (w .format) (w .«record_length») (w .offset) at) ≡ fileHeld s w
 
 adding-none : (x : FileHeld) → adding empty x ≡ x
 adding-none x =
@@ -109,7 +109,7 @@ unfolding fileHeld
 summing-none s w h l e =
     let a : h .records ≡ 0 = ap (λ (k : Held). k .records) e in
     let b : total h ≡ 0 = ap (λ (k : Held). total k) e in
-    let x = heldFrom s (w .format) (w .size) (w .offset) (w .at) in
+    let x = heldFrom s (w .format) (w .«record_length») (w .offset) (w .at) in
     record {
       room = l;
       records = omega (arith, a);
@@ -121,50 +121,51 @@ summing-none s w h l e =
 -- the block that was found, and what it holds
 record More (s : List ℕ) (w : Walk) (h : Held) (at start n : ℕ) (k : Held) : Type 0 where
   ahead : BlockAhead s at start n
-  is : k ≡ heldIn (w .format) (w .size) (w .offset) (part start n s)
+  is : k ≡ heldIn (w .format) (w .«record_length») (w .offset) (part start n s)
   fits : Fitting k n
 
 more-of : (s : List ℕ) (w : Walk) (h : Held) (at start n : ℕ) (x : Extent) (k : Held) → x ≡ dataFrom Data at (decode (drop at s))
     → x ≡ Block start n
-    → k ≡ heldIn (w .format) (w .size) (w .offset) (take (start + n - start) (drop start s)) → More s w h at start n k
+    → k ≡ heldIn (w .format) (w .«record_length») (w .offset) (take (start + n - start) (drop start s)) → More s w h at start n k
 more-of s w h at start n x k e q p =
     let c = data-within s Data at start n (sym e ∙ q) in
-    let is : k ≡ heldIn (w .format) (w .size) (w .offset) (part start n s) = p ∙ ap (heldIn (w .format) (w .size) (w .offset)) (part-within start n s) in
+    let is : k ≡ heldIn (w .format) (w .«record_length») (w .offset) (part start n s) = p ∙ ap (heldIn (w .format) (w .«record_length») (w .offset)) (part-within start n s) in
     record {
       ahead = c;
       is = is;
       fits = subst (Fitting k) (length-part start n s (c .within))
           (subst (λ (y : Held). Fitting y (length (part start n s))) (sym is)
-          (held-fits (w .format) (w .size) (w .offset) (part start n s)));
+          (held-fits (w .format) (w .«record_length») (w .offset) (part start n s)));
     }
 
 pub summing-more : (s : List ℕ) (w : Walk) (h : Held) (at start n : ℕ) (x : Extent) (k g : Held) → Summing s w h at
     → x ≡ dataFrom Data at (decode (drop at s))
-    → x ≡ Block start n → k ≡ heldIn (w .format) (w .size) (w .offset) (take (start + n - start) (drop start s)) → g ≡ plus h k
+    → x ≡ Block start n → k ≡ heldIn (w .format) (w .«record_length») (w .offset) (take (start + n - start) (drop start s))
+    → g ≡ plus h k
     → Summing s w g (start + n)
 summing-more s w h at start n x k g c e q p t =
     let m = more-of s w h at start n x k e q p in
     let a : g .records ≡ h .records + k .records = ap (λ (y : Held). y .records) t in
     let b : total g ≡ total (plus h k) = ap (λ (y : Held). total y) t in
-    let rest = heldFrom s (w .format) (w .size) (w .offset) (start + n) in
+    let rest = heldFrom s (w .format) (w .«record_length») (w .offset) (start + n) in
     record {
       room = c .room;
       records = omega (arith, a, c .records, m .fits .records, m .ahead .onward);
       bytes = omega (arith, b, c .bytes, m .fits .bytes, m .ahead .onward);
       left =
           ap (λ (y : Held). adding y rest) t ∙ adding-two h k rest ∙ ap (λ (y : Held). adding h (adding y rest)) (m .is)
-          ∙ ap (adding h) (sym (held-block s (w .format) (w .size) (w .offset) at start n (sym e ∙ q))) ∙ c .left;
+          ∙ ap (adding h) (sym (held-block s (w .format) (w .«record_length») (w .offset) at start n (sym e ∙ q))) ∙ c .left;
     }
 
 pub summing-over : (s : List ℕ) (w : Walk) (h : Held) (at : ℕ) (x : Extent) → Summing s w h at
     → x ≡ dataFrom Data at (decode (drop at s)) → x ≡ Nowhere
     → _≡_ {A = FileHeld} (record { held = h; end = at }) (fileHeld s w)
 summing-over s w h at x c e q =
-    adding-over h at ∙ ap (adding h) (sym (held-over s (w .format) (w .size) (w .offset) at (sym e ∙ q))) ∙ c .left
+    adding-over h at ∙ ap (adding h) (sym (held-over s (w .format) (w .«record_length») (w .offset) at (sym e ∙ q))) ∙ c .left
 
 pub sum-room : (s : List ℕ) (w : Walk) (h : Held) (at start n : ℕ) (x : Extent) (k : Held) → Summing s w h at
     → x ≡ dataFrom Data at (decode (drop at s))
-    → x ≡ Block start n → k ≡ heldIn (w .format) (w .size) (w .offset) (take (start + n - start) (drop start s))
+    → x ≡ Block start n → k ≡ heldIn (w .format) (w .«record_length») (w .offset) (take (start + n - start) (drop start s))
     → InRegister (plus h k)
 sum-room s w h at start n x k c e q p =
     let m = more-of s w h at start n x k e q p in

@@ -150,74 +150,75 @@ pub ruleset restings =
 
 -- ---- the record
 
-pub record-none : (s : List ℕ) (w : Walk) → w .size ≡ 0 → None ≡ measuredBy (recordAt s w)
+pub record-none : (s : List ℕ) (w : Walk) → w .«record_length» ≡ 0 → None ≡ measuredBy (recordAt s w)
 unfolding recordAt measuredBy
-record-none s w h = sym (ap measuredBy (if-true _ _ _ (eq-eqb (w .size) 0 h)))
+record-none s w h = sym (ap measuredBy (if-true _ _ _ (eq-eqb (w .«record_length») 0 h)))
 
-pub record-outside : (s : List ℕ) (w : Walk) (b : Bool) → (w .size ≡ 0 → ⊥) → b ≡ isInside s w → not b ≡ true
+pub record-outside : (s : List ℕ) (w : Walk) (b : Bool) → (w .«record_length» ≡ 0 → ⊥) → b ≡ isInside s w → not b ≡ true
     → None ≡ measuredBy (recordAt s w)
 unfolding recordAt measuredBy
-record-outside s w b h e t = sym (ap measuredBy (if-false _ _ _ (ne-eqb (w .size) 0 h) ∙ if-false _ _ _ (sym e ∙ not-true b t)))
+record-outside s w b h e t = sym (ap measuredBy (if-false _ _ _ (ne-eqb (w .«record_length») 0 h) ∙ if-false _ _ _ (sym e ∙ not-true b t)))
 
 -- a walk by which a record can be read
 pub record Readable (s : List ℕ) (w : Walk) : Type 0 where
-  pub some : w .size ≡ 0 → ⊥
+  pub some : w .«record_length» ≡ 0 → ⊥
   pub inside : isInside s w ≡ true
 
-pub good : (s : List ℕ) (w : Walk) (b : Bool) → (w .size ≡ 0 → ⊥) → b ≡ isInside s w → not b ≡ false → Readable s w
+pub good : (s : List ℕ) (w : Walk) (b : Bool) → (w .«record_length» ≡ 0 → ⊥) → b ≡ isInside s w → not b ≡ false → Readable s w
 good s w b h e t = record { some = h; inside = sym e ∙ not-false b t }
 
 pub good-inside : (s : List ℕ) (w : Walk) (b : Bool) → b ≡ isInside s w → not b ≡ false → Inside s w
 good-inside s w b e t = inside-true s w b e (not-false b t)
 
-pub record-begun : (s : List ℕ) (w : Walk) (t : Taken) → Readable s w → t ≡ unitFrom s w → recordAt s w ≡ begunBy s (w .size) t
+pub record-begun : (s : List ℕ) (w : Walk) (t : Taken) → Readable s w → t ≡ unitFrom s w
+    → recordAt s w ≡ begunBy s (w .«record_length») t
 unfolding recordAt
 record-begun s w t g e =
-    if-false _ _ _ (ne-eqb (w .size) 0 (g .some)) ∙ if-true _ _ _ (g .inside) ∙ ap (begunBy s (w .size)) (sym e)
+    if-false _ _ _ (ne-eqb (w .«record_length») 0 (g .some)) ∙ if-true _ _ _ (g .inside) ∙ ap (begunBy s (w .«record_length»)) (sym e)
 
 pub begun-nothing : (s : List ℕ) (w : Walk) (t : Taken) → Readable s w → t ≡ unitFrom s w → t ≡ Nothing
     → None ≡ measuredBy (recordAt s w)
 unfolding begunBy measuredBy
-begun-nothing s w t g e q = sym (ap measuredBy (record-begun s w t g e ∙ ap (begunBy s (w .size)) q))
+begun-nothing s w t g e q = sym (ap measuredBy (record-begun s w t g e ∙ ap (begunBy s (w .«record_length»)) q))
 
 begun-one : (s : List ℕ) (w : Walk) (i start n : ℕ) (v : Walk) (t : Taken) → Readable s w → t ≡ unitFrom s w → t ≡ One i start n v
-    → recordAt s w ≡ begunBy s (w .size) (One i start n v)
-begun-one s w i start n v t g e q = record-begun s w t g e ∙ ap (begunBy s (w .size)) q
+    → recordAt s w ≡ begunBy s (w .«record_length») (One i start n v)
+begun-one s w i start n v t g e q = record-begun s w t g e ∙ ap (begunBy s (w .«record_length»)) q
 
 pub begun-over : (s : List ℕ) (w : Walk) (i start n : ℕ) (v : Walk) (t : Taken) → Readable s w → t ≡ unitFrom s w
-    → t ≡ One i start n v → w .size < n
+    → t ≡ One i start n v → w .«record_length» < n
     → None ≡ measuredBy (recordAt s w)
 unfolding begunBy measuredBy
 begun-over s w i start n v t g e q h =
-    sym (ap measuredBy (begun-one s w i start n v t g e q ∙ if-false _ _ _ (lt-leb n (w .size) h)))
+    sym (ap measuredBy (begun-one s w i start n v t g e q ∙ if-false _ _ _ (lt-leb n (w .«record_length») h)))
 
 pub is-whole : (s : List ℕ) (w : Walk) (i start n : ℕ) (v : Walk) (t : Taken) → Readable s w → t ≡ unitFrom s w
-    → t ≡ One i start n v → n ≤ w .size → i ≡ 0
+    → t ≡ One i start n v → n ≤ w .«record_length» → i ≡ 0
     → recordAt s w ≡ whole start n v
 unfolding begunBy
 is-whole s w i start n v t g e q h z =
-    begun-one s w i start n v t g e q ∙ if-true _ _ _ (le-leb n (w .size) h) ∙ if-true _ _ _ (eq-eqb i 0 z)
+    begun-one s w i start n v t g e q ∙ if-true _ _ _ (le-leb n (w .«record_length») h) ∙ if-true _ _ _ (eq-eqb i 0 z)
 
 pub begun-whole : (s : List ℕ) (w : Walk) (i start n : ℕ) (v : Walk) (t : Taken) → Readable s w → t ≡ unitFrom s w
-    → t ≡ One i start n v → n ≤ w .size → i ≡ 0
+    → t ≡ One i start n v → n ≤ w .«record_length» → i ≡ 0
     → Whole start n v ≡ measuredBy (recordAt s w)
 unfolding measuredBy
 begun-whole s w i start n v t g e q h z = sym (ap measuredBy (is-whole s w i start n v t g e q h z))
 
 pub begun-other : (s : List ℕ) (w : Walk) (i start n : ℕ) (v : Walk) (t : Taken) → Readable s w → t ≡ unitFrom s w
-    → t ≡ One i start n v → n ≤ w .size → (i ≡ 0 → ⊥)
+    → t ≡ One i start n v → n ≤ w .«record_length» → (i ≡ 0 → ⊥)
     → (i ≡ 1 → ⊥) → None ≡ measuredBy (recordAt s w)
 unfolding begunBy measuredBy
 begun-other s w i start n v t g e q h z y =
-    sym (ap measuredBy (begun-one s w i start n v t g e q ∙ if-true _ _ _ (le-leb n (w .size) h) ∙ if-false _ _ _ (ne-eqb i 0 z)
+    sym (ap measuredBy (begun-one s w i start n v t g e q ∙ if-true _ _ _ (le-leb n (w .«record_length») h) ∙ if-false _ _ _ (ne-eqb i 0 z)
     ∙ if-false _ _ _ (ne-eqb i 1 y)))
 
 pub begun-split : (s : List ℕ) (w : Walk) (i start n : ℕ) (v : Walk) (t : Taken) → Readable s w → t ≡ unitFrom s w
-    → t ≡ One i start n v → n ≤ w .size → (i ≡ 0 → ⊥)
-    → i ≡ 1 → recordAt s w ≡ splitBy (part start n s) (restAt s (w .size - n) v)
+    → t ≡ One i start n v → n ≤ w .«record_length» → (i ≡ 0 → ⊥)
+    → i ≡ 1 → recordAt s w ≡ splitBy (part start n s) (restAt s (w .«record_length» - n) v)
 unfolding begunBy
 begun-split s w i start n v t g e q h z y =
-    begun-one s w i start n v t g e q ∙ if-true _ _ _ (le-leb n (w .size) h) ∙ if-false _ _ _ (ne-eqb i 0 z)
+    begun-one s w i start n v t g e q ∙ if-true _ _ _ (le-leb n (w .«record_length») h) ∙ if-false _ _ _ (ne-eqb i 0 z)
     ∙ if-true _ _ _ (eq-eqb i 1 y)
 
 tail-fails : (bs : List ℕ) (x : Rest) → tailBy x ≡ Fails → measuredBy (splitBy bs x) ≡ None
@@ -236,11 +237,11 @@ tail-ends bs (ends cs v) n m u h e =
 tail-ends bs fails n m u h e = let z : _≡_ {A = ℕ} 0 1 = cc in absurd (omega arith)
 
 pub split-fails : (s : List ℕ) (w : Walk) (i start n : ℕ) (v : Walk) (t : Taken) (x : Tail) → Readable s w → t ≡ unitFrom s w
-    → t ≡ One i start n v → n ≤ w .size
-    → (i ≡ 0 → ⊥) → i ≡ 1 → x ≡ tailBy (restAt s (w .size - n) v) → x ≡ Fails → None ≡ measuredBy (recordAt s w)
+    → t ≡ One i start n v → n ≤ w .«record_length»
+    → (i ≡ 0 → ⊥) → i ≡ 1 → x ≡ tailBy (restAt s (w .«record_length» - n) v) → x ≡ Fails → None ≡ measuredBy (recordAt s w)
 split-fails s w i start n v t x g e q h z y k f =
     sym (ap measuredBy (begun-split s w i start n v t g e q h z y)
-    ∙ tail-fails (part start n s) (restAt s (w .size - n) v) (sym k ∙ f))
+    ∙ tail-fails (part start n s) (restAt s (w .«record_length» - n) v) (sym k ∙ f))
 
 pub from-long : (s : List ℕ) (w : Walk) (i start n : ℕ) (v : Walk) (t : Taken) → Inside s w → t ≡ unitFrom s w
     → t ≡ One i start n v → length (part start n s) ≡ n
@@ -248,11 +249,11 @@ from-long s w i start n v t h e q = length-part start n s (from-behind s w i sta
 
 pub split-ends : (s : List ℕ) (w : Walk) (i start n : ℕ) (v : Walk) (t : Taken) (x : Tail) (m : ℕ) (u : Walk) → Readable s w
     → t ≡ unitFrom s w → t ≡ One i start n v
-    → n ≤ w .size → (i ≡ 0 → ⊥) → i ≡ 1 → x ≡ tailBy (restAt s (w .size - n) v) → x ≡ Ends m u
+    → n ≤ w .«record_length» → (i ≡ 0 → ⊥) → i ≡ 1 → x ≡ tailBy (restAt s (w .«record_length» - n) v) → x ≡ Ends m u
     → Split (n + m) u ≡ measuredBy (recordAt s w)
 split-ends s w i start n v t x m u g e q h z y k f =
     sym (ap measuredBy (begun-split s w i start n v t g e q h z y)
-    ∙ tail-ends (part start n s) (restAt s (w .size - n) v) n m u
+    ∙ tail-ends (part start n s) (restAt s (w .«record_length» - n) v) n m u
     (from-long s w i start n v t (inside-true s w true (sym (g .inside)) refl) e q) (sym k ∙ f))
 
 tail-most : (room : ℕ) (x : Rest) (m : ℕ) (u : Walk) → ((bs : List ℕ) (v : Walk) → x ≡ ends bs v → length bs ≤ room)

@@ -110,21 +110,21 @@ unfolding splitBy measuredBy
 split-within s bs (ends cs v) = refl
 split-within s bs fails = refl
 
-begun-within : (s : List ℕ) (w : Walk) (t : Taken) → Inside s w → unitFrom s w ≡ t → Within s (begunBy s (w .size) t)
+begun-within : (s : List ℕ) (w : Walk) (t : Taken) → Inside s w → unitFrom s w ≡ t → Within s (begunBy s (w .«record_length») t)
 unfolding begunBy measuredBy
 begun-within s w (One i start n v) h e =
-    if-case (Within s) (leb n (w .size)) _ nothing
+    if-case (Within s) (leb n (w .«record_length»)) _ nothing
     (λ _. if-case (Within s) (eqb i 0) (whole start n v) _ (λ _. from-behind s w i start n v h e .within)
-    (λ _. if-case (Within s) (eqb i 1) (splitBy (part start n s) (restAt s (w .size - n) v)) nothing
-    (λ _. split-within s (part start n s) (restAt s (w .size - n) v)) (λ _. refl)))
+    (λ _. if-case (Within s) (eqb i 1) (splitBy (part start n s) (restAt s (w .«record_length» - n) v)) nothing
+    (λ _. split-within s (part start n s) (restAt s (w .«record_length» - n) v)) (λ _. refl)))
     (λ _. refl)
 begun-within s w Nothing h e = refl
 
 record-within : (s : List ℕ) (w : Walk) → Within s (recordAt s w)
 unfolding recordAt measuredBy
 record-within s w =
-    if-case (Within s) (eqb (w .size) 0) nothing _ (λ _. refl)
-    (λ _. if-case (Within s) (isInside s w) (begunBy s (w .size) (unitFrom s w)) nothing
+    if-case (Within s) (eqb (w .«record_length») 0) nothing _ (λ _. refl)
+    (λ _. if-case (Within s) (isInside s w) (begunBy s (w .«record_length») (unitFrom s w)) nothing
     (λ a. begun-within s w (unitFrom s w) (inside-true s w true (sym a) refl) refl) (λ _. refl))
 
 -- a whole record lies inside the image
@@ -157,7 +157,7 @@ first-split s w k u m i start n v t e q f h =
 
 -- a further segment, where a record goes on behind w and ends
 pub next-going : (s : List ℕ) (w : Walk) (i start n : ℕ) (v : Walk) (t : Taken) → Inside s w
-    → isEnded (restAt s (w .size) w) ≡ true → t ≡ nextSegment s w
+    → isEnded (restAt s (w .«record_length») w) ≡ true → t ≡ nextSegment s w
     → t ≡ One i start n v → JoinGoing s w i start n v
 next-going s w i start n v t h e f q =
     going s w 0 (length (bytesBehind s w)) i start n v (unitNext s w) (record { inside = h; ended = e; fits = omega arith }) refl
@@ -173,7 +173,8 @@ first-some s w k u m t e q f h =
     split-not-nothing s w k (unitFrom s w) c refl (sym (if-true _ _ _ (inside-is s w (c .inside))) ∙ sym f ∙ h)
 
 -- a record that goes on to its end has a next segment
-pub next-some : (s : List ℕ) (w : Walk) (t : Taken) → Inside s w → isEnded (restAt s (w .size) w) ≡ true → t ≡ nextSegment s w
+pub next-some : (s : List ℕ) (w : Walk) (t : Taken) → Inside s w → isEnded (restAt s (w .«record_length») w) ≡ true
+    → t ≡ nextSegment s w
     → t ≡ Nothing → ⊥
 unfolding nextSegment
 next-some s w t h e f q =

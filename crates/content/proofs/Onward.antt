@@ -73,7 +73,8 @@ behind v c n = moved v (v .at + c + n) (v .left - (c + n))
 good-in : (s : List ℕ) (w : Walk) → Readable s w → Inside s w
 good-in s w g = inside-true s w true (sym (g .inside)) refl
 
-pub good-behind : (s : List ℕ) (v : Walk) (i c n : ℕ) → Readable s v → unitOf (v .format) (v .size) (leftOf s v) ≡ Of i c n
+pub good-behind : (s : List ℕ) (v : Walk) (i c n : ℕ) → Readable s v
+    → unitOf (v .format) (v .«record_length») (leftOf s v) ≡ Of i c n
     → Readable s (behind v c n)
 good-behind s v i c n g e =
     let k = unit-at s v i c n e in
@@ -93,11 +94,12 @@ left-behind s v c n =
 abbrev pub nextOf : List ℕ → Walk → Taken
 nextOf s v = unitIn s (opened v (dataFrom Data (v .at + v .left) (decode (drop (v .at + v .left) s))))
 
-pub opened-lengths : (v w : Walk) (e : Extent) → v .format ≡ w .format → v .size ≡ w .size → v .offset ≡ w .offset
+pub opened-lengths : (v w : Walk) (e : Extent) → v .format ≡ w .format → v .«record_length» ≡ w .«record_length»
+    → v .offset ≡ w .offset
     → opened v e ≡ opened w e
 unfolding opened
 opened-lengths v w (Block start n) f r o =
-    λ i. ifB (leb (o i) n) (At (record { format = f i; size = r i; offset = o i; at = start + o i; left = n - o i })) Off
+    λ i. ifB (leb (o i) n) (At (record { format = f i; «record_length» = r i; offset = o i; at = start + o i; left = n - o i })) Off
 opened-lengths v w Nowhere f r o = refl
 
 pub next-behind : (s : List ℕ) (v : Walk) (c n : ℕ) → c + n ≤ v .left → nextOf s (behind v c n) ≡ nextOf s v
@@ -112,42 +114,43 @@ unfolding unitNext blockNext
 next-padding s v h = ap (unitIn s) (if-true _ _ _ h)
 
 -- the record at a place where a unit stands, and where none does
-pub record-one : (s : List ℕ) (v : Walk) (i c n : ℕ) → Readable s v → unitOf (v .format) (v .size) (leftOf s v) ≡ Of i c n
-    → recordAt s v ≡ begunBy s (v .size) (One i (v .at + c) n (behind v c n))
+pub record-one : (s : List ℕ) (v : Walk) (i c n : ℕ) → Readable s v
+    → unitOf (v .format) (v .«record_length») (leftOf s v) ≡ Of i c n
+    → recordAt s v ≡ begunBy s (v .«record_length») (One i (v .at + c) n (behind v c n))
 unfolding unitFrom unitHere orNext taken
 record-one s v i c n g e =
     record-begun s v (unitFrom s v) g refl
-    ∙ ap (λ (u : Unit). begunBy s (v .size) (orNext (taken v u) (unitNext s v))) e
+    ∙ ap (λ (u : Unit). begunBy s (v .«record_length») (orNext (taken v u) (unitNext s v))) e
 
-pub record-next : (s : List ℕ) (v : Walk) → Readable s v → unitOf (v .format) (v .size) (leftOf s v) ≡ None
+pub record-next : (s : List ℕ) (v : Walk) → Readable s v → unitOf (v .format) (v .«record_length») (leftOf s v) ≡ None
     → allAre pad (leftOf s v) ≡ true
-    → recordAt s v ≡ begunBy s (v .size) (nextOf s v)
+    → recordAt s v ≡ begunBy s (v .«record_length») (nextOf s v)
 unfolding unitFrom unitHere orNext taken
 record-next s v g e h =
     record-begun s v (unitFrom s v) g refl
-    ∙ ap (λ (u : Unit). begunBy s (v .size) (orNext (taken v u) (unitNext s v))) e
-    ∙ ap (begunBy s (v .size)) (next-padding s v h)
+    ∙ ap (λ (u : Unit). begunBy s (v .«record_length») (orNext (taken v u) (unitNext s v))) e
+    ∙ ap (begunBy s (v .«record_length»)) (next-padding s v h)
 
 -- ---- records from a place inside a block on, with none open
 
 -- the bytes of a unit, in the image and in what is left of the block
-pub unit-bytes : (s : List ℕ) (v : Walk) (i c n : ℕ) → unitOf (v .format) (v .size) (leftOf s v) ≡ Of i c n
+pub unit-bytes : (s : List ℕ) (v : Walk) (i c n : ℕ) → unitOf (v .format) (v .«record_length») (leftOf s v) ≡ Of i c n
     → part (v .at + c) n s ≡ part c n (leftOf s v)
 unfolding leftOf
 unit-bytes s v i c n e = sym (part-part (v .at) c n (v .left) s (unit-at s v i c n e .left))
 
-pub unit-long : (s : List ℕ) (v : Walk) (i c n : ℕ) → unitOf (v .format) (v .size) (leftOf s v) ≡ Of i c n
+pub unit-long : (s : List ℕ) (v : Walk) (i c n : ℕ) → unitOf (v .format) (v .«record_length») (leftOf s v) ≡ Of i c n
     → length (part c n (leftOf s v)) ≡ n
-unit-long s v i c n e = length-part c n (leftOf s v) (unit-stands (v .format) (v .size) (leftOf s v) i c n e .within)
+unit-long s v i c n e = length-part c n (leftOf s v) (unit-stands (v .format) (v .«record_length») (leftOf s v) i c n e .within)
 
 -- a whole record, and those behind it
 whole-walks : (s : List ℕ) (v : Walk) (i c n : ℕ) (rs : List (List ℕ)) → Readable s v
-    → unitOf (v .format) (v .size) (leftOf s v) ≡ Of i c n → i ≡ 0 → n ≤ v .size
+    → unitOf (v .format) (v .«record_length») (leftOf s v) ≡ Of i c n → i ≡ 0 → n ≤ v .«record_length»
     → Walks s (behind v c n) rs → Walks s v (part c n (leftOf s v) ∷ rs)
 unfolding begunBy handed
 whole-walks s v i c n rs g e z m h = (
   behind v c n,
-  ap (handed s) (record-one s v i c n g e ∙ if-true _ _ _ (le-leb n (v .size) m) ∙ if-true _ _ _ (eq-eqb i 0 z))
+  ap (handed s) (record-one s v i c n g e ∙ if-true _ _ _ (le-leb n (v .«record_length») m) ∙ if-true _ _ _ (eq-eqb i 0 z))
       ∙ ap (λ (bs : List ℕ). ends bs (behind v c n)) (unit-bytes s v i c n e),
   h,
 )
@@ -157,8 +160,8 @@ unfolding handed splitBy
 handed-split s bs cs x v e = ap (λ (y : Rest). handed s (splitBy bs y)) e
 
 -- behind a segment that leaves a record open, the next unit is that of the next block
-pub rest-next : (s : List ℕ) (v : Walk) (i c n room : ℕ) → unitOf (v .format) (v .size) (leftOf s v) ≡ Of i c n
-    → CutEnd (v .format) (v .size) (drop (c + n) (leftOf s v))
+pub rest-next : (s : List ℕ) (v : Walk) (i c n room : ℕ) → unitOf (v .format) (v .«record_length») (leftOf s v) ≡ Of i c n
+    → CutEnd (v .format) (v .«record_length») (drop (c + n) (leftOf s v))
     → restAt s room (behind v c n) ≡ restBy s room (nextOf s v) (λ m u. restAt s m u)
 rest-next s v i c n room e k =
     rest-at s room (behind v c n)
@@ -168,66 +171,68 @@ rest-next s v i c n room e k =
 
 -- a record that begins, and goes on in the next block
 split-walks : (s : List ℕ) (v : Walk) (i c n : ℕ) (rs : List (List ℕ)) → Readable s v
-    → unitOf (v .format) (v .size) (leftOf s v) ≡ Of i c n → i ≡ 1 → n ≤ v .size
-    → CutEnd (v .format) (v .size) (drop (c + n) (leftOf s v)) → Hands s (v .size) (suc n) (nextOf s v) rs
+    → unitOf (v .format) (v .«record_length») (leftOf s v) ≡ Of i c n → i ≡ 1 → n ≤ v .«record_length»
+    → CutEnd (v .format) (v .«record_length») (drop (c + n) (leftOf s v)) → Hands s (v .«record_length») (suc n) (nextOf s v) rs
     → Walks s v (onFirst (part c n (leftOf s v)) rs)
 unfolding begunBy onFirst
 split-walks s v i c n [] g e z m k h = absurd h
 split-walks s v i c n (r ∷ rs) g e z m k (u, q, h) = (
   u,
   ap (handed s)
-      (record-one s v i c n g e ∙ if-true _ _ _ (le-leb n (v .size) m) ∙ if-false _ _ _ (ne-eqb i 0 (λ y. omega arith))
+      (record-one s v i c n g e ∙ if-true _ _ _ (le-leb n (v .«record_length») m) ∙ if-false _ _ _ (ne-eqb i 0 (λ y. omega arith))
       ∙ if-true _ _ _ (eq-eqb i 1 z)
-      ∙ ap (λ (bs : List ℕ). splitBy bs (restAt s (v .size - n) (behind v c n))) (unit-bytes s v i c n e))
-      ∙ handed-split s (part c n (leftOf s v)) r (restAt s (v .size - n) (behind v c n)) u
-      (rest-next s v i c n (v .size - n) e k ∙ q),
+      ∙ ap (λ (bs : List ℕ). splitBy bs (restAt s (v .«record_length» - n) (behind v c n))) (unit-bytes s v i c n e))
+      ∙ handed-split s (part c n (leftOf s v)) r (restAt s (v .«record_length» - n) (behind v c n)) u
+      (rest-next s v i c n (v .«record_length» - n) e k ∙ q),
   h,
 )
 
 -- what is handed out from the segments xs on, of which the first stands where v does, with none open and t next behind the block
 abbrev pub Handing : List ℕ → Walk → ℕ → Bool → List Segment → Taken → List Segment → Type 0
 Handing s v o head xs t ys =
-    turnsFrom (v .size) o head xs .number ≡ 0 → Hands s (v .size) (turnsFrom (v .size) o head xs .pending) t (joined ys)
+    turnsFrom (v .«record_length») o head xs .number ≡ 0 → Hands s (v .«record_length») (turnsFrom (v .«record_length») o head xs .pending) t (joined ys)
     → Walks s v (joined (xs ++ ys))
 
 -- behind a whole record
 after-whole : (s : List ℕ) (v : Walk) (i c n o : ℕ) (xs ys : List Segment) → Readable s v
-    → unitOf (v .format) (v .size) (leftOf s v) ≡ Of i c n → i ≡ 0 → n ≤ v .size
-    → Handing s (behind v c n) 0 false xs (nextOf s v) ys → o ≡ 0 → turnsFrom (v .size) o false xs .number ≡ 0
-    → Hands s (v .size) (turnsFrom (v .size) o false xs .pending) (nextOf s v) (joined ys)
+    → unitOf (v .format) (v .«record_length») (leftOf s v) ≡ Of i c n → i ≡ 0 → n ≤ v .«record_length»
+    → Handing s (behind v c n) 0 false xs (nextOf s v) ys → o ≡ 0 → turnsFrom (v .«record_length») o false xs .number ≡ 0
+    → Hands s (v .«record_length») (turnsFrom (v .«record_length») o false xs .pending) (nextOf s v) (joined ys)
     → Walks s v (joined (segmentOf i (part c n (leftOf s v)) ∷ (xs ++ ys)))
 after-whole s v i c n o xs ys g e z m again w h k =
     subst (Walks s v) (sym (joined-whole (segmentOf i (part c n (leftOf s v))) (xs ++ ys) (λ y. omega arith) (λ y. omega arith)))
     (whole-walks s v i c n (joined (xs ++ ys)) g e z m
-    (again (subst (λ (j : ℕ). turnsFrom (v .size) j false xs .number ≡ 0) w h)
-    (subst (λ (j : ℕ). Hands s (v .size) (turnsFrom (v .size) j false xs .pending) (nextOf s v) (joined ys)) w k)))
+    (again (subst (λ (j : ℕ). turnsFrom (v .«record_length») j false xs .number ≡ 0) w h)
+    (subst (λ (j : ℕ). Hands s (v .«record_length») (turnsFrom (v .«record_length») j false xs .pending) (nextOf s v) (joined ys)) w k)))
 
 -- behind a segment that begins a record
 after-one : (s : List ℕ) (v : Walk) (i c n o : ℕ) (xs ys : List Segment) → Readable s v
-    → unitOf (v .format) (v .size) (leftOf s v) ≡ Of i c n → i ≡ 1 → n ≤ v .size
-    → cut (v .format) (v .size) (drop (c + n) (leftOf s v)) ≡ some xs → o ≡ suc n → turnsFrom (v .size) o false xs .number ≡ 0
-    → Hands s (v .size) (turnsFrom (v .size) o false xs .pending) (nextOf s v) (joined ys)
+    → unitOf (v .format) (v .«record_length») (leftOf s v) ≡ Of i c n → i ≡ 1 → n ≤ v .«record_length»
+    → cut (v .format) (v .«record_length») (drop (c + n) (leftOf s v)) ≡ some xs → o ≡ suc n
+    → turnsFrom (v .«record_length») o false xs .number ≡ 0
+    → Hands s (v .«record_length») (turnsFrom (v .«record_length») o false xs .pending) (nextOf s v) (joined ys)
     → Walks s v (joined (segmentOf i (part c n (leftOf s v)) ∷ (xs ++ ys)))
 after-one s v i c n o xs ys g e z m rest w h k =
-    let shut = turns-shut (v .size) n xs (subst (λ (j : ℕ). turnsFrom (v .size) j false xs .number ≡ 0) w h) in
-    let over : CutEnd (v .format) (v .size) (drop (c + n) (leftOf s v)) = cut-over _ _ _ (rest ∙ ap some (shut .0)) in
+    let shut = turns-shut (v .«record_length») n xs (subst (λ (j : ℕ). turnsFrom (v .«record_length») j false xs .number ≡ 0) w h) in
+    let over : CutEnd (v .format) (v .«record_length») (drop (c + n) (leftOf s v)) = cut-over _ _ _ (rest ∙ ap some (shut .0)) in
     subst (Walks s v)
     (sym (joined-one (segmentOf i (part c n (leftOf s v))) (xs ++ ys) z
     ∙ ap (λ (l : List Segment). onFirst (part c n (leftOf s v)) (joined (l ++ ys))) (shut .0)))
     (split-walks s v i c n (joined ys) g e z m over
-    (subst (λ (j : ℕ). Hands s (v .size) j (nextOf s v) (joined ys))
-    (ap (λ (j : ℕ). turnsFrom (v .size) j false xs .pending) w ∙ shut .1) k))
+    (subst (λ (j : ℕ). Hands s (v .«record_length») j (nextOf s v) (joined ys))
+    (ap (λ (j : ℕ). turnsFrom (v .«record_length») j false xs .pending) w ∙ shut .1) k))
 
 -- a segment before others, with none open
 segment-walks : (s : List ℕ) (v : Walk) (i c n : ℕ) (head : Bool) (xs ys : List Segment) → Readable s v
-    → unitOf (v .format) (v .size) (leftOf s v) ≡ Of i c n
-    → cut (v .format) (v .size) (drop (c + n) (leftOf s v)) ≡ some xs → Handing s (behind v c n) 0 false xs (nextOf s v) ys
+    → unitOf (v .format) (v .«record_length») (leftOf s v) ≡ Of i c n
+    → cut (v .format) (v .«record_length») (drop (c + n) (leftOf s v)) ≡ some xs
+    → Handing s (behind v c n) 0 false xs (nextOf s v) ys
     → Handing s v 0 head (segmentOf i (part c n (leftOf s v)) ∷ xs) (nextOf s v) ys
 unfolding turnsFrom outcome
 segment-walks s v i c n head xs ys g e rest again =
-    if-case P (isTurn (v .size) 0 head i (length bytes)) (turnsFrom (v .size) (openAfter 0 i (length bytes)) false xs)
+    if-case P (isTurn (v .«record_length») 0 head i (length bytes)) (turnsFrom (v .«record_length») (openAfter 0 i (length bytes)) false xs)
     (outcome 8 0)
-    (λ t. by-turn (in-turn (v .size) 0 head i (length bytes) t)) (λ _ q. absurd (eqb-false 8 0 refl q))
+    (λ t. by-turn (in-turn (v .«record_length») 0 head i (length bytes) t)) (λ _ q. absurd (eqb-false 8 0 refl q))
   where
     bytes : List ℕ
     bytes = part c n (leftOf s v)
@@ -237,11 +242,11 @@ segment-walks s v i c n head xs ys g e rest again =
 
     P : Outcome → Type 0
     P o =
-        o .number ≡ 0 → Hands s (v .size) (o .pending) (nextOf s v) (joined ys)
+        o .number ≡ 0 → Hands s (v .«record_length») (o .pending) (nextOf s v) (joined ys)
         → Walks s v (joined (segmentOf i bytes ∷ (xs ++ ys)))
 
-    by-one : (b : Bool) → eqb i 1 ≡ b → i ≤ 1 → length bytes ≤ v .size
-        → P (turnsFrom (v .size) (openAfter 0 i (length bytes)) false xs)
+    by-one : (b : Bool) → eqb i 1 ≡ b → i ≤ 1 → length bytes ≤ v .«record_length»
+        → P (turnsFrom (v .«record_length») (openAfter 0 i (length bytes)) false xs)
     by-one true a p m =
         after-one s v i c n (openAfter 0 i (length bytes)) xs ys g e (eqb-true i 1 a) (omega (arith, long)) rest
         (open-one 0 i (length bytes) (eqb-true i 1 a) ∙ ap suc long)
@@ -250,21 +255,22 @@ segment-walks s v i c n head xs ys g e rest again =
         after-whole s v i c n (openAfter 0 i (length bytes)) xs ys g e (omega arith) (omega (arith, long)) again
         (open-whole 0 i (length bytes) other (λ y. omega arith))
 
-    by-turn : InTurn (v .size) 0 i (length bytes) → P (turnsFrom (v .size) (openAfter 0 i (length bytes)) false xs)
+    by-turn : InTurn (v .«record_length») 0 i (length bytes)
+        → P (turnsFrom (v .«record_length») (openAfter 0 i (length bytes)) false xs)
     by-turn (starts p q m) = by-one (eqb i 1) refl p m
     by-turn (follows p q m) = absurd (omega arith)
 
 -- all that is left of a block
 pub rest-walks : (s : List ℕ) (xs : List Segment) (v : Walk) (head : Bool) (ys : List Segment) → Readable s v
-    → cut (v .format) (v .size) (leftOf s v) ≡ some xs
+    → cut (v .format) (v .«record_length») (leftOf s v) ≡ some xs
     → Handing s v 0 head xs (nextOf s v) ys
 unfolding turnsFrom outcome
 rest-walks s [] v head ys g h = λ _ k.
-    let c = cut-over (v .format) (v .size) (leftOf s v) h in
+    let c = cut-over (v .format) (v .«record_length») (leftOf s v) h in
     walks-by s v (joined ys)
     (subst (λ (x : Record). Gives s (handed s x) (joined ys)) (sym (record-next s v g (c .unit) (c .padding))) k)
 rest-walks s (x ∷ xs) v head ys g h =
-    let k = cut-one (v .format) (v .size) (leftOf s v) x xs h in
+    let k = cut-one (v .format) (v .«record_length») (leftOf s v) x xs h in
     let here = k .unit in
     let rest = k .rest in
     subst (λ (y : Segment). Handing s v 0 head (y ∷ xs) (nextOf s v) ys) (k .is)
@@ -272,4 +278,4 @@ rest-walks s (x ∷ xs) v head ys g h =
     (subst (λ (t : Taken). Handing s (behind v (k .c) (k .n)) 0 false xs t ys)
     (next-behind s v (k .c) (k .n) (unit-at s v (k .i) (k .c) (k .n) here .left))
     (rest-walks s xs (behind v (k .c) (k .n)) false ys (good-behind s v (k .i) (k .c) (k .n) g here)
-    (ap (cut (v .format) (v .size)) (left-behind s v (k .c) (k .n)) ∙ rest))))
+    (ap (cut (v .format) (v .«record_length»)) (left-behind s v (k .c) (k .n)) ∙ rest))))

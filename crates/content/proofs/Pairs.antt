@@ -22,8 +22,8 @@ use Rattle.content.proofs.Stepping.{begun-long, kept-begun, begun-joine
 
 -- the second segment is the rest of the record
 record Closes (s : List ℕ) (v u h y : Walk) (k j : ℕ) : Type 0 where
-  turn : TurnAt s (v .left - k) 51 (v .size - (k - 5)) (standsAt (h .format) 0 (h .at) (h .left)) j
-  tail : Ends (j - 5) y ≡ tailBy (restAt s (v .size - (k - 5)) u)
+  turn : TurnAt s (v .left - k) 51 (v .«record_length» - (k - 5)) (standsAt (h .format) 0 (h .at) (h .left)) j
+  tail : Ends (j - 5) y ≡ tailBy (restAt s (v .«record_length» - (k - 5)) u)
   bytes : bytesBehind s u ≡ part (h .at + 5) (j - 5) s
 
 closes : (s : List ℕ) (v h y : Walk) (k j : ℕ) → TwoAt s v k h j → y ≡ moved h (h .at + j) (h .left - j)
@@ -31,19 +31,19 @@ closes : (s : List ℕ) (v h y : Walk) (k j : ℕ) → TwoAt s v k h j → y ≡
 unfolding tailBy bytesBehind restBytes
 closes s v h y k j c p =
     let u = moved v (v .at + k) (v .left - k) in
-    let t = turns s (v .left - k) 51 (v .size - (k - 5)) (standsAt (h .format) 0 (h .at) (h .left)) j (c .is) (c .some) in
+    let t = turns s (v .left - k) 51 (v .«record_length» - (k - 5)) (standsAt (h .format) 0 (h .at) (h .left)) j (c .is) (c .some) in
     let digit = t .digit in
     let short = t .short in
     let three : getD s (h .at) 0 - 48 ≡ 3 = omega arith in
-    let most : j - 5 ≤ v .size = omega arith in
+    let most : j - 5 ≤ v .«record_length» = omega arith in
     let unit : One 3 (h .at + 5) (j - 5) y ≡ unitNext s u
     = ap (λ (i : ℕ). One i (h .at + 5) (j - 5) y) (sym three) ∙ next-segment s u h y j (c .head) (t .is) (c .some) p in
     let long : length (part (h .at + 5) (j - 5) s) ≡ j - 5 = segment-long s u 3 (h .at + 5) (j - 5) y _ unit refl in
     record {
       turn = t;
       tail = ap (λ (n : ℕ). Ends n y) (sym long)
-          ∙ ap tailBy (sym (rest-ends s (v .size - (k - 5)) u 3 (h .at + 5) (j - 5) y _ unit refl short refl));
-      bytes = ap restBytes (rest-ends s (v .size) u 3 (h .at + 5) (j - 5) y _ unit refl most refl);
+          ∙ ap tailBy (sym (rest-ends s (v .«record_length» - (k - 5)) u 3 (h .at + 5) (j - 5) y _ unit refl short refl));
+      bytes = ap restBytes (rest-ends s (v .«record_length») u 3 (h .at + 5) (j - 5) y _ unit refl most refl);
     }
 
 -- one that is longer than the buffer
@@ -84,7 +84,7 @@ second s v h k j c =
 pub two-second : (s : List ℕ) (v h : Walk) (k j : ℕ) → TwoAt s v k h j → 5 ≤ j
 two-second s v h k j c = second s v h k j c .least
 
-pub two-sum : (s : List ℕ) (v h : Walk) (k j : ℕ) → TwoAt s v k h j → v .size < 4294967296 → Fits w64 (k - 5 + (j - 5))
+pub two-sum : (s : List ℕ) (v h : Walk) (k j : ℕ) → TwoAt s v k h j → v .«record_length» < 4294967296 → Fits w64 (k - 5 + (j - 5))
 two-sum s v h k j c l =
     let short = closes s v h (moved h (h .at + j) (h .left - j)) k j c refl .turn .short in
     let first = begun-most s v k (c .begun) in
@@ -132,13 +132,14 @@ pub ruleset steps-two = (
 
 -- the record is one of two segments
 pub two-at : (s : List ℕ) (v u h : Walk) (k j : ℕ) → BegunAt s v k → u ≡ moved v (v .at + k) (v .left - k) → h ≡ atBlock s u
-    → j ≡ turnIn s (u .left) 51 (v .size - (k - 5)) (standsAt (h .format) 0 (h .at) (h .left)) → (j ≡ 0 → ⊥) → TwoAt s v k h j
+    → j ≡ turnIn s (u .left) 51 (v .«record_length» - (k - 5)) (standsAt (h .format) 0 (h .at) (h .left)) → (j ≡ 0 → ⊥)
+    → TwoAt s v k h j
 two-at s v u h k j b q e m z =
     let l : u .left ≡ v .left - k = ap (λ (x : Walk). x .left) q in
     record {
       begun = b;
       head = e ∙ ap (atBlock s) q;
-      is = m ∙ ap (λ (x : ℕ). turnIn s x 51 (v .size - (k - 5)) (standsAt (h .format) 0 (h .at) (h .left))) l;
+      is = m ∙ ap (λ (x : ℕ). turnIn s x 51 (v .«record_length» - (k - 5)) (standsAt (h .format) 0 (h .at) (h .left))) l;
       some = z;
     }
 

@@ -100,7 +100,8 @@ pub data Read : List ℕ → List ℕ → ℕ → List Part → List Event → T
 -- ---- a whole image in order
 
 -- every item of an accepted image is due where it stands
-in-order : (s : List ℕ) (xs : List Item) (t : State) (at : ℕ) → All MayEnd t xs → decode (drop at s) ≡ xs → allItems xs ≡ true → InOrder s (t .phase) at xs
+in-order : (s : List ℕ) (xs : List Item) (t : State) (at : ℕ) → All MayEnd t xs → decode (drop at s) ≡ xs → allItems xs ≡ true
+    → InOrder s (t .phase) at xs
 unfolding stateAfter
 in-order s [] t at all e good = tt
 in-order s (x ∷ xs) t at (q, f, all) e good =
@@ -204,7 +205,7 @@ body-of s (block l ∷ xs) g p hdr1 at (q, c, d, o) e fits h num open' =
 same-lengths : (second l : List ℕ) → hdr2Fault true second l .number ≡ 0 → walkFrom l 0 ≡ walkFrom second 0
 same-lengths second l h =
     let c = second-same second l h in
-    λ i. record { format = sym (c .0) i; size = valueOf (sym (c .1) i); offset = valueOf (sym (c .2) i); at = 0; left = 0 }
+    λ i. record { format = sym (c .0) i; «record_length» = valueOf (sym (c .1) i); offset = valueOf (sym (c .2) i); at = 0; left = 0 }
 
 -- an open file has a record length of 1 or more
 abbrev Sized : Stage → Bool → List ℕ → Type 0

@@ -30,7 +30,7 @@ pub record Passes (s : List ℕ) (w : Walk) (r : List ℕ) (v : Walk) : Type 0 w
   pub bytes : w .at + length r ≤ v .at
   pub inside : Inside s v
   pub format : v .format ≡ w .format
-  pub size : v .size ≡ w .size
+  pub «record_length» : v .«record_length» ≡ w .«record_length»
   pub offset : v .offset ≡ w .offset
   pub leads : Leads s (w .at + w .left) (v .at + v .left)
 
@@ -47,7 +47,7 @@ passes-unit s w start n v b =
       bytes = omega (arith, b .bytes);
       inside = b .inside;
       format = b .format;
-      size = b .size;
+      «record_length» = b .«record_length»;
       offset = b .offset;
       leads = b .leads;
     }
@@ -61,7 +61,7 @@ passes-more s w start n v r u b p =
       bytes = omega (arith, length-append (part start n s) r, b .bytes, p .bytes);
       inside = p .inside;
       format = p .format ∙ b .format;
-      size = p .size ∙ b .size;
+      «record_length» = p .«record_length» ∙ b .«record_length»;
       offset = p .offset ∙ b .offset;
       leads = λ x f. p .leads x (b .leads x f);
     }
@@ -97,24 +97,24 @@ split-passes s w start n v (ends r u) b p = passes-more s w start n v r u b p
 split-passes s w start n v fails b p = refl
 
 begun-passes : (s : List ℕ) (w : Walk) (t : Taken) → Inside s w → unitFrom s w ≡ t
-    → If-ends (Passes s w) (handed s (begunBy s (w .size) t))
+    → If-ends (Passes s w) (handed s (begunBy s (w .«record_length») t))
 unfolding begunBy handed restAt
 begun-passes s w (One i start n v) h e =
     let b = from-behind s w i start n v h e in
-    if-case (λ (x : Record). If-ends (Passes s w) (handed s x)) (leb n (w .size)) _ nothing
+    if-case (λ (x : Record). If-ends (Passes s w) (handed s x)) (leb n (w .«record_length»)) _ nothing
     (λ _. if-case (λ (x : Record). If-ends (Passes s w) (handed s x)) (eqb i 0) (whole start n v) _
     (λ _. passes-unit s w start n v b)
     (λ _. if-case (λ (x : Record). If-ends (Passes s w) (handed s x)) (eqb i 1)
-    (splitBy (part start n s) (restAt s (w .size - n) v)) nothing
-    (λ _. split-passes s w start n v (restAt s (w .size - n) v) b (rest-fuel (suc (length s)) s (w .size - n) v)) (λ _. refl)))
+    (splitBy (part start n s) (restAt s (w .«record_length» - n) v)) nothing
+    (λ _. split-passes s w start n v (restAt s (w .«record_length» - n) v) b (rest-fuel (suc (length s)) s (w .«record_length» - n) v)) (λ _. refl)))
     (λ _. refl)
 begun-passes s w Nothing h e = refl
 
 handed-any : (s : List ℕ) (w : Walk) → If-ends (Passes s w) (handed s (recordAt s w))
 unfolding recordAt handed
 handed-any s w =
-    if-case (λ (x : Record). If-ends (Passes s w) (handed s x)) (eqb (w .size) 0) nothing _ (λ _. refl)
-    (λ _. if-case (λ (x : Record). If-ends (Passes s w) (handed s x)) (isInside s w) (begunBy s (w .size) (unitFrom s w)) nothing
+    if-case (λ (x : Record). If-ends (Passes s w) (handed s x)) (eqb (w .«record_length») 0) nothing _ (λ _. refl)
+    (λ _. if-case (λ (x : Record). If-ends (Passes s w) (handed s x)) (isInside s w) (begunBy s (w .«record_length») (unitFrom s w)) nothing
     (λ a. begun-passes s w (unitFrom s w) (inside-true s w true (sym a) refl) refl) (λ _. refl))
 
 -- a record that is handed out is passed, and its bytes are those of the record

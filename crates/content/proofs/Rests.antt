@@ -40,7 +40,7 @@ pub record UnitBehind (s : List ℕ) (w : Walk) (start n : ℕ) (v : Walk) : Typ
   pub inside : Inside s v
   pub within : start + n ≤ length s
   pub format : v .format ≡ w .format
-  pub size : v .size ≡ w .size
+  pub «record_length» : v .«record_length» ≡ w .«record_length»
   pub offset : v .offset ≡ w .offset
   pub leads : Leads s (w .at + w .left) (v .at + v .left)
 
@@ -48,7 +48,7 @@ abbrev If-one : (ℕ → ℕ → Walk → Type 0) → Taken → Type 0
 If-one P (One i start n v) = P start n v
 If-one P Nothing = Nothing ≡ Nothing
 
-here-behind : (s : List ℕ) (w : Walk) (u : Unit) → Inside s w → unitOf (w .format) (w .size) (leftOf s w) ≡ u
+here-behind : (s : List ℕ) (w : Walk) (u : Unit) → Inside s w → unitOf (w .format) (w .«record_length») (leftOf s w) ≡ u
     → If-one (UnitBehind s w) (taken w u)
 unfolding taken
 here-behind s w (Of i c n) h e =
@@ -63,7 +63,7 @@ here-behind s w (Of i c n) h e =
       inside = omega arith;
       within = within;
       format = refl;
-      size = refl;
+      «record_length» = refl;
       offset = refl;
       leads = λ x f. subst (Follows s x) same f;
     }
@@ -74,7 +74,7 @@ pub record BlockOpened (s : List ℕ) (w v : Walk) : Type 0 where
   pub onward : w .at < v .at
   pub inside : Inside s v
   pub format : v .format ≡ w .format
-  pub size : v .size ≡ w .size
+  pub «record_length» : v .«record_length» ≡ w .«record_length»
   pub offset : v .offset ≡ w .offset
   pub leads : Leads s (w .at + w .left) (v .at + v .left)
 
@@ -97,7 +97,7 @@ open-by s w (Block start n) e =
       onward = omega arith;
       inside = omega arith;
       format = refl;
-      size = refl;
+      «record_length» = refl;
       offset = refl;
       leads = λ x f. subst (Follows s x) same (data-leads s (w .at + w .left) start n e x f);
     }) (λ _. refl)
@@ -115,7 +115,7 @@ behind-opened s w v (One i start n u) o b =
       inside = b .inside;
       within = b .within;
       format = b .format ∙ o .format;
-      size = b .size ∙ o .size;
+      «record_length» = b .«record_length» ∙ o .«record_length»;
       offset = b .offset ∙ o .offset;
       leads = λ x f. b .leads x (o .leads x f);
     }
@@ -123,7 +123,7 @@ behind-opened s w v Nothing o b = refl
 
 in-behind : (s : List ℕ) (w : Walk) (p : Place) → If-place (BlockOpened s w) p → If-one (UnitBehind s w) (unitIn s p)
 unfolding unitIn unitHere
-in-behind s w (At v) o = behind-opened s w v (taken v (unitOf (v .format) (v .size) (leftOf s v))) o (here-behind s v (unitOf (v .format) (v .size) (leftOf s v)) (o .inside) refl)
+in-behind s w (At v) o = behind-opened s w v (taken v (unitOf (v .format) (v .«record_length») (leftOf s v))) o (here-behind s v (unitOf (v .format) (v .«record_length») (leftOf s v)) (o .inside) refl)
 in-behind s w Off o = refl
 
 next-any : (s : List ℕ) (w : Walk) → If-one (UnitBehind s w) (unitNext s w)

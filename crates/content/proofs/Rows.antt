@@ -38,10 +38,10 @@ use Rattle.content.proofs.Stepping.{asked-begun}
 
 -- the unit that is the record
 record Single (s : List ℕ) (w : Walk) (start n : ℕ) (u : Walk) : Type 0 where
-  some : w .size ≡ 0 → ⊥
+  some : w .«record_length» ≡ 0 → ⊥
   inside : Inside s w
   unit : unitFrom s w ≡ One 0 start n u
-  short : n ≤ w .size
+  short : n ≤ w .«record_length»
 
 nothing-whole : (start n : ℕ) (u : Walk) → nothing ≡ whole start n u → ⊥
 nothing-whole start n u e = let z : _≡_ {A = ℕ} 0 1 = cc in omega arith
@@ -54,23 +54,23 @@ split-whole bs fails start n u e = nothing-whole start n u e
 single : (s : List ℕ) (w : Walk) (start n : ℕ) (u : Walk) → recordAt s w ≡ whole start n u → Single s w start n u
 unfolding recordAt begunBy
 single s w start n u =
-    if-case P (eqb (w .size) 0) nothing _ (λ _ q. absurd (nothing-whole start n u q))
-    (λ a. if-case P (isInside s w) (begunBy s (w .size) (unitFrom s w)) nothing
-    (λ b. by-unit (eqb-false (w .size) 0 a) (inside-true s w true (sym b) refl) (unitFrom s w) refl)
+    if-case P (eqb (w .«record_length») 0) nothing _ (λ _ q. absurd (nothing-whole start n u q))
+    (λ a. if-case P (isInside s w) (begunBy s (w .«record_length») (unitFrom s w)) nothing
+    (λ b. by-unit (eqb-false (w .«record_length») 0 a) (inside-true s w true (sym b) refl) (unitFrom s w) refl)
     (λ _ q. absurd (nothing-whole start n u q)))
   where
     P : Record → Type 0
     P x = x ≡ whole start n u → Single s w start n u
 
-    by-unit : (w .size ≡ 0 → ⊥) → Inside s w → (t : Taken) → unitFrom s w ≡ t → P (begunBy s (w .size) t)
+    by-unit : (w .«record_length» ≡ 0 → ⊥) → Inside s w → (t : Taken) → unitFrom s w ≡ t → P (begunBy s (w .«record_length») t)
     by-unit some inside (One i a k v) e =
-        if-case P (leb k (w .size)) _ nothing
+        if-case P (leb k (w .«record_length»)) _ nothing
         (λ c. if-case P (eqb i 0) (whole a k v) _
         (λ d q. let z : i ≡ 0 = eqb-true i 0 d in
         let x : a ≡ start = cc in
         let y : k ≡ n = cc in
         let h : v ≡ u = cc in
-        let l = leb-true k (w .size) c in
+        let l = leb-true k (w .«record_length») c in
         record {
           some = some;
           inside = inside;
@@ -96,7 +96,7 @@ one-same i a b j c d x y t = cc
 
 -- a record begins there that has several segments, if it ends
 pub begun-no-whole : (s : List ℕ) (w v : Walk) (k : ℕ) → v ≡ atBlock s w
-    → k ≡ begunIn s (standsAt (v .format) (v .size) (v .at) (v .left)) → (k ≡ 0 → ⊥)
+    → k ≡ begunIn s (standsAt (v .format) (v .«record_length») (v .at) (v .left)) → (k ≡ 0 → ⊥)
     → Nothing ≡ wholeBy (recordAt s w)
 begun-no-whole s w v k e m z =
     by-none (recordAt s w)

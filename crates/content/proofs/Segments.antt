@@ -73,7 +73,7 @@ pub ruleset segment-numbers =
 pub record SegmentAt (s : List ℕ) (b : ℕ) (v : Walk) (k : ℕ) : Type 0 where
   pub none : b ≡ 0
   pub inside : Inside s v
-  pub is : unitOf (v .format) (v .size) (leftOf s v) ≡ Of (getD s (v .at) 0 - 48) 5 (k - 5)
+  pub is : unitOf (v .format) (v .«record_length») (leftOf s v) ≡ Of (getD s (v .at) 0 - 48) 5 (k - 5)
   pub unit : unitHere s v ≡ One (getD s (v .at) 0 - 48) (v .at + 5) (k - 5) (moved v (v .at + k) (v .left - k))
   pub least : 5 ≤ k
   pub left : k ≤ v .left
@@ -85,7 +85,7 @@ segment-by : (s : List ℕ) (b : ℕ) (v : Walk) (k : ℕ) → b ≡ 0 → v .fo
 unfolding unitHere taken leftOf part
 segment-by s b v k none f inside e z =
     let l : List ℕ = take (v .left) (drop (v .at) s) in
-    let is : unitOf (v .format) (v .size) l ≡ Of (getD l 0 0 - 48) 5 (k - 5) = unit-segment (v .format) (v .size) l f ∙ sym (segment-of l 0 k e z) in
+    let is : unitOf (v .format) (v .«record_length») l ≡ Of (getD l 0 0 - 48) 5 (k - 5) = unit-segment (v .format) (v .«record_length») l f ∙ sym (segment-of l 0 k e z) in
     let m : 5 ≤ k = segment-least l 0 k e z in
     let u = unit-at s v (getD l 0 0 - 48) 5 (k - 5) is in
     let r : 5 + (k - 5) ≤ v .left = u .left in
@@ -256,22 +256,23 @@ pub ruleset begun-numbers = (begun-nowhere, begun-is, needs)
 -- what stands at the head of what is left where that number is one
 pub record SegmentBegins (s : List ℕ) (v : Walk) (k : ℕ) : Type 0 where
   pub segment : SegmentAt s 0 v k
-  pub some : v .size ≡ 0 → ⊥
+  pub some : v .«record_length» ≡ 0 → ⊥
   pub digit : getD s (v .at) 0 ≡ 49
-  pub short : k - 5 ≤ v .size
+  pub short : k - 5 ≤ v .«record_length»
 
 pub begins : (s : List ℕ) (v : Walk) (k : ℕ) → BegunAt s v k → SegmentBegins s v k
 unfolding begunIn
 begins s v k b =
     let z = b .some in
-    if-case P (eqb (v .size) 0) 0 (turnIn s 0 49 (v .size) v) (λ _ q. absurd (z q))
-    (λ o q. let t = turns s 0 49 (v .size) v k q z in
-    record { segment = standing-segment s 0 v k (t .is) z; some = eqb-false (v .size) 0 o; digit = t .digit; short = t .short })
+    if-case P (eqb (v .«record_length») 0) 0 (turnIn s 0 49 (v .«record_length») v) (λ _ q. absurd (z q))
+    (λ o q. let t = turns s 0 49 (v .«record_length») v k q z in
+    record { segment = standing-segment s 0 v k (t .is) z; some = eqb-false (v .«record_length») 0 o; digit = t .digit; short = t .short })
     (b .is)
   where
     P : ℕ → Type 0
     P x = k ≡ x → SegmentBegins s v k
 
-pub begun-no-offset : (s : List ℕ) (v : Walk) → begunIn s (standsAt (v .format) (v .size) (v .at) (v .left)) ≡ begunIn s v
+pub begun-no-offset : (s : List ℕ) (v : Walk)
+    → begunIn s (standsAt (v .format) (v .«record_length») (v .at) (v .left)) ≡ begunIn s v
 unfolding begunIn turnIn segmentIn isInside leftOf
 begun-no-offset s v = refl

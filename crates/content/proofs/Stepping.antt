@@ -144,7 +144,7 @@ pub ruleset steps = (step-quick, kept-quick, word-least, whole-left, whole-start
 record Opens (s : List ℕ) (v u : Walk) (k : ℕ) : Type 0 where
   good : Readable s v
   unit : unitFrom s v ≡ One 1 (v .at + 5) (k - 5) u
-  short : k - 5 ≤ v .size
+  short : k - 5 ≤ v .«record_length»
 
 opens : (s : List ℕ) (v u : Walk) (k : ℕ) → BegunAt s v k → u ≡ moved v (v .at + k) (v .left - k) → Opens s v u k
 unfolding unitFrom orNext
@@ -160,55 +160,59 @@ opens s v u k b q =
     }
 
 -- its measure, by what is behind the first segment
-opens-fails : (s : List ℕ) (v u : Walk) (k : ℕ) (x : Tail) → Opens s v u k → x ≡ tailBy (restAt s (v .size - (k - 5)) u)
+opens-fails : (s : List ℕ) (v u : Walk) (k : ℕ) (x : Tail) → Opens s v u k
+    → x ≡ tailBy (restAt s (v .«record_length» - (k - 5)) u)
     → x ≡ Fails → Nothing ≡ measuredBy (recordAt s v)
 opens-fails s v u k x o e f =
     split-fails s v 1 (v .at + 5) (k - 5) u (unitFrom s v) x (o .good) refl (o .unit) (o .short) (λ h. omega arith) refl e f
 
 opens-ends : (s : List ℕ) (v u : Walk) (k : ℕ) (x : Tail) (m : ℕ) (y : Walk) → Opens s v u k
-    → x ≡ tailBy (restAt s (v .size - (k - 5)) u) → x ≡ Ends m y
+    → x ≡ tailBy (restAt s (v .«record_length» - (k - 5)) u) → x ≡ Ends m y
     → Split (k - 5 + m) y ≡ measuredBy (recordAt s v)
 opens-ends s v u k x m y o e f =
     split-ends s v 1 (v .at + 5) (k - 5) u (unitFrom s v) x m y (o .good) refl (o .unit) (o .short) (λ h. omega arith) refl e f
 
 pub measured-fails : (s : List ℕ) (v u : Walk) (k : ℕ) (x : Tail) → BegunAt s v k → u ≡ moved v (v .at + k) (v .left - k)
-    → x ≡ tailBy (restAt s (v .size - (k - 5)) u) → x ≡ Fails → Nothing ≡ measuredBy (recordAt s v)
+    → x ≡ tailBy (restAt s (v .«record_length» - (k - 5)) u) → x ≡ Fails → Nothing ≡ measuredBy (recordAt s v)
 measured-fails s v u k x b q e f = opens-fails s v u k x (opens s v u k b q) e f
 
 pub measured-ends : (s : List ℕ) (v u : Walk) (k : ℕ) (x : Tail) (m : ℕ) (y : Walk) → BegunAt s v k
     → u ≡ moved v (v .at + k) (v .left - k)
-    → x ≡ tailBy (restAt s (v .size - (k - 5)) u) → x ≡ Ends m y → Split (k - 5 + m) y ≡ measuredBy (recordAt s v)
+    → x ≡ tailBy (restAt s (v .«record_length» - (k - 5)) u) → x ≡ Ends m y → Split (k - 5 + m) y ≡ measuredBy (recordAt s v)
 measured-ends s v u k x m y b q e f = opens-ends s v u k x m y (opens s v u k b q) e f
 
 pub begun-fails : (s : List ℕ) (room : ℕ) (v u : Walk) (k : ℕ) (x : Tail) → BegunAt s v k → u ≡ moved v (v .at + k) (v .left - k)
-    → x ≡ tailBy (restAt s (v .size - (k - 5)) u) → x ≡ Fails → Refused 13 ≡ stepAt s room v
+    → x ≡ tailBy (restAt s (v .«record_length» - (k - 5)) u) → x ≡ Fails → Refused 13 ≡ stepAt s room v
 begun-fails s room v u k x b q e f = step-nothing s room v Nothing (opens-fails s v u k x (opens s v u k b q) e f) refl
 
 pub kept-fails : (s old : List ℕ) (v u : Walk) (k : ℕ) (x : Tail) → BegunAt s v k → u ≡ moved v (v .at + k) (v .left - k)
-    → x ≡ tailBy (restAt s (v .size - (k - 5)) u) → x ≡ Fails → old ≡ joinAt s old v
+    → x ≡ tailBy (restAt s (v .«record_length» - (k - 5)) u) → x ≡ Fails → old ≡ joinAt s old v
 kept-fails s old v u k x b q e f = kept-nothing s old v Nothing (opens-fails s v u k x (opens s v u k b q) e f) refl
 
 pub begun-long : (s : List ℕ) (room : ℕ) (v u : Walk) (k : ℕ) (x : Tail) (m : ℕ) (y : Walk) → BegunAt s v k
-    → u ≡ moved v (v .at + k) (v .left - k) → x ≡ tailBy (restAt s (v .size - (k - 5)) u) → x ≡ Ends m y → room < k - 5 + m
+    → u ≡ moved v (v .at + k) (v .left - k) → x ≡ tailBy (restAt s (v .«record_length» - (k - 5)) u) → x ≡ Ends m y
+    → room < k - 5 + m
     → Refused 10 ≡ stepAt s room v
 begun-long s room v u k x m y b q e f h =
     step-long s room v (k - 5 + m) y _ (opens-ends s v u k x m y (opens s v u k b q) e f) refl h
 
 pub kept-begun : (s old : List ℕ) (v u : Walk) (k : ℕ) (x : Tail) (m : ℕ) (y : Walk) → BegunAt s v k
-    → u ≡ moved v (v .at + k) (v .left - k) → x ≡ tailBy (restAt s (v .size - (k - 5)) u) → x ≡ Ends m y → length old < k - 5 + m
+    → u ≡ moved v (v .at + k) (v .left - k) → x ≡ tailBy (restAt s (v .«record_length» - (k - 5)) u) → x ≡ Ends m y
+    → length old < k - 5 + m
     → old ≡ joinAt s old v
 kept-begun s old v u k x m y b q e f h =
     kept-long s old v (k - 5 + m) y _ (opens-ends s v u k x m y (opens s v u k b q) e f) refl h
 
 pub begun-joined : (s : List ℕ) (room : ℕ) (v u : Walk) (k : ℕ) (x : Tail) (m : ℕ) (y : Walk) → BegunAt s v k
-    → u ≡ moved v (v .at + k) (v .left - k) → x ≡ tailBy (restAt s (v .size - (k - 5)) u) → x ≡ Ends m y → k - 5 + m ≤ room
+    → u ≡ moved v (v .at + k) (v .left - k) → x ≡ tailBy (restAt s (v .«record_length» - (k - 5)) u) → x ≡ Ends m y
+    → k - 5 + m ≤ room
     → Joined (k - 5 + m) y ≡ stepAt s room v
 begun-joined s room v u k x m y b q e f h =
     step-joined s room v (k - 5 + m) y _ (opens-ends s v u k x m y (opens s v u k b q) e f) refl h
 
 -- it has room in the buffer
 begun-stands : (s old : List ℕ) (v u : Walk) (k : ℕ) (x : Tail) (m : ℕ) (y : Walk) → Opens s v u k
-    → x ≡ tailBy (restAt s (v .size - (k - 5)) u) → x ≡ Ends m y
+    → x ≡ tailBy (restAt s (v .«record_length» - (k - 5)) u) → x ≡ Ends m y
     → k - 5 + m ≤ length old → SplitAt s v (length old)
 begun-stands s old v u k x m y o e f h = split-stands s v (k - 5 + m) y _ (length old) (opens-ends s v u k x m y o e f) refl h
 
@@ -221,14 +225,16 @@ begun-within s v k b =
     omega arith
 
 pub begun-goes : (s old : List ℕ) (v u : Walk) (k : ℕ) (x : Tail) (m : ℕ) (y : Walk) → BegunAt s v k
-    → u ≡ moved v (v .at + k) (v .left - k) → x ≡ tailBy (restAt s (v .size - (k - 5)) u) → x ≡ Ends m y → k - 5 + m ≤ length old
+    → u ≡ moved v (v .at + k) (v .left - k) → x ≡ tailBy (restAt s (v .«record_length» - (k - 5)) u) → x ≡ Ends m y
+    → k - 5 + m ≤ length old
     → RestFits s u (k - 5) (length old)
 begun-goes s old v u k x m y b q e f h =
     let o = opens s v u k b q in
     rest-goes s old v 1 (v .at + 5) (k - 5) u (unitFrom s v) (begun-stands s old v u k x m y o e f h) refl (o .unit)
 
 pub begun-put : (s old : List ℕ) (v u : Walk) (k : ℕ) (x : Tail) (m : ℕ) (y : Walk) (new : List ℕ) → BegunAt s v k
-    → u ≡ moved v (v .at + k) (v .left - k) → x ≡ tailBy (restAt s (v .size - (k - 5)) u) → x ≡ Ends m y → k - 5 + m ≤ length old
+    → u ≡ moved v (v .at + k) (v .left - k) → x ≡ tailBy (restAt s (v .«record_length» - (k - 5)) u) → x ≡ Ends m y
+    → k - 5 + m ≤ length old
     → new ≡ putAt old 0 (part (v .at + 5) (k - 5) s ++ bytesBehind s u) → new ≡ joinAt s old v
 begun-put s old v u k x m y new b q e f h p =
     let o = opens s v u k b q in
@@ -240,7 +246,7 @@ begun-put s old v u k x m y new b q e f h p =
 pub begun-word : (s : List ℕ) (v : Walk) (k : ℕ) → BegunAt s v k → 5 ≤ k
 begun-word s v k b = begins s v k b .segment .least
 
-pub begun-most : (s : List ℕ) (v : Walk) (k : ℕ) → BegunAt s v k → k - 5 ≤ v .size
+pub begun-most : (s : List ℕ) (v : Walk) (k : ℕ) → BegunAt s v k → k - 5 ≤ v .«record_length»
 begun-most s v k b = begins s v k b .short
 
 pub begun-left : (s : List ℕ) (v : Walk) (k : ℕ) → BegunAt s v k → k ≤ v .left
@@ -264,9 +270,9 @@ begun-end s v k b h =
 pub begun-start : (s : List ℕ) (v : Walk) (k : ℕ) → BegunAt s v k → length s < 18446744073709551616 → Fits w64 (v .at + 5)
 begun-start s v k b h = omega (arith, begun-within s v k b)
 
-pub begun-sum : (s : List ℕ) (v u : Walk) (k : ℕ) (x : Tail) (m : ℕ) (y : Walk) → BegunAt s v k → v .size < 4294967296
-    → x ≡ tailBy (restAt s (v .size - (k - 5)) u) → x ≡ Ends m y → Fits w64 (k - 5 + m)
-begun-sum s v u k x m y b h e f = sum-fits s (v .size) (k - 5) u x m y (begun-most s v k b) h e f
+pub begun-sum : (s : List ℕ) (v u : Walk) (k : ℕ) (x : Tail) (m : ℕ) (y : Walk) → BegunAt s v k → v .«record_length» < 4294967296
+    → x ≡ tailBy (restAt s (v .«record_length» - (k - 5)) u) → x ≡ Ends m y → Fits w64 (k - 5 + m)
+begun-sum s v u k x m y b h e f = sum-fits s (v .«record_length») (k - 5) u x m y (begun-most s v k b) h e f
 
 pub ruleset measures-begun =
     (measured-fails, measured-ends, begun-word, begun-most, begun-left, begun-inside, begun-end, begun-sum, needs)
@@ -298,10 +304,10 @@ head-record s w v k e b =
     let o = opens s v (moved v (v .at + k) (v .left - k)) k b refl in
     let l = leads s w v e in
     let c = begins s v k b .segment in
-    let size : v .size ≡ w .size = l .size in
+    let size : v .«record_length» ≡ w .«record_length» = l .«record_length» in
     let some = o .good .some in
     record-begun s v _ (o .good) refl ∙ ap (λ (r : ℕ). begunBy s r (unitFrom s v)) size
-    ∙ ap (begunBy s (w .size)) (o .unit ∙ sym (from-head l (c .unit) (b-digit b)))
+    ∙ ap (begunBy s (w .«record_length»)) (o .unit ∙ sym (from-head l (c .unit) (b-digit b)))
     ∙ sym (record-begun s w _ (record { some = λ h. some (size ∙ h); inside = inside-is s w (l .inside (c .inside)) }) refl)
   where
     b-digit : BegunAt s v k → getD s (v .at) 0 - 48 ≡ 1
@@ -314,24 +320,25 @@ head-record s w v k e b =
     from-head l h d = l .unit _ _ _ _ h ∙ ap (λ (i : ℕ). One i (v .at + 5) (k - 5) (moved v (v .at + k) (v .left - k))) d
 
 -- as the code asks for it
-pub asked-begun : (s : List ℕ) (v : Walk) (k : ℕ) → k ≡ begunIn s (standsAt (v .format) (v .size) (v .at) (v .left)) → (k ≡ 0 → ⊥)
+pub asked-begun : (s : List ℕ) (v : Walk) (k : ℕ) → k ≡ begunIn s (standsAt (v .format) (v .«record_length») (v .at) (v .left))
+    → (k ≡ 0 → ⊥)
     → BegunAt s v k
 asked-begun s v k e z = record { is = e ∙ begun-no-offset s v; some = z }
 
 pub head-step : (s : List ℕ) (room : ℕ) (w v : Walk) (k : ℕ) (x : Step) → v ≡ atBlock s w
-    → k ≡ begunIn s (standsAt (v .format) (v .size) (v .at) (v .left))
+    → k ≡ begunIn s (standsAt (v .format) (v .«record_length») (v .at) (v .left))
     → (k ≡ 0 → ⊥) → x ≡ stepAt s room v → x ≡ stepAt s room w
 unfolding stepAt
 head-step s room w v k x e m z q = q ∙ ap (stepBy room) (head-record s w v k e (asked-begun s v k m z))
 
 pub head-join : (s old : List ℕ) (w v : Walk) (k : ℕ) (new : List ℕ) → v ≡ atBlock s w
-    → k ≡ begunIn s (standsAt (v .format) (v .size) (v .at) (v .left))
+    → k ≡ begunIn s (standsAt (v .format) (v .«record_length») (v .at) (v .left))
     → (k ≡ 0 → ⊥) → new ≡ joinAt s old v → new ≡ joinAt s old w
 unfolding joinAt
 head-join s old w v k new e m z q = q ∙ ap (joinBy old) (head-record s w v k e (asked-begun s v k m z))
 
 pub head-measure : (s : List ℕ) (w v : Walk) (k : ℕ) (x : Measured) → v ≡ atBlock s w
-    → k ≡ begunIn s (standsAt (v .format) (v .size) (v .at) (v .left))
+    → k ≡ begunIn s (standsAt (v .format) (v .«record_length») (v .at) (v .left))
     → (k ≡ 0 → ⊥) → x ≡ measuredBy (recordAt s v) → x ≡ measuredBy (recordAt s w)
 head-measure s w v k x e m z q = q ∙ ap measuredBy (head-record s w v k e (asked-begun s v k m z))
 

@@ -73,50 +73,51 @@ pub record UnitAt (s : List ℕ) (w : Walk) (c n : ℕ) : Type 0 where
   pub left : c + n ≤ w .left
   pub within : w .at + c + n ≤ length s
 
-pub unit-at : (s : List ℕ) (w : Walk) (i c n : ℕ) → unitOf (w .format) (w .size) (leftOf s w) ≡ Of i c n → UnitAt s w c n
+pub unit-at : (s : List ℕ) (w : Walk) (i c n : ℕ) → unitOf (w .format) (w .«record_length») (leftOf s w) ≡ Of i c n
+    → UnitAt s w c n
 unfolding leftOf part
 unit-at s w i c n e =
-    let k = unit-stands (w .format) (w .size) (take (w .left) (drop (w .at) s)) i c n e in
+    let k = unit-stands (w .format) (w .«record_length») (take (w .left) (drop (w .at) s)) i c n e in
     let a = length-take (w .left) (drop (w .at) s) in
     let b = length-drop (w .at) s in
     record { some = k .some; left = omega arith; within = omega arith }
 
 -- as the code finds it
 unit-found : (s : List ℕ) (w : Walk) (i c n : ℕ) (l : List ℕ) (u : Unit) → l ≡ part (w .at) (w .left) s
-    → u ≡ unitOf (w .format) (w .size) (drop 0 l) → u ≡ Of i c n
-    → unitOf (w .format) (w .size) (leftOf s w) ≡ Of i c n
+    → u ≡ unitOf (w .format) (w .«record_length») (drop 0 l) → u ≡ Of i c n
+    → unitOf (w .format) (w .«record_length») (leftOf s w) ≡ Of i c n
 unfolding leftOf
-unit-found s w i c n l u h e q = ap (unitOf (w .format) (w .size)) (sym h) ∙ sym e ∙ q
+unit-found s w i c n l u h e q = ap (unitOf (w .format) (w .«record_length»)) (sym h) ∙ sym e ∙ q
 
 pub unit-one : (s : List ℕ) (w : Walk) (i c n : ℕ) (l : List ℕ) (u : Unit) (v : Walk) → l ≡ part (w .at) (w .left) s
-    → u ≡ unitOf (w .format) (w .size) (drop 0 l) → u ≡ Of i c n → v ≡ moved w (w .at + c + n) (w .left - (c + n))
+    → u ≡ unitOf (w .format) (w .«record_length») (drop 0 l) → u ≡ Of i c n → v ≡ moved w (w .at + c + n) (w .left - (c + n))
     → One i (w .at + c) n v ≡ unitHere s w
 unfolding unitHere taken
 unit-one s w i c n l u v h e q m = ap (One i (w .at + c) n) m ∙ sym (ap (taken w) (unit-found s w i c n l u h e q))
 
 pub unit-none : (s : List ℕ) (w : Walk) (l : List ℕ) (u : Unit) → l ≡ part (w .at) (w .left) s
-    → u ≡ unitOf (w .format) (w .size) (drop 0 l) → u ≡ None
+    → u ≡ unitOf (w .format) (w .«record_length») (drop 0 l) → u ≡ None
     → Nothing ≡ unitHere s w
 unfolding unitHere taken leftOf
-unit-none s w l u h e q = ap (taken w) (sym q ∙ e ∙ ap (unitOf (w .format) (w .size)) h)
+unit-none s w l u h e q = ap (taken w) (sym q ∙ e ∙ ap (unitOf (w .format) (w .«record_length»)) h)
 
 pub start-fits : (s : List ℕ) (w : Walk) (i c n : ℕ) (l : List ℕ) (u : Unit) → l ≡ part (w .at) (w .left) s
-    → u ≡ unitOf (w .format) (w .size) (drop 0 l)
+    → u ≡ unitOf (w .format) (w .«record_length») (drop 0 l)
     → u ≡ Of i c n → length s < 18446744073709551616 → Fits w64 (w .at + c)
 start-fits s w i c n l u h e q m = let k = unit-at s w i c n (unit-found s w i c n l u h e q) in omega arith
 
 pub behind-fits : (s : List ℕ) (w : Walk) (i c n : ℕ) (l : List ℕ) (u : Unit) → l ≡ part (w .at) (w .left) s
-    → u ≡ unitOf (w .format) (w .size) (drop 0 l)
+    → u ≡ unitOf (w .format) (w .«record_length») (drop 0 l)
     → u ≡ Of i c n → length s < 18446744073709551616 → Fits w64 (w .at + c + n)
 behind-fits s w i c n l u h e q m = let k = unit-at s w i c n (unit-found s w i c n l u h e q) in omega arith
 
 pub unit-fits : (s : List ℕ) (w : Walk) (i c n : ℕ) (l : List ℕ) (u : Unit) → l ≡ part (w .at) (w .left) s
-    → u ≡ unitOf (w .format) (w .size) (drop 0 l)
+    → u ≡ unitOf (w .format) (w .«record_length») (drop 0 l)
     → u ≡ Of i c n → length s < 18446744073709551616 → Fits w64 (c + n)
 unit-fits s w i c n l u h e q m = let k = unit-at s w i c n (unit-found s w i c n l u h e q) in omega arith
 
 pub unit-left : (s : List ℕ) (w : Walk) (i c n : ℕ) (l : List ℕ) (u : Unit) → l ≡ part (w .at) (w .left) s
-    → u ≡ unitOf (w .format) (w .size) (drop 0 l)
+    → u ≡ unitOf (w .format) (w .«record_length») (drop 0 l)
     → u ≡ Of i c n → c + n ≤ w .left
 unit-left s w i c n l u h e q = unit-at s w i c n (unit-found s w i c n l u h e q) .left
 

@@ -63,7 +63,7 @@ pub record Comes (s : List ℕ) (x : NextFile) (ds : List File) (set : List ℕ)
 -- what a file of record length and format of w, whose next data block is at x, still hands out with q open, and what its blocks
 -- from there on hold
 pub record HandsOut (s : List ℕ) (w : Walk) (q : ℕ) (x : Extent) (rs : List (List ℕ)) : Type 0 where
-  pub hands : Hands s (w .size) q (unitIn s (opened w x)) rs
+  pub hands : Hands s (w .«record_length») q (unitIn s (opened w x)) rs
   pub sums : Sums (nextHeld s w x) rs
 
 -- what a file with the lengths of w still hands out, with q open, and the files to come

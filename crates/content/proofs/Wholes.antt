@@ -82,9 +82,9 @@ pub whole-no-size : (s : List ℕ) (f r at left : ℕ) → r ≡ 0 → 0 ≡ who
 unfolding wholeIn
 whole-no-size s f r at left h = sym (if-true _ _ _ (eq-eqb r 0 h))
 
-outside : (s : List ℕ) (w : Walk) → (w .size ≡ 0 → ⊥) → isInside s w ≡ false → 0 ≡ wholeIn s w
+outside : (s : List ℕ) (w : Walk) → (w .«record_length» ≡ 0 → ⊥) → isInside s w ≡ false → 0 ≡ wholeIn s w
 unfolding wholeIn
-outside s w h e = sym (if-false _ _ _ (ne-eqb (w .size) 0 h) ∙ if-false _ _ _ e)
+outside s w h e = sym (if-false _ _ _ (ne-eqb (w .«record_length») 0 h) ∙ if-false _ _ _ e)
 
 pub whole-past : (s : List ℕ) (f r at left : ℕ) → (r ≡ 0 → ⊥) → length s < at → 0 ≡ wholeIn s (standsAt f r at left)
 whole-past s f r at left h k = outside s (standsAt f r at left) h (sym (inside-not s (standsAt f r at left) k))
@@ -94,10 +94,10 @@ pub whole-outside : (s : List ℕ) (f r at left : ℕ) → (r ≡ 0 → ⊥) →
 whole-outside s f r at left h k m =
     outside s (standsAt f r at left) h (sym (inside-left s (standsAt f r at left) k) ∙ lt-leb left (length s - at) m)
 
-within : (s : List ℕ) (w : Walk) → (w .size ≡ 0 → ⊥) → Inside s w
-    → wholeOf (w .size) (unitOf (w .format) (w .size) (leftOf s w)) ≡ wholeIn s w
+within : (s : List ℕ) (w : Walk) → (w .«record_length» ≡ 0 → ⊥) → Inside s w
+    → wholeOf (w .«record_length») (unitOf (w .format) (w .«record_length») (leftOf s w)) ≡ wholeIn s w
 unfolding wholeIn
-within s w h k = sym (if-false _ _ _ (ne-eqb (w .size) 0 h) ∙ if-true _ _ _ (inside-is s w k))
+within s w h k = sym (if-false _ _ _ (ne-eqb (w .«record_length») 0 h) ∙ if-true _ _ _ (inside-is s w k))
 
 pub whole-no-format : (s : List ℕ) (f r at left : ℕ) → (r ≡ 0 → ⊥) → at ≤ length s → left ≤ length s - at → 256 ≤ f
     → 0 ≡ wholeIn s (standsAt f r at left)
@@ -124,19 +124,19 @@ pub ruleset numbers = (whole-no-size, whole-past, whole-outside, whole-no-format
 
 -- a whole record of k bytes, with its control word, stands at the head of what is left
 pub record Standing (s : List ℕ) (v : Walk) (k : ℕ) : Type 0 where
-  pub some : v .size ≡ 0 → ⊥
+  pub some : v .«record_length» ≡ 0 → ⊥
   pub inside : Inside s v
   pub unit : unitHere s v ≡ One 0 (v .at + wordOf (v .format)) (k - wordOf (v .format)) (moved v (v .at + k) (v .left - k))
   pub least : wordOf (v .format) ≤ k
-  pub short : k - wordOf (v .format) ≤ v .size
+  pub short : k - wordOf (v .format) ≤ v .«record_length»
   pub left : k ≤ v .left
 
-standing-by : (s : List ℕ) (v : Walk) (k : ℕ) → (v .size ≡ 0 → ⊥) → Inside s v
-    → k ≡ wholeOf (v .size) (unitOf (v .format) (v .size) (leftOf s v)) → (k ≡ 0 → ⊥)
+standing-by : (s : List ℕ) (v : Walk) (k : ℕ) → (v .«record_length» ≡ 0 → ⊥) → Inside s v
+    → k ≡ wholeOf (v .«record_length») (unitOf (v .format) (v .«record_length») (leftOf s v)) → (k ≡ 0 → ⊥)
     → Standing s v k
 unfolding unitHere taken
 standing-by s v k some inside e z =
-    let c = whole-unit (v .format) (v .size) (leftOf s v) k e z in
+    let c = whole-unit (v .format) (v .«record_length») (leftOf s v) k e z in
     let m = c .least in
     let a : v .at + wordOf (v .format) + (k - wordOf (v .format)) ≡ v .at + k = omega arith in
     let b : wordOf (v .format) + (k - wordOf (v .format)) ≡ k = omega arith in
@@ -160,16 +160,16 @@ no-offset s w = refl
 pub standing : (s : List ℕ) (v : Walk) (k : ℕ) → k ≡ wholeAt s v → (k ≡ 0 → ⊥) → Standing s v k
 unfolding wholeIn
 standing s v k e z =
-    if-case (λ (x : ℕ). k ≡ x → Standing s v k) (eqb (v .size) 0) 0 _ (λ a q. absurd (z q))
+    if-case (λ (x : ℕ). k ≡ x → Standing s v k) (eqb (v .«record_length») 0) 0 _ (λ a q. absurd (z q))
     (λ a. if-case (λ (x : ℕ). k ≡ x → Standing s v k) (isInside s v) _ 0
-    (λ b q. standing-by s v k (eqb-false (v .size) 0 a) (inside-true s v true (sym b) refl) q z)
+    (λ b q. standing-by s v k (eqb-false (v .«record_length») 0 a) (inside-true s v true (sym b) refl) q z)
     (λ b q. absurd (z q)))
     (e ∙ no-offset s v)
 
 -- a unit at the head of what is left for v is the unit at w's place, over the same file
 pub record WholeLeads (s : List ℕ) (w v : Walk) : Type 0 where
   pub format : v .format ≡ w .format
-  pub size : v .size ≡ w .size
+  pub «record_length» : v .«record_length» ≡ w .«record_length»
   pub offset : v .offset ≡ w .offset
   pub inside : Inside s v → Inside s w
   pub unit : (i start n : ℕ) (u : Walk) → unitHere s v ≡ One i start n u → unitFrom s w ≡ One i start n u
@@ -179,7 +179,7 @@ unfolding unitFrom orNext
 leads-self s w =
     record {
       format = refl;
-      size = refl;
+      «record_length» = refl;
       offset = refl;
       inside = λ h. h;
       unit = λ i start n u e. ap
@@ -188,9 +188,9 @@ leads-self s w =
 
 pub none-left : (s : List ℕ) (w : Walk) → w .left ≡ 0 → unitHere s w ≡ Nothing
 unfolding unitHere taken
-none-left s w h = by-unit (unitOf (w .format) (w .size) (leftOf s w)) refl
+none-left s w h = by-unit (unitOf (w .format) (w .«record_length») (leftOf s w)) refl
   where
-    by-unit : (u : Unit) → unitOf (w .format) (w .size) (leftOf s w) ≡ u → taken w u ≡ Nothing
+    by-unit : (u : Unit) → unitOf (w .format) (w .«record_length») (leftOf s w) ≡ u → taken w u ≡ Nothing
     by-unit (Of i c n) e =
         let k = unit-at s w i c n e in
         let a = k .some in
@@ -206,7 +206,7 @@ leads-block s w n h e k =
     let here : w .at + w .left ≡ w .at = omega arith in
     record {
       format = refl;
-      size = refl;
+      «record_length» = refl;
       offset = refl;
       inside = λ _. omega arith;
       unit = λ i start m u q.
@@ -239,7 +239,7 @@ pub record-whole : (s : List ℕ) (w v : Walk) (k : ℕ) → v ≡ atBlock s w �
 record-whole s w v k e m z =
     let c = standing s v k m z in
     let l = leads s w v e in
-    let q = l .size in
+    let q = l .«record_length» in
     let some = c .some in
     let short = c .short in
     is-whole s w 0 _ _ _ (unitFrom s w) (record { some = λ h. some (q ∙ h); inside = inside-is s w (l .inside (c .inside)) }) refl

@@ -40,7 +40,7 @@ abbrev pub walkFrom : List ℕ → ℕ → Walk
 walkFrom second at =
     record {
       format = formatOf second;
-      size = valueOf (recordLengthOf second);
+      «record_length» = valueOf (recordLengthOf second);
       offset = valueOf (offsetOf second);
       at = at;
       left = 0;

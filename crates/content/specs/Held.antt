@@ -52,4 +52,4 @@ heldFrom s f r o at = heldF (suc (length s)) s f r o at
 
 -- what the file of a walk holds from the walk's place on, which is that of an item
 unfoldable pub fileHeld : List ℕ → Walk → FileHeld
-fileHeld s w = heldFrom s (w .format) (w .size) (w .offset) (w .at)
+fileHeld s w = heldFrom s (w .format) (w .«record_length») (w .offset) (w .at)

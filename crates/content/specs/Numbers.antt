@@ -23,7 +23,7 @@ recordOf (Refused v) = record { verdict = v; joined = 0; start = 0; len = 0 }
 
 -- a walk that stands nowhere: its record length is 0
 abbrev pub noWalk : Walk
-noWalk = record { format = 0; size = 0; offset = 0; at = 0; left = 0 }
+noWalk = record { format = 0; «record_length» = 0; offset = 0; at = 0; left = 0 }
 
 -- a file that was begun
 unfoldable pub beginningOf : Begun → Beginning

@@ -2,7 +2,7 @@
 -- state that no walk reaches the same definition decides: no record where none, by the state's own format and lengths, stands at
 -- its place.
 --
--- A walk has the format, the record length (R, `size`) and the offset length of its file, the place of what is left of the
+-- A walk has the format, the record length (R, `recordLength`) and the offset length of its file, the place of what is left of the
 -- current block and how many bytes of it are left; with none left the place is that of the next item.
 -- Read first: `recordAt`, the record that stands there: whole, a part of the image; or split, the bytes of its segments; and the
 -- walk behind it.
@@ -32,7 +32,7 @@ use Rattle.content.specs.declared.unit.Taken.the-variants.{One, Nothing}
 
 -- the walk at another place, with so many bytes left there
 abbrev pub moved : Walk → ℕ → ℕ → Walk
-moved w at left = record { format = w .format; size = w .size; offset = w .offset; at = at; left = left }
+moved w at left = record { format = w .format; «record_length» = w .«record_length»; offset = w .offset; at = at; left = left }
 
 -- what is left of the current block
 unfoldable pub leftOf : List ℕ → Walk → List ℕ
@@ -50,7 +50,7 @@ taken w (Of i c n) = One i (w .at + c) n (moved w (w .at + c + n) (w .left - (c 
 taken w None = Nothing
 
 unfoldable pub unitHere : List ℕ → Walk → Taken
-unitHere s w = taken w (unitOf (w .format) (w .size) (leftOf s w))
+unitHere s w = taken w (unitOf (w .format) (w .«record_length») (leftOf s w))
 
 -- a data block, with its offset bytes skipped
 unfoldable pub opened : Walk → Extent → Place
@@ -131,7 +131,7 @@ begunBy s r Nothing = nothing
 
 -- the record at a walk's place; a record length of 0 is no walk's
 unfoldable pub recordAt : List ℕ → Walk → Record
-recordAt s w = ifB (eqb (w .size) 0) nothing (ifB (isInside s w) (begunBy s (w .size) (unitFrom s w)) nothing)
+recordAt s w = ifB (eqb (w .«record_length») 0) nothing (ifB (isInside s w) (begunBy s (w .«record_length») (unitFrom s w)) nothing)
 
 -- ---- the step
 

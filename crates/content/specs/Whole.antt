@@ -27,8 +27,8 @@ atBlock s w = ifB (eqb (w .left) 0) (headBy w (shape (drop (w .at) s))) w
 
 -- the walk of these numbers; the offset length has no part in what follows
 abbrev pub standsAt : ℕ → ℕ → ℕ → ℕ → Walk
-standsAt format size at left = record { format = format; size = size; offset = 0; at = at; left = left }
+standsAt format recordLength at left = record { format = format; «record_length» = recordLength; offset = 0; at = at; left = left }
 
 -- the bytes, with its control word, of the whole record at the head of what is left of the current block; 0 where there is none
 unfoldable pub wholeIn : List ℕ → Walk → ℕ
-wholeIn s w = ifB (eqb (w .size) 0) 0 (ifB (isInside s w) (wholeOf (w .size) (unitOf (w .format) (w .size) (leftOf s w))) 0)
+wholeIn s w = ifB (eqb (w .«record_length») 0) 0 (ifB (isInside s w) (wholeOf (w .«record_length») (unitOf (w .format) (w .«record_length») (leftOf s w))) 0)

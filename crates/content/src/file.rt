@@ -43,7 +43,7 @@ fn walk_from(second: &[u8], at: usize) -> Walk
 {
     Walk {
         format: format_of(second) as u32,
-        size: value_of(record_length(second)),
+        record_length: value_of(record_length(second)),
         offset: value_of(offset_length(second)) as usize,
         at,
         left: 0,

@@ -39,7 +39,7 @@ pub fn file_held(image: &[u8], w: Walk) -> FileHeld
             Extent::Nowhere => return FileHeld { held, end: at },
             Extent::At(start, n) => {
                 let end = start + n;
-                let more = block_held(w.format, w.size, w.offset, &image[start..end]);
+                let more = block_held(w.format, w.record_length, w.offset, &image[start..end]);
                 held = plus(held, more);
                 at = end;
             }

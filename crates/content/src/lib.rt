@@ -73,7 +73,7 @@ use volume::check;
 #[repr(C)]
 pub struct Walk {
     pub format: u32,
-    pub size: u32,
+    pub record_length: u32,
     pub offset: usize,
     pub at: usize,
     pub left: usize,
@@ -121,7 +121,7 @@ impl Walk {
         ensures { λ r. ⌜ now (join .exit) ≡ joinAt (now (image .entry)) (now (join .entry)) self ⌝ }
     {
         let v = at_block(image, self);
-        let k = whole_at(image, v.format, v.size, v.at, v.left);
+        let k = whole_at(image, v.format, v.record_length, v.at, v.left);
         if k != 0 {
             let word = word_of(v.format);
             return Step::InImage(v.at + word, k - word, moved(v, v.at + k, v.left - k));
@@ -156,7 +156,7 @@ fn step_segments(image: &[u8], v: Walk, k: usize, join: &mut [u8]) -> Step
     ensures { λ r. ⌜ now (join .exit) ≡ joinAt (now (image .entry)) (now (join .entry)) v ⌝ }
 {
     let n = k - 5;
-    let most = v.size as usize;
+    let most = v.record_length as usize;
     let u = moved(v, v.at + k, v.left - k);
     match rest_length(image, most - n, u) {
         Tail::Fails => Step::Refused(13),
@@ -195,7 +195,7 @@ fn step_begun(image: &[u8], v: Walk, k: usize, join: &mut [u8]) -> Step
     ensures { λ r. ⌜ now (join .exit) ≡ joinAt (now (image .entry)) (now (join .entry)) v ⌝ }
 {
     let n = k - 5;
-    let most = v.size as usize;
+    let most = v.record_length as usize;
     let u = moved(v, v.at + k, v.left - k);
     let h = at_block(image, u);
     let j = turn_in(image, u.left, b'3', most - n, h.format, h.at, h.left);
@@ -211,7 +211,7 @@ fn step_split(image: &[u8], w: Walk, join: &mut [u8]) -> Step
     ensures { λ r. ⌜ now (join .exit) ≡ joinAt (now (image .entry)) (now (join .entry)) w ⌝ }
 {
     let v = at_block(image, w);
-    let k = begun_at(image, v.format, v.size, v.at, v.left);
+    let k = begun_at(image, v.format, v.record_length, v.at, v.left);
     if k == 0 {
         return step_units(image, w, join);
     }

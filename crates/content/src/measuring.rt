@@ -55,10 +55,10 @@ pub fn at_block(image: &[u8], w: Walk) -> Walk
 
 // The bytes, with its control word, of the whole record at the head of what is left of a block; or 0. It is asked for each
 // record, and so takes its walk as numbers.
-pub fn whole_at(image: &[u8], format: u32, size: u32, at: usize, left: usize) -> usize
-    ensures { λ r. ⌜ r ≡ wholeIn (now (image .entry)) (standsAt format size at left) ⌝ }
+pub fn whole_at(image: &[u8], format: u32, record_length: u32, at: usize, left: usize) -> usize
+    ensures { λ r. ⌜ r ≡ wholeIn (now (image .entry)) (standsAt format «record_length» at left) ⌝ }
 {
-    if size == 0 {
+    if record_length == 0 {
         return 0;
     }
     if image.len() < at {
@@ -71,7 +71,7 @@ pub fn whole_at(image: &[u8], format: u32, size: u32, at: usize, left: usize) ->
         return 0;
     }
     let end = at + left;
-    whole_length(format as u8, size, &image[at..end], 0)
+    whole_length(format as u8, record_length, &image[at..end], 0)
 }
 
 // The bytes, with its control word, of the segment at the head of what is left of a block of an S file, where `before` bytes are
@@ -121,13 +121,19 @@ pub(crate) fn turn_in(
 }
 
 // The same, where the segment begins a record of at most R bytes.
-pub(crate) fn begun_at(image: &[u8], format: u32, size: u32, at: usize, left: usize) -> usize
-    ensures { λ r. ⌜ r ≡ begunIn (now (image .entry)) (standsAt format size at left) ⌝ }
+pub(crate) fn begun_at(
+    image: &[u8],
+    format: u32,
+    record_length: u32,
+    at: usize,
+    left: usize,
+) -> usize
+    ensures { λ r. ⌜ r ≡ begunIn (now (image .entry)) (standsAt format «record_length» at left) ⌝ }
 {
-    if size == 0 {
+    if record_length == 0 {
         return 0;
     }
-    turn_in(image, 0, b'1', size as usize, format, at, left)
+    turn_in(image, 0, b'1', record_length as usize, format, at, left)
 }
 
 // The rest of a record that may have `most` bytes more.
@@ -163,13 +169,13 @@ pub(crate) fn rest_length(image: &[u8], most: usize, from: Walk) -> Tail
 pub(crate) fn measure_units(image: &[u8], w: Walk) -> Measured
     ensures { λ r. ⌜ r ≡ measuredBy (recordAt (now (image .entry)) w) ⌝ }
 {
-    if w.size == 0 {
+    if w.record_length == 0 {
         return Measured::Nothing;
     }
     if !is_inside(image, w) {
         return Measured::Nothing;
     }
-    let most = w.size as usize;
+    let most = w.record_length as usize;
     match unit_from(image, w) {
         Taken::Nothing => Measured::Nothing,
         Taken::One(i, start, n, v) => {
@@ -196,7 +202,7 @@ fn measure_begun(image: &[u8], v: Walk, k: usize) -> Measured
     ensures { λ r. ⌜ r ≡ measuredBy (recordAt (now (image .entry)) v) ⌝ }
 {
     let n = k - 5;
-    let most = v.size as usize;
+    let most = v.record_length as usize;
     let u = moved(v, v.at + k, v.left - k);
     match rest_length(image, most - n, u) {
         Tail::Fails => Measured::Nothing,
@@ -210,7 +216,7 @@ pub fn measure_far(image: &[u8], w: Walk) -> Measured
     ensures { λ r. ⌜ r ≡ measuredBy (recordAt (now (image .entry)) w) ⌝ }
 {
     let v = at_block(image, w);
-    let k = begun_at(image, v.format, v.size, v.at, v.left);
+    let k = begun_at(image, v.format, v.record_length, v.at, v.left);
     if k == 0 {
         return measure_units(image, w);
     }
@@ -222,7 +228,7 @@ pub fn measure(image: &[u8], w: Walk) -> Measured
     ensures { λ r. ⌜ r ≡ measuredBy (recordAt (now (image .entry)) w) ⌝ }
 {
     let v = at_block(image, w);
-    let k = whole_at(image, v.format, v.size, v.at, v.left);
+    let k = whole_at(image, v.format, v.record_length, v.at, v.left);
     if k != 0 {
         let word = word_of(v.format);
         return Measured::Whole(v.at + word, k - word, moved(v, v.at + k, v.left - k));

@@ -83,7 +83,7 @@ pub fn beginning_of(begun: Begun) -> Beginning
             hdr2: 0,
             walk: Walk {
                 format: 0,
-                size: 0,
+                record_length: 0,
                 offset: 0,
                 at: 0,
                 left: 0,

@@ -36,7 +36,7 @@ fn whole_from(image: &[u8], w: Walk) -> Taken
     ensures { λ r. ⌜ r ≡ wholeBy (recordAt (now (image .entry)) w) ⌝ }
 {
     let v = at_block(image, w);
-    let k = begun_at(image, v.format, v.size, v.at, v.left);
+    let k = begun_at(image, v.format, v.record_length, v.at, v.left);
     if k != 0 {
         return Taken::Nothing;
     }
@@ -62,7 +62,7 @@ pub fn steps(image: &[u8], from: Walk, places: &mut [u64], lengths: &mut [u64]) 
             return row_to(i, w);
         }
         let v = at_block(image, w);
-        let k = whole_at(image, v.format, v.size, v.at, v.left);
+        let k = whole_at(image, v.format, v.record_length, v.at, v.left);
         if k != 0 {
             places[i] = (v.at + word) as u64;
             lengths[i] = (k - word) as u64;

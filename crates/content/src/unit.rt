@@ -32,7 +32,7 @@ pub(crate) fn moved(w: Walk, at: usize, left: usize) -> Walk
 {
     Walk {
         format: w.format,
-        size: w.size,
+        record_length: w.record_length,
         offset: w.offset,
         at,
         left,
@@ -51,11 +51,11 @@ pub(crate) fn is_inside(image: &[u8], w: Walk) -> bool
 }
 
 // The unit at the head of a part, in a file of that format; a number that is no byte is no format.
-fn unit_in(format: u32, size: u32, s: &[u8]) -> Unit
-    ensures { λ r. ⌜ r ≡ unitOf format size (drop 0 (now (s .entry))) ⌝ }
+fn unit_in(format: u32, record_length: u32, s: &[u8]) -> Unit
+    ensures { λ r. ⌜ r ≡ unitOf format «record_length» (drop 0 (now (s .entry))) ⌝ }
 {
     if format < 256 {
-        return unit_at(format as u8, size, s, 0);
+        return unit_at(format as u8, record_length, s, 0);
     }
     Unit::None
 }
@@ -66,7 +66,7 @@ fn unit_here(image: &[u8], w: Walk) -> Taken
 {
     let at = w.at;
     let left = w.left;
-    match unit_in(w.format, w.size, part_of(image, at, left)) {
+    match unit_in(w.format, w.record_length, part_of(image, at, left)) {
         Unit::None => Taken::Nothing,
         Unit::Of(i, word, n) => {
             let start = at + word;

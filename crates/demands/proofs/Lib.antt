@@ -8,3 +8,4 @@ pub mod Ours
 pub mod Requests
 pub mod Witness
 pub mod Wrong
+pub mod WrongRewriting

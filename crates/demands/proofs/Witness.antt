@@ -130,7 +130,7 @@ miscounted = (refl, refl, refl)
 -- the record stands in one unit: a part of the image, whatever the joining buffer
 pub record-found : ((room : ℕ) → foundAt set 1 1 room ≡ InImage 260 10)
     × (recordAt set (beginningOf (begunAt set 1) .walk)
-    ≡ whole 260 10 (record { format = 70; size = 10; offset = 0; at = 270; left = 0 }))
+    ≡ whole 260 10 (record { format = 70; «record_length» = 10; offset = 0; at = 270; left = 0 }))
 unfolding ledger ifB part same allAre isDigit allDigits value digits fault verdict orElse isA classOf allA isCentury isYearDay isDate numberIn framedFrom items framing word ledBy shape itemOf behind decodeF decode three bytesOf encodeBy encode upToNine dues choose dueAfter isKind volumeOf setOf sectionOf sequenceOf countOf formatOf blockLengthOf recordLengthOf offsetOf leastRecord suits suitsBoth isLength isRecordLength isPositive isFormat hasRecordLength good firstBad goodAt agreeAt accessOf accessAt fieldFault labelFault required family numbered optional orNamed namedBy kindOf fieldsOf bytes onto cutOne cutF cut someUnits units outcome isTurn openAfter turnsFrom turned blockOutcome fixed measured variable segment unitOf lengthOf says valueOf lower crossed isAmong volumeFault newFilePlace laterPlace fileFault hdr1Fault hdr2Fault trailer1Fault openFault fileEndFault trailer2Fault outcomeIn blockFault contextFault itemFault onFirst joined fieldsFrom collect setFrom meaningOf handedOut content further next runs answerOf imageVerdict start isDue kindIn bytesIn volumesAfter filesAfter continuesAfter hdr1After hdr2After countAfter pendingAfter stateAfter segmentsOf segmentsIn eventsOf judged ordered step putAt fitted filled madeVolume madeFirst madeSecond formatFrom blockLengthFrom inPartsF inParts enters taken indicatorOf controlWord startOf unitIn fill after weights weight blocksF blocksLeft blocksOf put headers fileEnd volumeEnd rest layFiles layOn reelsOf lay sheetFrom wordOf isSound legalEntry recordLengthFrom legalRecord legalRecords legalFile legalFiles legalMeaning legalName freshNames legalNames legalQuota legalSheet filesFrom addsUp sheetOf sheetNumber reelsNumber sum cutBy placeBehind markFrom beginsFile ledTo continuesBehind firstBehind partIn ontoParts partsBy partsFrom isWanted firstIn asFile fileIn fileFrom firstFile fromFile filesOn fileNumbered begunBy beginningOf foundAt foundFrom foundIn passed stepAt stepBy recordAt isInside begunRecord unitFrom unitHere orNext unitTaken unitNext nextUnitIn blockNext opened leftOf dataFrom blockIn asBlock foundBy begunAt
 record-found = ((λ room. refl), refl)
 

@@ -163,7 +163,7 @@ pub(crate) const NAME_WIDTH: usize = 4;
 
 // ---- of VOL1
 
-pub(crate) const VOLUME: usize = 4;
+pub const VOLUME: usize = 4;
 
 pub(crate) const VOLUME_WIDTH: usize = 6;
 
@@ -191,7 +191,7 @@ pub(crate) const SEQUENCE: usize = 31;
 
 pub(crate) const SEQUENCE_WIDTH: usize = 4;
 
-pub(crate) const GENERATION: usize = 35;
+pub const GENERATION: usize = 35;
 
 pub(crate) const GENERATION_WIDTH: usize = 4;
 
@@ -221,7 +221,7 @@ pub const RECORD_FORMAT_WIDTH: usize = 1;
 
 pub(crate) const BLOCK_LENGTH: usize = 5;
 
-pub(crate) const BLOCK_LENGTH_WIDTH: usize = 5;
+pub const BLOCK_LENGTH_WIDTH: usize = 5;
 
 pub(crate) const SIZE: usize = 10;
 
@@ -233,9 +233,9 @@ pub(crate) const OFFSET_WIDTH: usize = 2;
 
 // ---- the places of these in the entry of a file on an order sheet
 
-pub(crate) const IDENTIFIER_IN: usize = 0;
+pub const IDENTIFIER_IN: usize = 0;
 
-pub(crate) const GENERATION_IN: usize = 17;
+pub const GENERATION_IN: usize = 17;
 
 pub(crate) const VERSION_IN: usize = 21;
 
@@ -245,12 +245,17 @@ pub(crate) const EXPIRES_IN: usize = 29;
 
 pub const FORMAT_IN: usize = 35;
 
-pub(crate) const BLOCK_LENGTH_IN: usize = 36;
+pub const BLOCK_LENGTH_IN: usize = 36;
 
 pub const SIZE_IN: usize = 41;
 
-// The bytes of an entry.
+// The bytes of an entry; of its fields from the generation to the expiration date, which stand in HDR1 as they do here; and of
+// those from the format on, which stand so in HDR2.
 pub const ENTRY: usize = SIZE_IN + SIZE_WIDTH;
+
+pub const DATED_WIDTH: usize = EXPIRES + EXPIRES_WIDTH - GENERATION;
+
+pub const FORMATTED_WIDTH: usize = ENTRY - FORMAT_IN;
 
 // ---- the BPs that a refusal names: of the accessibility of a volume and of a file, and of what is checked against other labels
 

@@ -18,20 +18,20 @@ use Rattle.output.specs.declared.Written.{Written as Answer}
 use Rattle.output.proofs.Writing.{answers-refused, wrote-same}
 use Rattle.volume.specs.Run.{imageVerdict}
 use Rattle.volume.specs.Meaning.{content}
-use Rattle.listing.specs.code.Page.{PageWrote, endless}
+use Rattle.listing.specs.code.Page.{DidPutPage, endless}
 use Rattle.listing.specs.Text.{listingOf, refusalLine, textOf}
 use Rattle.listing.proofs.Pages.{listing-long}
 
-pub fitted-short : (text o p : List ℕ) (r : ℕ) (out : List ℕ) (a : Answer) → PageWrote o 0 text p r → length out < r
+pub fitted-short : (text o p : List ℕ) (r : ℕ) (out : List ℕ) (a : Answer) → DidPutPage o 0 text p r → length out < r
     → a ≡ refusalOf 10 → Answers (fitted text out) a out
 fitted-short text o p r out a w h e =
     let less : length out < length text = omega (arith, w .place) in
     subst (λ (b : Answer). Answers (fitted text out) b out) (sym e)
     (subst (λ (x : Written). Answers x (refusalOf 10) out) (sym (if-false _ _ _ (lt-leb _ _ less))) (answers-refused 10 out))
 
-pub fitted-done : (text o p : List ℕ) (r : ℕ) (out q : List ℕ) (t : ℕ) (a : Answer) → PageWrote o 0 text p r
+pub fitted-done : (text o p : List ℕ) (r : ℕ) (out q : List ℕ) (t : ℕ) (a : Answer) → DidPutPage o 0 text p r
     → length out * 1 < 2 ^ 63 → r ≤ length out
-    → PageWrote out 0 text q t → a ≡ writtenOf r → Answers (fitted text out) a q
+    → DidPutPage out 0 text q t → a ≡ writtenOf r → Answers (fitted text out) a q
 unfolding writtenOf putAt
 fitted-done text o p r out q t a w h l v e =
     let size : r ≡ length text = omega (arith, w .place) in
@@ -44,20 +44,20 @@ fitted-done text o p r out q t a w h l v e =
 
 -- ---- the listing, on a page in which it has room
 
-page-place : (s o p : List ℕ) (r : ℕ) → imageVerdict s .number ≡ 0 → PageWrote o 0 (listingOf (content s)) p r
+page-place : (s o p : List ℕ) (r : ℕ) → imageVerdict s .number ≡ 0 → DidPutPage o 0 (listingOf (content s)) p r
     → (r ≡ length (listingOf (content s))) × (r ≤ 2792)
 page-place s o p r h w = let long = listing-long s h in (omega (arith, long, w .place), omega (arith, long, w .place))
 
 pub page-room : (s o p : List ℕ) (r : ℕ) → imageVerdict s .number ≡ 0 → length o ≡ 2792
-    → PageWrote o 0 (listingOf (content s)) p r → r ≤ length p
+    → DidPutPage o 0 (listingOf (content s)) p r → r ≤ length p
 page-room s o p r h l w = omega (arith, page-place s o p r h w .1, w .kept, l)
 
 pub page-part : (s o p : List ℕ) (r : ℕ) → imageVerdict s .number ≡ 0 → length o ≡ 2792
-    → PageWrote o 0 (listingOf (content s)) p r → r ≡ length (take r p)
+    → DidPutPage o 0 (listingOf (content s)) p r → r ≡ length (take r p)
 page-part s o p r h l w = sym (length-take-le r p (page-room s o p r h l w))
 
 -- the front of the page is the listing
-page-text : (s o p : List ℕ) (r : ℕ) → imageVerdict s .number ≡ 0 → length o ≡ 2792 → PageWrote o 0 (listingOf (content s)) p r
+page-text : (s o p : List ℕ) (r : ℕ) → imageVerdict s .number ≡ 0 → length o ≡ 2792 → DidPutPage o 0 (listingOf (content s)) p r
     → take r p ≡ listingOf (content s)
 unfolding putAt
 page-text s o p r h l w =
@@ -67,8 +67,8 @@ page-text s o p r h l w =
     ∙ take-append-seam text (drop (0 + length text) o)
 
 pub page-done : (s o p : List ℕ) (r : ℕ) (out q : List ℕ) (t : ℕ) (a : Answer) → imageVerdict s .number ≡ 0 → length o ≡ 2792
-    → PageWrote o 0 (listingOf (content s)) p r
-    → length out * 1 < 2 ^ 63 → r ≤ length out → PageWrote out 0 (take r p) q t → a ≡ writtenOf r
+    → DidPutPage o 0 (listingOf (content s)) p r
+    → length out * 1 < 2 ^ 63 → r ≤ length out → DidPutPage out 0 (take r p) q t → a ≡ writtenOf r
     → Answers (fitted (listingOf (content s)) out) a q
 page-done s o p r out q t a h l w m k v e =
     fitted-done (listingOf (content s)) o p r out q t a w m k

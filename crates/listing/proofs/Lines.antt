@@ -30,7 +30,7 @@ use Rattle.content.specs.declared.part.Part.{Part}
 use Rattle.content.specs.declared.part.Part.the-variants.{File as NewFile, Section, Block, None}
 use Rattle.content.proofs.Parts.{stands, IsAhead, first-ahead}
 use Rattle.content.proofs.Walked.{files-all}
-use Rattle.listing.specs.code.Page.{PageWrote, endless}
+use Rattle.listing.specs.code.Page.{DidPutPage, endless}
 use Rattle.listing.specs.Text.{heading, named, counted, described, line, lines, listingOf}
 use Rattle.listing.specs.code.Place.{describedAt, lineAt}
 
@@ -40,7 +40,8 @@ use Rattle.listing.specs.code.Place.{describedAt, lineAt}
 pub described-written : (s : List ℕ) (f : FileAt) (first second i g : List ℕ) (x : Held) (o : List ℕ) (a : ℕ) (p : List ℕ) (r : ℕ)
     (q : List ℕ) (t : ℕ)
     → first ≡ part (f .hdr1) 80 s → second ≡ part (f .hdr2) 80 s → i ≡ part 4 17 first → g ≡ part 4 1 second
-    → PageWrote o a (named i g) p r → PageWrote p r (counted (x .records) (x .bytes)) q t → PageWrote o a (describedAt s f x) q t
+    → DidPutPage o a (named i g) p r → DidPutPage p r (counted (x .records) (x .bytes)) q t
+    → DidPutPage o a (describedAt s f x) q t
 unfolding describedAt
 described-written s f first second i g x o a p r q t ef es ei eg w v =
     wrote-same o a (named i g ++ counted (x .records) (x .bytes)) (describedAt s f x) q t
@@ -48,7 +49,7 @@ described-written s f first second i g x o a p r q t ef es ei eg w v =
     (wrote-wrote o a (named i g) p r (counted (x .records) (x .bytes)) q t w v)
 
 pub line-written : (s : List ℕ) (f : FileAt) (x : Held) (n : ℕ) (d o : List ℕ) (a : ℕ) (p : List ℕ) (r : ℕ) (q : List ℕ) (t : ℕ)
-    → d ≡ digits 4 n → PageWrote o a d p r → PageWrote p r (describedAt s f x) q t → PageWrote o a (lineAt s n f x) q t
+    → d ≡ digits 4 n → DidPutPage o a d p r → DidPutPage p r (describedAt s f x) q t → DidPutPage o a (lineAt s n f x) q t
 unfolding lineAt
 line-written s f x n d o a p r q t e w v =
     wrote-same o a (d ++ describedAt s f x) (lineAt s n f x) q t (ap (λ (y : List ℕ). y ++ describedAt s f x) e)
@@ -99,16 +100,16 @@ pub record Lining (s o : List ℕ) (a : ℕ) (p : List ℕ) (r n : ℕ) (x : Nex
   pub before : List ℕ
   pub rest : List File
   pub filed : Filed s x rest
-  pub wrote : PageWrote o a before p r
+  pub wrote : DidPutPage o a before p r
   pub whole : before ++ lines n rest ≡ lines 1 (content s .files)
   pub number : NoEarlier (n + 1) x
 
 -- nothing is written yet
-wrote-none : (o : List ℕ) (a : ℕ) → a ≤ endless → PageWrote o a [] o a
+wrote-none : (o : List ℕ) (a : ℕ) → a ≤ endless → DidPutPage o a [] o a
 wrote-none o a h = record { kept = refl; place = omega arith; done = λ _ _. sym (put-none o a) }
 
 pub lining-none : (s o p : List ℕ) (r : ℕ) (x : NextFile) → length s < 18446744073709551616 → imageVerdict s .number ≡ 0
-    → x ≡ firstFile s → PageWrote o 0 heading p r
+    → x ≡ firstFile s → DidPutPage o 0 heading p r
     → Lining s p r p r 1 x
 unfolding firstFile
 lining-none s o p r x l h e w =
@@ -153,9 +154,10 @@ next-file s n x f (d ∷ ds) (g, e′, is, others) e =
       lined = ap (λ (l : List ℕ). l ++ lines (n + 1) ds) (sym (line-is s n f d here));
     }
 
-pub lining-all : (s e o : List ℕ) (a : ℕ) (p : List ℕ) (r n : ℕ) (x : NextFile) → PageWrote e 0 heading o a → Lining s o a p r n x
+pub lining-all : (s e o : List ℕ) (a : ℕ) (p : List ℕ) (r n : ℕ) (x : NextFile) → DidPutPage e 0 heading o a
+    → Lining s o a p r n x
     → x ≡ Nowhere
-    → PageWrote e 0 (listingOf (content s)) p r
+    → DidPutPage e 0 (listingOf (content s)) p r
 unfolding isFile lines listingOf
 lining-all s e o a p r n x w c z =
     wrote-same e 0 (heading ++ c .before) (listingOf (content s)) p r
@@ -197,7 +199,7 @@ module _ (s o : List ℕ) (a : ℕ) (p : List ℕ) (r n : ℕ) (x : NextFile) (f
   found y z h k = k ∙ ap (λ (x : FileHeld). fileBehind s (f .hdr1) (x .end)) h ∙ next .is .amounts .behind
 
   pub lining-more : (y : FileHeld) (q : List ℕ) (t : ℕ) (z : NextFile) → y ≡ fileHeld s (f .walk)
-      → PageWrote p r (lineAt s n f (y .held)) q t
+      → DidPutPage p r (lineAt s n f (y .held)) q t
       → z ≡ fileBehind s (f .hdr1) (y .end) → Lining s o a q t (n + 1) z
   lining-more y q t z h w k =
       record {

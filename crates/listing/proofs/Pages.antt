@@ -38,7 +38,7 @@ few-records : (s : List ℕ) (f : FileAt) (d : File) → FileIs s f d
 unfolding fileHeld
 few-records s f d c =
     let w = f .walk in
-    let k = held-within s (w .format) (w .size) (w .offset) (w .at) in
+    let k = held-within s (w .format) (w .«record_length») (w .offset) (w .at) in
     (omega (arith, k .records, c .amounts .records), omega (arith, k .bytes, c .amounts .bytes))
 
 space : length (bytes " ") ≡ 1

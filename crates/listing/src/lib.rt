@@ -6,7 +6,7 @@ ghost use mathlib.Core.Path.{_≡_};
 ghost use Rattle.output.specs.Output.{Answers, fitted};
 ghost use Rattle.volume.specs.Run.{imageVerdict};
 ghost use Rattle.volume.specs.Meaning.{content};
-ghost use Rattle.listing.specs.code.Page.{PageWrote};
+ghost use Rattle.listing.specs.code.Page.{DidPutPage};
 ghost use Rattle.listing.specs.Text.{listingOf, refusalLine, textOf};
 use base::Verdict;
 use content::NextFile;
@@ -28,7 +28,7 @@ const PAGE: usize = 2792;
 // Writes the heading and a line for each file of an accepted set.
 fn put_listing(out: &mut [u8], image: &[u8]) -> usize
     requires { ⌜ imageVerdict (now image) .number ≡ 0 ⌝ }
-    ensures { λ r. ⌜ PageWrote (now (out .entry)) 0 (listingOf (content (now (image .entry)))) (now (out .exit)) r ⌝ }
+    ensures { λ r. ⌜ DidPutPage (now (out .entry)) 0 (listingOf (content (now (image .entry)))) (now (out .exit)) r ⌝ }
 {
     let mut end = put_heading(out);
     let mut n: usize = 1;

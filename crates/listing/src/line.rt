@@ -1,6 +1,6 @@
 // The lines of a listing: what is said of a refusal, and of a file.
 ghost use mathlib.Core.Path.{_≡_};
-ghost use Rattle.listing.specs.code.Page.{PageWrote};
+ghost use Rattle.listing.specs.code.Page.{DidPutPage};
 ghost use Rattle.listing.specs.Text.{heading, named, counted, placed, refusalLine};
 ghost use Rattle.listing.specs.code.Place.{describedAt, lineAt};
 use crate::page::put;
@@ -17,7 +17,7 @@ use output::four_digits;
 
 // Writes the place of a refusal, and ends the line.
 fn put_place(out: &mut [u8], at: usize, item: u64, byte: u64) -> usize
-    ensures { λ r. ⌜ PageWrote (now (out .entry)) at (placed item byte) (now (out .exit)) r ⌝ }
+    ensures { λ r. ⌜ DidPutPage (now (out .entry)) at (placed item byte) (now (out .exit)) r ⌝ }
 {
     let first = put_number(out, at, b" at item ", item);
     let second = put_number(out, first, b" byte ", byte);
@@ -26,7 +26,7 @@ fn put_place(out: &mut [u8], at: usize, item: u64, byte: u64) -> usize
 
 // Writes the line of a refusal.
 pub(crate) fn put_refusal(out: &mut [u8], v: Verdict) -> usize
-    ensures { λ r. ⌜ PageWrote (now (out .entry)) 0 (refusalLine v) (now (out .exit)) r ⌝ }
+    ensures { λ r. ⌜ DidPutPage (now (out .entry)) 0 (refusalLine v) (now (out .exit)) r ⌝ }
 {
     let behind = put_number(out, 0, b"refused ", v.number as u64);
     put_place(out, behind, v.item as u64, v.byte as u64)
@@ -34,14 +34,14 @@ pub(crate) fn put_refusal(out: &mut [u8], v: Verdict) -> usize
 
 // Writes the heading.
 pub(crate) fn put_heading(out: &mut [u8]) -> usize
-    ensures { λ r. ⌜ PageWrote (now (out .entry)) 0 heading (now (out .exit)) r ⌝ }
+    ensures { λ r. ⌜ DidPutPage (now (out .entry)) 0 heading (now (out .exit)) r ⌝ }
 {
     put(out, 0, b"SEQ FILE              FMT RECORDS BYTES\n")
 }
 
 // Writes identifier and format.
 fn put_names(out: &mut [u8], at: usize, identifier: &[u8], format: &[u8]) -> usize
-    ensures { λ r. ⌜ PageWrote (now (out .entry)) at (named (now (identifier .entry)) (now (format .entry))) (now (out .exit)) r ⌝ }
+    ensures { λ r. ⌜ DidPutPage (now (out .entry)) at (named (now (identifier .entry)) (now (format .entry))) (now (out .exit)) r ⌝ }
 {
     let first = put(out, at, b" ");
     let behind = put(out, first, identifier);
@@ -51,7 +51,7 @@ fn put_names(out: &mut [u8], at: usize, identifier: &[u8], format: &[u8]) -> usi
 
 // Writes the number of records and of their bytes, and ends the line.
 fn put_counts(out: &mut [u8], at: usize, records: u64, size: u64) -> usize
-    ensures { λ r. ⌜ PageWrote (now (out .entry)) at (counted records size) (now (out .exit)) r ⌝ }
+    ensures { λ r. ⌜ DidPutPage (now (out .entry)) at (counted records size) (now (out .exit)) r ⌝ }
 {
     let first = put_number(out, at, b" ", records);
     let second = put_number(out, first, b" ", size);
@@ -60,7 +60,7 @@ fn put_counts(out: &mut [u8], at: usize, records: u64, size: u64) -> usize
 
 // Writes what is said of a file, and ends the line.
 fn put_file(out: &mut [u8], at: usize, image: &[u8], f: FileAt, held: Held) -> usize
-    ensures { λ r. ⌜ PageWrote (now (out .entry)) at (describedAt (now (image .entry)) f held) (now (out .exit)) r ⌝ }
+    ensures { λ r. ⌜ DidPutPage (now (out .entry)) at (describedAt (now (image .entry)) f held) (now (out .exit)) r ⌝ }
 {
     let first = part_of(image, f.hdr1, 80);
     let second = part_of(image, f.hdr2, 80);
@@ -79,7 +79,7 @@ pub(crate) fn put_line(
     f: FileAt,
     held: Held,
 ) -> usize
-    ensures { λ r. ⌜ PageWrote (now (out .entry)) at (lineAt (now (image .entry)) n f held) (now (out .exit)) r ⌝ }
+    ensures { λ r. ⌜ DidPutPage (now (out .entry)) at (lineAt (now (image .entry)) n f held) (now (out .exit)) r ⌝ }
 {
     let d = four_digits(n);
     let behind = put(out, at, &d);

@@ -2,7 +2,7 @@
 -- the walks wants it.
 -- Assumes nothing.
 use mathlib.Core.Path.{_≡_, refl, sym, ap, _∙_}
-use mathlib.Core.Bool.{Bool, true, false, not, _&&_, false≢true}
+use mathlib.Core.Bool.{Bool, true, false, not, false≢true}
 use Prim.Native.Nat.{ℕ}
 use borrow.Author.Tests.{eq-eqb, eqb-true}
 use lib.Dec.{eqb}
@@ -44,10 +44,13 @@ pub record Label (k : Kind) (q : Phase) : Type 0 where
   pub fileEnd : isKind k (eof 1) ≡ false
   pub reelEnd : isKind k endOfReel ≡ false
 
+-- that is what is due among the header labels, but for the mark
 pub label-labels : (p : Phase) (k : Kind) (q : Phase) → groupOf p ≡ amongHeaders → isKind k tapeMark ≡ false → dueAfter p k ≡ To q
     → Label k q
 label-labels p k q h m e =
-    let l = sym (if-true _ _ _ (and-true _ _ (eq-eqb (groupOf p) amongHeaders h) (ap not m))) ∙ ap (λ (x : Seen). x .label) (due-seen p k q e) in
+    let l =
+    sym (if-true _ _ _ (and-true _ _ (eq-eqb (groupOf p) amongHeaders h) (ap not m)))
+    ∙ ap (λ (x : Seen). x .label) (due-seen p k q e) in
     record { group = λ i. l i .0; datum = λ i. l i .1; fileEnd = λ i. l i .2; reelEnd = λ i. l i .3 }
 
 -- a data block is due exactly among data blocks

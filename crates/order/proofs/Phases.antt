@@ -30,6 +30,7 @@ pub record Place : Type 0 where
 abbrev place : Stage → ℕ → Bool → Bool → Place
 place a g i n = record { stage = a; group = g; inside = i; numbered = n }
 
+-- the table
 abbrev pub at : Phase → Place
 at Reel = place before amongLabels false true
 at (Volume n) = place before amongLabels true (leb 1 n)
@@ -52,12 +53,15 @@ at ReelClosed = place reelOver amongLabels true true
 at Over = place fileOver amongLabels false true
 at Accepted = place fileOver amongLabels false true
 
+-- the stage of a phase
 abbrev pub stage : Phase → Stage
 stage p = at p .stage
 
+-- its group
 abbrev pub groupOf : Phase → ℕ
 groupOf p = at p .group
 
+-- behind a numbered label its number is one that reading comes to
 abbrev pub Numbered : Phase → Type 0
 Numbered p = at p .numbered ≡ true
 
@@ -208,6 +212,7 @@ rows Accepted = (never, tt)
 
 -- ---- what is read off
 
+-- only Data is among data
 pub only-data : (p : Phase) → groupOf p ≡ amongData → p ≡ Data
 only-data p e = rows p .0 (eq-eqb (groupOf p) amongData e)
 
@@ -215,17 +220,21 @@ row : (p : Phase) (k : Kind) (q : Phase) → dueAfter p k ≡ To q → Row p k q
 unfolding dueAfter
 row p k q e = chosen (Row p) (dues p) k q (rows p .1) e
 
+-- what is seen of an item that is due
 pub due-seen : (p : Phase) (k : Kind) (q : Phase) → dueAfter p k ≡ To q → seen p k q ≡ wanted p k
 due-seen p k q e = row p k q e .told
 
+-- an item that is due moves the stages, or leaves them as they are
 pub due-goes : (p : Phase) (k : Kind) (q : Phase) → Numbered p → dueAfter p k ≡ To q → Goes p k q
 due-goes p k q h e = row p k q e .goes h
 
+-- it stands where its kind may stand
 pub due-stands : (p : Phase) (k : Kind) (q : Phase) → dueAfter p k ≡ To q → stands p k ≡ true
 due-stands p k q e =
     and-second (not (isKind k dataBlock) || eqb (groupOf p) amongData) _
     (and-second (not (isKind k other)) _ (ap (λ (x : Seen). x .suited) (due-seen p k q e)))
 
+-- an end of reel leads out of a reel
 pub reel-left : (p q : Phase) → dueAfter p endOfReel ≡ To q → Outside q
 unfolding isKind
 reel-left p q e = row p endOfReel q e .left refl

@@ -175,7 +175,7 @@ pub fn count(image: &[u8], file: u64) -> FileFacts
 {
     let none = Walk {
         format: 0,
-        size: 0,
+        record_length: 0,
         offset: 0,
         at: 0,
         left: 0,

@@ -332,7 +332,8 @@ unfolding undatedFrom undatedBehind
 undated-go s x xs p h =
     ap (λ (r : Next). undatedIn (s .continues) (s .phase) x ∷ undatedBehind r (λ t. undatedFrom t xs)) (faultless-go s x p h)
 
-same-runs : (xs ys : List Item) (s : State) (f : List ℕ) → Numbered (s .phase) → Begun (stage (s .phase)) (s .continues) (s .hdr1) f
+same-runs : (xs ys : List Item) (s : State) (f : List ℕ) → Numbered (s .phase)
+    → Begun (stage (s .phase)) (s .continues) (s .hdr1) f
     → undatedFrom s xs ≡ undatedFrom (withFirst s f) ys → All MayEnd s xs → All MayEnd (withFirst s f) ys
     → OneMeaning (handedOut (runs s xs)) (handedOut (runs (withFirst s f) ys))
 unfolding undatedFrom runs stateAfter

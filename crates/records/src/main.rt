@@ -50,7 +50,7 @@ fn write_records(image: &[u8], from: Walk, records: u64, join: &mut [u8]) {
 fn nowhere() -> Walk {
     Walk {
         format: 0,
-        size: 0,
+        record_length: 0,
         offset: 0,
         at: 0,
         left: 0,

@@ -5,7 +5,7 @@ use Prim.Native.Nat.{ℕ, zero, suc, _+_, _*_, _-_, _≤_, _<_, min}
 use native.Mathlib.Nat.{suc-mul}
 use native.Mathlib.Omega.{arith}
 use lib.ListN.{length, take, drop, length-append, length-drop}
-use lib.Seq.{take-at, drop-at, take-append-le, drop-append-le, drop-drop}
+use lib.Seq.{take-at, drop-at, drop-drop}
 use Rattle.sheet.specs.Flat.{inPartsF, inParts}
 
 -- ---- the place behind a part, or the end
@@ -66,19 +66,6 @@ parts-cons w s t z h =
     parts-some w (s ++ t) z (omega arith)
     ∙ ap (λ (r : List ℕ). r ∷ inParts w (drop w (s ++ t))) (take-at s t w h)
     ∙ ap (λ (r : List ℕ). s ∷ inParts w r) (drop-at s t w h)
-
-pub parts-append : (w k : ℕ) (s t : List ℕ) → 0 < w → length s ≡ k * w → inParts w (s ++ t) ≡ inParts w s ++ inParts w t
-parts-append w zero [] t z h = ap (λ (r : List (List ℕ)). r ++ inParts w t) (sym (parts-none w))
-parts-append w zero (x ∷ s) t z h = absurd (omega arith)
-parts-append w (suc k) s t z h =
-    let l = length-append s t in
-    let d = length-drop w s in
-    let e : length s ≡ k * w + w = h ∙ suc-mul k w in
-    parts-some w (s ++ t) z (omega arith)
-    ∙ ap (λ (r : List ℕ). r ∷ inParts w (drop w (s ++ t))) (take-append-le w s t (omega arith))
-    ∙ ap (λ (r : List ℕ). take w s ∷ inParts w r) (drop-append-le w s t (omega arith))
-    ∙ ap (λ (r : List (List ℕ)). take w s ∷ r) (parts-append w k (drop w s) t z (omega arith))
-    ∙ ap (λ (r : List (List ℕ)). r ++ inParts w t) (sym (parts-some w s z (omega arith)))
 
 -- how many there are
 pub length-parts : (w k : ℕ) (s : List ℕ) → 0 < w → length s ≡ k * w → length (inParts w s) ≡ k

@@ -21,7 +21,7 @@ use Rattle.volume.specs.Fault.{valueOf}
 use Rattle.volume.specs.Meaning.{File}
 use Rattle.reading.specs.Legal.{formatFrom, recordLengthFrom, legalEntry, legalRecords, legalFile, legalFiles}
 use Rattle.sheet.specs.Flat.{inParts, filesFrom}
-use Rattle.sheet.specs.code.Passing.{RecordsPassed}
+use Rattle.sheet.specs.code.Passing.{DidPassRecords}
 use Rattle.sheet.specs.declared.file.Passed.{Passed}
 use Rattle.sheet.proofs.Cutting.{drop-past, take-past, parts-none, parts-some}
 
@@ -52,8 +52,8 @@ file e rs = record { fields = e; records = rs }
 
 pub entry-right : (set e ls s : List ℕ) (from f r : ℕ) (p : Bool) (x : Passed) → p ≡ legalEntry set e → p ≡ true
     → f ≡ formatFrom e
-    → r ≡ recordLengthFrom e → RecordsPassed (legalRecords f r (cutBy ls (drop from s))) ls from x
-    → RecordsPassed (legalFile set (file e (cutBy ls (drop from s)))) ls from x
+    → r ≡ recordLengthFrom e → DidPassRecords (legalRecords f r (cutBy ls (drop from s))) ls from x
+    → DidPassRecords (legalFile set (file e (cutBy ls (drop from s)))) ls from x
 unfolding legalFile
 entry-right set e ls s from f r p x q t ef er b =
     record {
@@ -66,7 +66,7 @@ entry-right set e ls s from f r p x q t ef er b =
     }
 
 pub entry-wrong : (set e ls s : List ℕ) (from : ℕ) (p : Bool) → p ≡ legalEntry set e → p ≡ false
-    → RecordsPassed (legalFile set (file e (cutBy ls (drop from s)))) ls from (record { legal = false; at = from })
+    → DidPassRecords (legalFile set (file e (cutBy ls (drop from s)))) ls from (record { legal = false; at = from })
 unfolding legalFile
 entry-wrong set e ls s from p q t =
     record { answer = sym (if-false _ _ _ (sym q ∙ t)); place = λ h. absurd (false≢true h) }
@@ -109,7 +109,7 @@ left-room set files counts lengths s entry first at i end c = omega (arith, c .f
 pub left-more : (set files counts lengths s : List ℕ) (entry first at i : ℕ) (e : List ℕ) (end next : ℕ) (x : Passed)
     → FilesLeft set files counts lengths s entry first at i → i < length counts → entry < length files → e ≡ part entry 46 files
     → end ≡ min (first + getD counts i 0) (length lengths)
-    → RecordsPassed (legalFile set (file e (cutBy (take (end - first) (drop first lengths)) (drop at s))))
+    → DidPassRecords (legalFile set (file e (cutBy (take (end - first) (drop first lengths)) (drop at s))))
     (take (end - first) (drop first lengths)) at x
     → not (x .legal) ≡ false → next ≡ min (entry + 46) (length files)
     → FilesLeft set files counts lengths s next end (x .at) (i + 1)
@@ -143,7 +143,7 @@ left-more set files counts lengths s entry first at i e end next x c h k ee el b
 pub left-wrong : (set files counts lengths s : List ℕ) (entry first at i : ℕ) (e : List ℕ) (end : ℕ) (x : Passed)
     → FilesLeft set files counts lengths s entry first at i → i < length counts → entry < length files → e ≡ part entry 46 files
     → end ≡ min (first + getD counts i 0) (length lengths)
-    → RecordsPassed (legalFile set (file e (cutBy (take (end - first) (drop first lengths)) (drop at s))))
+    → DidPassRecords (legalFile set (file e (cutBy (take (end - first) (drop first lengths)) (drop at s))))
     (take (end - first) (drop first lengths)) at x
     → not (x .legal) ≡ true → false ≡ legalFiles set (filesFrom (inParts 46 files) counts lengths s)
 left-wrong set files counts lengths s entry first at i e end x c h k ee el b n =

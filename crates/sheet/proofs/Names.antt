@@ -2,25 +2,27 @@
 use mathlib.Core.Path.{_≡_, refl, sym, ap, _∙_}
 use mathlib.Core.Bool.{Bool, true, false, not, false≢true}
 use mathlib.Core.List.{List, [], _∷_, _++_}
-use Prim.Native.Nat.{ℕ, _+_, _*_, _-_, _/_, _%_, _≤_, _<_, min}
+use Prim.Native.Nat.{ℕ, _+_, _*_, _≤_, _<_}
 use native.Mathlib.Omega.{arith}
+use native.Mathlib.Numerals.{add-one}
 use borrow.Author.Needs.{needs}
 use borrow.Author.Tests.{eq-eqb, ne-eqb, eqb-true, not-true, not-false}
 use lib.Dec.{eqb}
-use lib.ListN.{length, take, drop, length-take, length-drop, drop-of-length-le}
-use lib.Seq.{take-add, drop-drop, length-take-le, take-all}
+use lib.ListN.{length, take, drop, set, length-set, length-take, length-drop, drop-of-length-le}
+use lib.Seq.{drop-drop, take-suc-set}
 use Rattle.base.specs.If.{ifB}
 use Rattle.base.proofs.Ifs.{if-true, if-false, if-case}
-use Rattle.base.specs.Part.{part, same}
+use Rattle.base.specs.Part.{part}
 use Rattle.base.specs.declared.Fault.{Fault}
 use Rattle.base.proofs.Parts.{counted}
 use Rattle.order.specs.Kind.{vol}
 use Rattle.label.specs.Judged.{labelFault}
 use Rattle.label.specs.Made.{madeVolume}
-use Rattle.volume.specs.Fault.{isAmong}
+use Rattle.volume.specs.Fault.{isAmong, namesAt}
+use Rattle.volume.proofs.Afters.{names-append}
 use Rattle.reading.specs.Legal.{isSound, legalName, freshNames}
 use Rattle.sheet.specs.Flat.{inParts}
-use Rattle.sheet.proofs.Cutting.{drop-past, parts-none, parts-some, parts-append}
+use Rattle.sheet.proofs.Cutting.{parts-none, parts-some}
 
 -- ---- one name
 
@@ -41,45 +43,13 @@ names-at : (s : List ℕ) (at : ℕ) → at < length s → inParts 6 (drop at s)
 unfolding part
 names-at s at h = let l = length-drop at s in parts-some 6 (drop at s) (omega arith) (omega arith)
 
--- ---- the loop of `is_named_before`: what is left from here is searched as the whole
-
-pub record Sought (v s : List ℕ) (at : ℕ) : Type 0 where
-  pub left : isAmong v (inParts 6 (drop at s)) ≡ isAmong v (inParts 6 s)
-
-among-at : (v s : List ℕ) (at : ℕ) → at < length s
-    → isAmong v (inParts 6 (drop at s)) ≡ ifB (same v (part at 6 s)) true (isAmong v (inParts 6 (drop 6 (drop at s))))
-unfolding isAmong
-among-at v s at h = rw (names-at s at h)
-
-pub sought-none : (v s : List ℕ) → Sought v s 0
-sought-none v s = record { left = refl }
-
-pub sought-more : (v s : List ℕ) (at b : ℕ) (p : Bool) → Sought v s at → at < length s → p ≡ same v (part at 6 s) → p ≡ false
-    → b ≡ min (at + 6) (length s) → Sought v s b
-sought-more v s at b p c h e n q =
-    record {
-      left =
-          ap (λ (l : List ℕ). isAmong v (inParts 6 l)) (drop-past at 6 b s q)
-          ∙ sym (among-at v s at h ∙ if-false _ _ _ (sym e ∙ n)) ∙ c .left;
-    }
-
-pub sought-found : (v s : List ℕ) (at : ℕ) (p : Bool) → Sought v s at → at < length s → p ≡ same v (part at 6 s) → p ≡ true
-    → true ≡ isAmong v (inParts 6 s)
-sought-found v s at p c h e n = sym (among-at v s at h ∙ if-true _ _ _ (sym e ∙ n)) ∙ c .left
-
-pub sought-all : (v s : List ℕ) (at : ℕ) → Sought v s at → length s ≤ at → false ≡ isAmong v (inParts 6 s)
-unfolding isAmong
-sought-all v s at c h =
-    sym (ap (λ (l : List ℕ). isAmong v (inParts 6 l)) (drop-of-length-le s h) ∙ ap (isAmong v) (parts-none 6)) ∙ c .left
-
-pub ruleset seeks = (sought-none, sought-more, sought-found, sought-all, needs)
-
 -- ---- the loop of `are_fresh`: the names that are left behind those before them decide as all of them
 
-pub record Fresh (s : List ℕ) (at : ℕ) : Type 0 where
+pub record Fresh (s places : List ℕ) (before at : ℕ) : Type 0 where
   pub within : at ≤ length s
-  pub whole : at % 6 ≡ 0
-  pub left : freshNames (inParts 6 (take at s)) (inParts 6 (drop at s)) ≡ freshNames [] (inParts 6 s)
+  pub nth : at ≡ 6 * before
+  pub kept : length places ≡ 16
+  pub left : freshNames (namesAt s (take before places)) (inParts 6 (drop at s)) ≡ freshNames [] (inParts 6 s)
 
 fresh-at : (used : List (List ℕ)) (s : List ℕ) (at : ℕ) → at < length s
     → freshNames used (inParts 6 (drop at s))
@@ -96,80 +66,71 @@ legal-long n h =
     (λ e q. absurd (false≢true q)) h
 
 -- a legal name is whole: six bytes stand there
-fresh-room : (s : List ℕ) (at : ℕ) → legalName (part at 6 s) ≡ true → at + 6 ≤ length s
+whole-name : (s : List ℕ) (at : ℕ) → legalName (part at 6 s) ≡ true → at + 6 ≤ length s
 unfolding part
-fresh-room s at h =
+whole-name s at h =
     let l = length-drop at s in
     let t = length-take 6 (drop at s) in
     let e = legal-long (take 6 (drop at s)) h in
     omega arith
 
--- one name more behind whole ones
-parts-more : (s : List ℕ) (at : ℕ) → at % 6 ≡ 0 → at + 6 ≤ length s
-    → inParts 6 (take (at + 6) s) ≡ inParts 6 (take at s) ++ (part at 6 s ∷ [])
-unfolding part
-parts-more s at e h =
-    let front : length (take at s) ≡ at / 6 * 6 = length-take-le at s (omega arith) ∙ omega arith in
-    let d = length-drop at s in
-    let l : length (take 6 (drop at s)) ≡ 6 = length-take-le 6 (drop at s) (omega arith) in
-    ap (inParts 6) (take-add at 6 s)
-    ∙ parts-append 6 (at / 6) (take at s) (take 6 (drop at s)) (omega arith) front
-    ∙ ap (λ (r : List (List ℕ)). inParts 6 (take at s) ++ r)
-    (parts-some 6 (take 6 (drop at s)) (omega arith) (omega arith)
-    ∙ ap (λ (r : List ℕ). r ∷ inParts 6 (drop 6 (take 6 (drop at s)))) (take-all 6 (take 6 (drop at s)) (omega arith))
-    ∙ ap (λ (r : List ℕ). take 6 (drop at s) ∷ inParts 6 r) (drop-of-length-le (take 6 (drop at s)) {i = 6} (omega arith))
-    ∙ ap (λ (r : List (List ℕ)). take 6 (drop at s) ∷ r) (parts-none 6))
+pub fresh-none : (s places : List ℕ) → length places ≡ 16 → Fresh s places 0 0
+unfolding namesAt
+fresh-none s places k = record { within = omega arith; nth = omega arith; kept = k; left = refl }
 
-pub fresh-none : (s : List ℕ) → Fresh s 0
-fresh-none s =
-    record {
-      within = omega arith;
-      whole = omega arith;
-      left = ap (λ (r : List (List ℕ)). freshNames r (inParts 6 s))
-          (parts-none 6);
-    }
+-- there is room for one more place
+pub fresh-room : (s places : List ℕ) (before at : ℕ) → length s ≤ 96 → Fresh s places before at → at < length s → before < 16
+fresh-room s places before at few c h = omega (arith, c .nth)
+
+pub fresh-prefix : (s places : List ℕ) (before at : ℕ) → length s ≤ 96 → Fresh s places before at → before ≤ length places
+fresh-prefix s places before at few c = omega (arith, c .nth, c .within, c .kept)
 
 pub fresh-fits : (s : List ℕ) (at : ℕ) (name : List ℕ) (p : Bool) → name ≡ part at 6 s → p ≡ legalName name → not p ≡ false
     → at + 6 ≤ length s
-fresh-fits s at name p n e t = fresh-room s at (ap legalName (sym n) ∙ sym e ∙ not-false p t)
+fresh-fits s at name p n e t = whole-name s at (ap legalName (sym n) ∙ sym e ∙ not-false p t)
 
-pub fresh-more : (s : List ℕ) (at : ℕ) (name : List ℕ) (p q : Bool) → Fresh s at → at < length s → name ≡ part at 6 s
-    → p ≡ legalName name → not p ≡ false
-    → q ≡ isAmong name (inParts 6 (take at s)) → q ≡ false → Fresh s (at + 6)
-fresh-more s at name p q c h n e t f u =
+pub fresh-more : (s places : List ℕ) (before at : ℕ) (name : List ℕ) (p q : Bool) → length s ≤ 96 → Fresh s places before at
+    → at < length s → name ≡ part at 6 s → p ≡ legalName name → not p ≡ false
+    → q ≡ isAmong name (namesAt s (take before places)) → q ≡ false → Fresh s (set places before at) (before + 1) (at + 6)
+fresh-more s places before at name p q few c h n e t f u =
+    let used : List (List ℕ) = namesAt s (take before places) in
     let yes : legalName (part at 6 s) ≡ true = ap legalName (sym n) ∙ sym e ∙ not-false p t in
-    let new : isAmong (part at 6 s) (inParts 6 (take at s)) ≡ false = ap (λ (v : List ℕ). isAmong v (inParts 6 (take at s))) (sym n) ∙ sym f ∙ u in
-    let room = fresh-room s at yes in
-    let whole = c .whole in
+    let new : isAmong (part at 6 s) used ≡ false = ap (λ (v : List ℕ). isAmong v used) (sym n) ∙ sym f ∙ u in
+    let more : namesAt s (take (before + 1) (set places before at)) ≡ used ++ (part at 6 s ∷ [])
+    = ap (λ (m : ℕ). namesAt s (take m (set places before at))) (add-one before)
+    ∙ ap (namesAt s) (take-suc-set places before at (omega (arith, c .kept, fresh-room s places before at few c h)))
+    ∙ names-append s (take before places) at in
     record {
-      within = room;
-      whole = omega arith;
+      within = whole-name s at yes;
+      nth = omega (arith, c .nth);
+      kept = length-set places before at ∙ c .kept;
       left =
-          ap (λ (r : List (List ℕ)). freshNames r (inParts 6 (drop (at + 6) s))) (parts-more s at whole room)
-          ∙ ap (λ (l : List ℕ). freshNames (inParts 6 (take at s) ++ (part at 6 s ∷ [])) (inParts 6 l)) (sym (drop-drop 6 at s))
-          ∙ sym (fresh-at (inParts 6 (take at s)) s at h ∙ if-true _ _ _ yes ∙ if-false _ _ _ new)
+          ap (λ (r : List (List ℕ)). freshNames r (inParts 6 (drop (at + 6) s))) more
+          ∙ ap (λ (l : List ℕ). freshNames (used ++ (part at 6 s ∷ [])) (inParts 6 l)) (sym (drop-drop 6 at s))
+          ∙ sym (fresh-at used s at h ∙ if-true _ _ _ yes ∙ if-false _ _ _ new)
           ∙ c .left;
     }
 
-pub fresh-wrong : (s : List ℕ) (at : ℕ) (name : List ℕ) (p : Bool) → Fresh s at → at < length s → name ≡ part at 6 s
-    → p ≡ legalName name → not p ≡ true
+pub fresh-wrong : (s places : List ℕ) (before at : ℕ) (name : List ℕ) (p : Bool) → Fresh s places before at → at < length s
+    → name ≡ part at 6 s → p ≡ legalName name → not p ≡ true → false ≡ freshNames [] (inParts 6 s)
+fresh-wrong s places before at name p c h n e t =
+    sym (fresh-at _ s at h ∙ if-false _ _ _ (ap legalName (sym n) ∙ sym e ∙ not-true p t)) ∙ c .left
+
+pub fresh-again : (s places : List ℕ) (before at : ℕ) (name : List ℕ) (p q : Bool) → Fresh s places before at → at < length s
+    → name ≡ part at 6 s → p ≡ legalName name → not p ≡ false → q ≡ isAmong name (namesAt s (take before places)) → q ≡ true
     → false ≡ freshNames [] (inParts 6 s)
-fresh-wrong s at name p c h n e t =
-    sym (fresh-at (inParts 6 (take at s)) s at h ∙ if-false _ _ _ (ap legalName (sym n) ∙ sym e ∙ not-true p t)) ∙ c .left
-
-pub fresh-again : (s : List ℕ) (at : ℕ) (name : List ℕ) (p q : Bool) → Fresh s at → at < length s → name ≡ part at 6 s
-    → p ≡ legalName name → not p ≡ false
-    → q ≡ isAmong name (inParts 6 (take at s)) → q ≡ true → false ≡ freshNames [] (inParts 6 s)
-fresh-again s at name p q c h n e t f u =
-    sym (fresh-at (inParts 6 (take at s)) s at h ∙ if-true _ _ _ (ap legalName (sym n) ∙ sym e ∙ not-false p t)
-    ∙ if-true _ _ _ (ap (λ (v : List ℕ). isAmong v (inParts 6 (take at s))) (sym n) ∙ sym f ∙ u))
+fresh-again s places before at name p q c h n e t f u =
+    sym (fresh-at (namesAt s (take before places)) s at h ∙ if-true _ _ _ (ap legalName (sym n) ∙ sym e ∙ not-false p t)
+    ∙ if-true _ _ _ (ap (λ (v : List ℕ). isAmong v (namesAt s (take before places))) (sym n) ∙ sym f ∙ u))
     ∙ c .left
 
-pub fresh-all : (s : List ℕ) (at : ℕ) → Fresh s at → length s ≤ at → true ≡ freshNames [] (inParts 6 s)
+pub fresh-all : (s places : List ℕ) (before at : ℕ) → Fresh s places before at → length s ≤ at
+    → true ≡ freshNames [] (inParts 6 s)
 unfolding freshNames
-fresh-all s at c h =
-    sym (ap (λ (l : List ℕ). freshNames (inParts 6 (take at s)) (inParts 6 l)) (drop-of-length-le s h)
-    ∙ ap (freshNames (inParts 6 (take at s))) (parts-none 6))
+fresh-all s places before at c h =
+    sym (ap (λ (l : List ℕ). freshNames (namesAt s (take before places)) (inParts 6 l)) (drop-of-length-le s h)
+    ∙ ap (freshNames (namesAt s (take before places))) (parts-none 6))
     ∙ c .left
 
-pub ruleset freshes = (counted, fresh-none, fresh-fits, fresh-more, fresh-wrong, fresh-again, fresh-all, needs)
+pub ruleset freshes =
+    (counted, fresh-none, fresh-room, fresh-prefix, fresh-fits, fresh-more, fresh-wrong, fresh-again, fresh-all, needs)

@@ -16,7 +16,7 @@ use Rattle.base.specs.If.{ifB}
 use Rattle.base.proofs.Ifs.{if-true, if-false, if-case}
 use Rattle.base.specs.Part.{part, allAre}
 use Rattle.reading.specs.Legal.{legalRecord, legalRecords}
-use Rattle.sheet.specs.code.Passing.{RecordsPassed, tooLong}
+use Rattle.sheet.specs.code.Passing.{DidPassRecords, tooLong}
 use Rattle.sheet.specs.declared.file.Passed.{Passed}
 use Rattle.base.specs.Sum.{sum, cutBy}
 use Rattle.base.proofs.Parts.{length-part, part-within}
@@ -109,11 +109,11 @@ module _ (f r : ℕ) (ls s : List ℕ) (from at i : ℕ) (c : Cut f r ls s from 
       }
 
   cut-no : legalRecord f r (part at (getD ls i 0) s) ≡ false
-      → RecordsPassed (legalRecords f r (cutBy ls (drop from s))) ls from (record { legal = false; at = at })
+      → DidPassRecords (legalRecords f r (cutBy ls (drop from s))) ls from (record { legal = false; at = at })
   cut-no e = record { answer = sym (records-at f r ls s at i h ∙ if-false _ _ _ e) ∙ c .left; place = λ q. absurd (false≢true q) }
 
 pub cut-all : (f r : ℕ) (ls s : List ℕ) (from at i : ℕ) → Cut f r ls s from at i → length ls ≤ i
-    → RecordsPassed (legalRecords f r (cutBy ls (drop from s))) ls from (record { legal = true; at = at })
+    → DidPassRecords (legalRecords f r (cutBy ls (drop from s))) ls from (record { legal = true; at = at })
 unfolding legalRecords cutBy sum
 cut-all f r ls s from at i c h =
     let e : drop i ls ≡ [] = drop-of-length-le ls h in
@@ -131,7 +131,7 @@ module _ (r : ℕ) (ls s : List ℕ) (from at i : ℕ) (p : Bool) (c : Cut 70 r 
       cut-yes 70 r ls s from at i c h (ap (legalRecord 70 r) (sym (part-within at (getD ls i 0) s)) ∙ sym e ∙ not-false p n)
 
   pub fixed-wrong : not p ≡ true
-      → RecordsPassed (legalRecords 70 r (cutBy ls (drop from s))) ls from (record { legal = false; at = at })
+      → DidPassRecords (legalRecords 70 r (cutBy ls (drop from s))) ls from (record { legal = false; at = at })
   fixed-wrong n =
       cut-no 70 r ls s from at i c h (ap (legalRecord 70 r) (sym (part-within at (getD ls i 0) s)) ∙ sym e ∙ not-true p n)
 
@@ -145,13 +145,13 @@ module _ (f r : ℕ) (ls s : List ℕ) (from at i over : ℕ) (k : f ≡ 70 → 
   length-more l = cut-yes f r ls s from at i c h (length-legal f r (part at (getD ls i 0) s) k (omega (arith, long, e)))
 
   pub length-wrong : over ≤ getD ls i 0
-      → RecordsPassed (legalRecords f r (cutBy ls (drop from s))) ls from (record { legal = false; at = at })
+      → DidPassRecords (legalRecords f r (cutBy ls (drop from s))) ls from (record { legal = false; at = at })
   length-wrong l = cut-no f r ls s from at i c h (length-illegal f r (part at (getD ls i 0) s) k (omega (arith, long, e)))
 
 -- either way
 pub passed-fixed : (f r : ℕ) (ls s : List ℕ) (from : ℕ) (x : Passed) → f ≡ 70
-    → RecordsPassed (legalRecords 70 r (cutBy ls (drop from s))) ls from x
-    → RecordsPassed (legalRecords f r (cutBy ls (drop from s))) ls from x
+    → DidPassRecords (legalRecords 70 r (cutBy ls (drop from s))) ls from x
+    → DidPassRecords (legalRecords f r (cutBy ls (drop from s))) ls from x
 passed-fixed f r ls s from x e b =
     record { answer = b .answer ∙ ap (λ (k : ℕ). legalRecords k r (cutBy ls (drop from s))) (sym e); place = b .place }
 

@@ -9,7 +9,7 @@ ghost use Rattle.label.specs.Judged.{labelFault};
 ghost use Rattle.label.specs.Made.{entryLength, madeFirst, madeSecond};
 ghost use Rattle.reading.specs.Legal.{isSound, formatFrom, recordLengthFrom, legalEntry, legalRecord, legalRecords, legalFile, legalFiles};
 ghost use Rattle.sheet.specs.Flat.{inParts, filesFrom};
-ghost use Rattle.sheet.specs.code.Passing.{RecordsPassed, tooLong};
+ghost use Rattle.sheet.specs.code.Passing.{DidPassRecords, tooLong};
 use crate::sum::past;
 use base::FIXED;
 use base::VARIABLE;
@@ -108,25 +108,25 @@ fn record_length_in(entry: &[u8]) -> u32
 // ---- records
 
 // Whether a record is legal in an F file of that record length.
-fn is_fixed(size: u32, x: &[u8]) -> bool
-    ensures { λ r. ⌜ r ≡ legalRecord 70 size (now (x .entry)) ⌝ }
+fn is_fixed(record_length: u32, x: &[u8]) -> bool
+    ensures { λ r. ⌜ r ≡ legalRecord 70 «record_length» (now (x .entry)) ⌝ }
 {
-    if x.len() == size as usize {
+    if x.len() == record_length as usize {
         return !all_padding(x);
     }
     false
 }
 
 // The records of an F file, of these lengths from a place on.
-fn fixed_passed(size: u32, lengths: &[u64], bytes: &[u8], from: usize) -> Passed
+fn fixed_passed(record_length: u32, lengths: &[u64], bytes: &[u8], from: usize) -> Passed
     requires { ⌜ from + sum (now lengths) ≤ length (now bytes) ⌝ }
-    ensures { λ r. ⌜ RecordsPassed (legalRecords 70 size (cutBy (now (lengths .entry)) (drop from (now (bytes .entry))))) (now (lengths .entry)) from r ⌝ }
+    ensures { λ r. ⌜ DidPassRecords (legalRecords 70 «record_length» (cutBy (now (lengths .entry)) (drop from (now (bytes .entry))))) (now (lengths .entry)) from r ⌝ }
 {
     let mut at = from;
     let mut i = 0;
     while i < lengths.len() {
         let end = at + lengths[i] as usize;
-        if !is_fixed(size, &bytes[at..end]) {
+        if !is_fixed(record_length, &bytes[at..end]) {
             return Passed { legal: false, at };
         }
         at = end;
@@ -136,10 +136,10 @@ fn fixed_passed(size: u32, lengths: &[u64], bytes: &[u8], from: usize) -> Passed
 }
 
 // The least length that is too long for a record of a D or S file.
-fn too_long(format: u8, size: u32) -> usize
-    ensures { λ r. ⌜ r ≡ tooLong format size ⌝ }
+fn too_long(format: u8, record_length: u32) -> usize
+    ensures { λ r. ⌜ r ≡ tooLong format «record_length» ⌝ }
 {
-    let most = size as usize;
+    let most = record_length as usize;
     if format == VARIABLE {
         if most < 3 {
             return 0;
@@ -153,12 +153,18 @@ fn too_long(format: u8, size: u32) -> usize
 }
 
 // The records of a D or S file, of these lengths from a place on: no byte of theirs is looked at.
-fn lengths_passed(format: u8, size: u32, lengths: &[u64], bytes: &[u8], from: usize) -> Passed
+fn lengths_passed(
+    format: u8,
+    record_length: u32,
+    lengths: &[u64],
+    bytes: &[u8],
+    from: usize,
+) -> Passed
     requires { ⌜ (format ≡ 70 → ⊥) ⌝ }
     requires { ⌜ from + sum (now lengths) ≤ length (now bytes) ⌝ }
-    ensures { λ r. ⌜ RecordsPassed (legalRecords format size (cutBy (now (lengths .entry)) (drop from (now (bytes .entry))))) (now (lengths .entry)) from r ⌝ }
+    ensures { λ r. ⌜ DidPassRecords (legalRecords format «record_length» (cutBy (now (lengths .entry)) (drop from (now (bytes .entry))))) (now (lengths .entry)) from r ⌝ }
 {
-    let over = too_long(format, size);
+    let over = too_long(format, record_length);
     let mut at = from;
     let mut i = 0;
     while i < lengths.len() {
@@ -173,14 +179,20 @@ fn lengths_passed(format: u8, size: u32, lengths: &[u64], bytes: &[u8], from: us
 }
 
 // The records of these lengths from a place on.
-fn records_passed(format: u8, size: u32, lengths: &[u64], bytes: &[u8], from: usize) -> Passed
+fn records_passed(
+    format: u8,
+    record_length: u32,
+    lengths: &[u64],
+    bytes: &[u8],
+    from: usize,
+) -> Passed
     requires { ⌜ from + sum (now lengths) ≤ length (now bytes) ⌝ }
-    ensures { λ r. ⌜ RecordsPassed (legalRecords format size (cutBy (now (lengths .entry)) (drop from (now (bytes .entry))))) (now (lengths .entry)) from r ⌝ }
+    ensures { λ r. ⌜ DidPassRecords (legalRecords format «record_length» (cutBy (now (lengths .entry)) (drop from (now (bytes .entry))))) (now (lengths .entry)) from r ⌝ }
 {
     if format == FIXED {
-        return fixed_passed(size, lengths, bytes, from);
+        return fixed_passed(record_length, lengths, bytes, from);
     }
-    lengths_passed(format, size, lengths, bytes, from)
+    lengths_passed(format, record_length, lengths, bytes, from)
 }
 
 // ---- files
@@ -188,7 +200,7 @@ fn records_passed(format: u8, size: u32, lengths: &[u64], bytes: &[u8], from: us
 // A file with that entry, and records of these lengths from a place on.
 fn file_passed(set: &[u8], entry: &[u8], lengths: &[u64], bytes: &[u8], from: usize) -> Passed
     requires { ⌜ from + sum (now lengths) ≤ length (now bytes) ⌝ }
-    ensures { λ r. ⌜ RecordsPassed
+    ensures { λ r. ⌜ DidPassRecords
         (legalFile (now (set .entry)) (record { fields = now (entry .entry); records = cutBy (now (lengths .entry)) (drop from (now (bytes .entry))) }))
         (now (lengths .entry)) from r ⌝ }
 {

@@ -11,9 +11,9 @@ ghost use Rattle.sheet.specs.code.Passing.{fillBytes, saysFiles};
 use base::add_up_to;
 use file::are_legal;
 use label::ENTRY;
-use reels::NAME;
 use reels::are_fresh;
 use reels::is_legal_quota;
+use volume::NAME;
 
 // The most files and reels of a set.
 const FILES: usize = 64;

@@ -27,7 +27,7 @@ use Rattle.simh.specs.declared.export.Size.{Size}
 use Rattle.simh.specs.declared.export.Tapes.{Tapes}
 use Rattle.simh.specs.Tape.{encode}
 use Rattle.simh.specs.Set.{reelsVerdict, reelsIn, isFew, tapeVerdict, imageOf, fromSimh, reelsOf, filesOf, Converted, kept, stored, toSimh, Converts}
-use Rattle.simh.specs.code.Passes.{itemsIn, TapeMeasured, Storable, lengthsFrom, ImageSized, FilesFit, shortOf}
+use Rattle.simh.specs.code.Passes.{itemsIn, DidMeasure, Storable, lengthsFrom, DidSize, FilesFit, shortOf}
 use Rattle.simh.proofs.Lengths.{file-lengths, file-bytes, file-count}
 use Rattle.simh.proofs.Reels.{Reeled, framed-reels, reels-framed, reels-joined}
 
@@ -58,7 +58,7 @@ tape-zero tape lengths =
     P : Verdict → Type 0
     P v = v .number ≡ 0 → Convertible tape lengths
 
-module _ (tape lengths out : List ℕ) (m : Measure) (x : TapeMeasured (tapeVerdict tape lengths) tape lengths m) where
+module _ (tape lengths out : List ℕ) (m : Measure) (x : DidMeasure (tapeVerdict tape lengths) tape lengths m) where
   number : m .verdict .number ≡ tapeVerdict tape lengths .number
   number = ap (λ (v : Verdict). v .number) (x .said)
 
@@ -154,7 +154,7 @@ framing-done s =
     P : Verdict → Type 0
     P v = v .number ≡ 0 → v ≡ verdict 0 0 0
 
-module _ (s out lens : List ℕ) (z : Size) (x : ImageSized (framing s) s z) where
+module _ (s out lens : List ℕ) (z : Size) (x : DidSize (framing s) s z) where
   framed-number : z .verdict .number ≡ framing s .number
   framed-number = ap (λ (v : Verdict). v .number) (x .said)
 

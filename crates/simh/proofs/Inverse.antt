@@ -287,7 +287,8 @@ unfolding filesOf
 files-few s f = omega (arith, length-map encode (reelsOf (items s)), reeled s f .few)
 
 -- a buffer that is always long enough for an image
-pub room-in : (tape lengths out : List ℕ) → Bytes tape → tapeVerdict tape lengths .number ≡ 0 → length (imageOf tape lengths) ≤ mostImage
+pub room-in : (tape lengths out : List ℕ) → Bytes tape → tapeVerdict tape lengths .number ≡ 0
+    → length (imageOf tape lengths) ≤ mostImage
     → 5 + length tape ≤ length out → fromSimh tape lengths out .verdict ≡ verdict 0 0 0
 room-in tape lengths out b z m r = from-done tape lengths out sound m (omega (arith, shorter, whole)) .done
   where

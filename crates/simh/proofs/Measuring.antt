@@ -24,7 +24,7 @@ use Rattle.simh.specs.declared.import.Scan.{Scan}
 use Rattle.simh.specs.declared.import.Measure.{Measure}
 use Rattle.simh.specs.Tape.{decode}
 use Rattle.simh.specs.Set.{torn, reelVerdict, reelsVerdict, reelsIn, isFew, tapeVerdict}
-use Rattle.simh.specs.code.Passes.{itemsIn, Scanned, TapeMeasured}
+use Rattle.simh.specs.code.Passes.{itemsIn, DidScan, DidMeasure}
 use Rattle.simh.proofs.Reels.{reels-close, close-reels}
 use Rattle.simh.proofs.Sizes.{no-bytes}
 
@@ -106,7 +106,7 @@ module _ (tape lengths : List ℕ) (from item len i : ℕ) (m : Measuring tape l
       → item + length (take (from + getD lengths i 0 - from) (drop from tape)) < 18446744073709551616
   scan-fits f = omega (arith, m .counted, room, file-long tape from (getD lengths i 0) room)
 
-  module _ (r : Scan) (x : Scanned item (take (from + getD lengths i 0 - from) (drop from tape)) r) where
+  module _ (r : Scan) (x : DidScan item (take (from + getD lengths i 0 - from) (drop from tape)) r) where
     long : length (take (from + getD lengths i 0 - from) (drop from tape)) ≡ getD lengths i 0
     long = file-long tape from (getD lengths i 0) room
 
@@ -133,7 +133,7 @@ module _ (tape lengths : List ℕ) (from item len i : ℕ) (m : Measuring tape l
         }
 
     pub measured-torn : (v : Verdict) → r .torn ≡ true → v ≡ torn (r .item)
-        → TapeMeasured (reelsVerdict 0 (reelsIn tape lengths)) tape lengths (record { verdict = v; len = 0 })
+        → DidMeasure (reelsVerdict 0 (reelsIn tape lengths)) tape lengths (record { verdict = v; len = 0 })
     unfolding reelsVerdict torn verdict
     measured-torn v t e =
         let here : List ℕ = take (from + getD lengths i 0 - from) (drop from tape) in
@@ -150,7 +150,7 @@ module _ (tape lengths : List ℕ) (from item len i : ℕ) (m : Measuring tape l
 
 pub measured-all : (tape lengths : List ℕ) (from item len i : ℕ) (v : Verdict) → Measuring tape lengths from item len i
     → length lengths ≤ i
-    → v ≡ verdict 0 0 0 → TapeMeasured (reelsVerdict 0 (reelsIn tape lengths)) tape lengths (record { verdict = v; len = len })
+    → v ≡ verdict 0 0 0 → DidMeasure (reelsVerdict 0 (reelsIn tape lengths)) tape lengths (record { verdict = v; len = len })
 unfolding reelsVerdict
 measured-all tape lengths from item len i v m h e =
     let gone : reelsFrom tape lengths from i ≡ [] = reels-past tape lengths from i h in
@@ -170,15 +170,15 @@ sums-right b tape lengths e h = eqb-true (sum lengths) (length tape) (sym e ∙ 
 
 pub checked-sum : (b : Bool) (tape lengths : List ℕ) (v : Verdict) → b ≡ eqb (sum lengths) (length tape) → b ≡ false
     → v ≡ verdict 15 0 0
-    → TapeMeasured (tapeVerdict tape lengths) tape lengths (record { verdict = v; len = 0 })
+    → DidMeasure (tapeVerdict tape lengths) tape lengths (record { verdict = v; len = 0 })
 unfolding tapeVerdict verdict
 checked-sum b tape lengths v e h q =
     let said : v .number ≡ 15 = ap (λ (u : Verdict). u .number) q in
     record { said = q ∙ sym (if-false _ _ _ (sym e ∙ h)); bytes = λ z. absurd (omega arith) }
 
 module _ (b : Bool) (tape lengths : List ℕ) (m : Measure) (e : b ≡ eqb (sum lengths) (length tape)) (h : b ≡ true)
-    (x : TapeMeasured (reelsVerdict 0 (reelsIn tape lengths)) tape lengths m) where
-  pub checked-torn : (m .verdict .number ≡ 0 → ⊥) → TapeMeasured (tapeVerdict tape lengths) tape lengths m
+    (x : DidMeasure (reelsVerdict 0 (reelsIn tape lengths)) tape lengths m) where
+  pub checked-torn : (m .verdict .number ≡ 0 → ⊥) → DidMeasure (tapeVerdict tape lengths) tape lengths m
   unfolding tapeVerdict
   checked-torn z =
       record {
@@ -199,11 +199,11 @@ module _ (b : Bool) (tape lengths : List ℕ) (m : Measure) (e : b ≡ eqb (sum 
         (reels-close 0 (reelsIn tape lengths) (sym (ap (λ (v : Verdict). v .number) (x .said)) ∙ z))
 
     pub checked-few : (few : Bool) → few ≡ isFew (length lengths) → few ≡ true
-        → TapeMeasured (tapeVerdict tape lengths) tape lengths m
+        → DidMeasure (tapeVerdict tape lengths) tape lengths m
     checked-few few k l = record { said = zero ∙ sym (found ∙ if-true _ _ _ (sym k ∙ l)); bytes = x .bytes }
 
     pub checked-many : (few : Bool) (v : Verdict) → few ≡ isFew (length lengths) → few ≡ false → v ≡ verdict 2 0 0
-        → TapeMeasured (tapeVerdict tape lengths) tape lengths (record { verdict = v; len = 0 })
+        → DidMeasure (tapeVerdict tape lengths) tape lengths (record { verdict = v; len = 0 })
     unfolding verdict
     checked-many few v k l q =
         let said : v .number ≡ 2 = ap (λ (u : Verdict). u .number) q in

@@ -18,7 +18,7 @@ use Rattle.image.specs.declared.Shape.{Shape}
 use Rattle.image.specs.declared.Shape.the-variants.{Block, Mark, ReelEnd, Broken}
 use Rattle.simh.specs.Tape.{spanOf, shape, decode}
 use Rattle.simh.specs.Set.{mostItem, torn, reelVerdict}
-use Rattle.simh.specs.code.Passes.{Scanned}
+use Rattle.simh.specs.code.Passes.{DidScan}
 use Rattle.simh.proofs.Files.{block-at, block-within, mark-within, end-within, decode-past, decode-at, decode-block, decode-mark, decode-end, decode-broken}
 use Rattle.simh.proofs.Sizes.{no-bytes, image-block, image-mark, image-end}
 
@@ -87,7 +87,7 @@ module _ (first : ℕ) (s : List ℕ) (at item len : ℕ) (p : Shape) (w : Scann
       }
 
   -- the end of the medium: bytes behind it are wrong
-  pub scanned-end : p ≡ ReelEnd → Scanned first s (record { torn = ltb (at + 4) (length s); item = item + 1; len = len + 3 })
+  pub scanned-end : p ≡ ReelEnd → DidScan first s (record { torn = ltb (at + 4) (length s); item = item + 1; len = len + 3 })
   unfolding reelVerdict
   scanned-end q =
       let there : shape (drop at s) ≡ ReelEnd = sym e ∙ q in
@@ -107,7 +107,7 @@ module _ (first : ℕ) (s : List ℕ) (at item len : ℕ) (p : Shape) (w : Scann
         less = omega (arith, w .short);
       }
 
-  pub scanned-broken : p ≡ Broken → Scanned first s (record { torn = true; item = item; len = len })
+  pub scanned-broken : p ≡ Broken → DidScan first s (record { torn = true; item = item; len = len })
   unfolding reelVerdict
   scanned-broken q =
       record {
@@ -121,7 +121,7 @@ module _ (first : ℕ) (s : List ℕ) (at item len : ℕ) (p : Shape) (w : Scann
 
 -- no end of the medium
 pub scanned-open : (first : ℕ) (s : List ℕ) (at item len : ℕ) → Scanning first s at item len → length s ≤ at
-    → Scanned first s (record { torn = true; item = item; len = len })
+    → DidScan first s (record { torn = true; item = item; len = len })
 unfolding reelVerdict
 scanned-open first s at item len w h =
     record {

@@ -20,7 +20,7 @@ use Rattle.image.proofs.Items.{block-at, block-within, block-fits, decode-past,
 use Rattle.image.proofs.Frames.{FramedUpTo, walked-none, walked-block, walked-mark, walked-reel-end, walked-full, walked-broken, walked-closed, walked-open, opens-small, framing-opened, framing-shut}
 use Rattle.simh.specs.declared.export.Size.{Size}
 use Rattle.simh.specs.Tape.{spanOf, encode}
-use Rattle.simh.specs.code.Passes.{lengthsFrom, ImageSized, wrongItem, sizeOf}
+use Rattle.simh.specs.code.Passes.{lengthsFrom, DidSize, wrongItem, sizeOf}
 use Rattle.simh.proofs.Lengths.{lengths-alike}
 use Rattle.simh.proofs.Sizes.{no-file, file-block, file-mark, file-end}
 
@@ -93,7 +93,7 @@ module _ (s : List ℕ) (at n r : ℕ) (closed : Bool) (len : ℕ) (p : Shape) (
 
 -- an answer that is a refusal tells nothing of a size
 sized-refused : (s : List ℕ) (z : Size) (n : ℕ) → z ≡ wrongItem n → z .verdict ≡ framedFrom 0 0 false (items s)
-    → ImageSized (framedFrom 0 0 false (items s)) s z
+    → DidSize (framedFrom 0 0 false (items s)) s z
 unfolding wrongItem verdict
 sized-refused s z n e a =
     let two : z .verdict .number ≡ 2 = ap (λ (y : Size). y .verdict .number) e in
@@ -104,25 +104,25 @@ unfolding wrongItem
 answer-of z n e = ap (λ (y : Size). y .verdict) e
 
 module _ (s : List ℕ) (at n r : ℕ) (closed : Bool) (len : ℕ) (w : Sizing s at n r closed len) where
-  pub sized-full : (z : Size) → z ≡ wrongItem n → at < length s → r ≡ mostReels → ImageSized (framedFrom 0 0 false (items s)) s z
+  pub sized-full : (z : Size) → z ≡ wrongItem n → at < length s → r ≡ mostReels → DidSize (framedFrom 0 0 false (items s)) s z
   sized-full z e h q = sized-refused s z n e (walked-full s _ at n r closed (z .verdict) (answer-of z n e) (w .walked) h q)
 
   pub sized-broken : (p : Shape) (z : Size) → z ≡ wrongItem n → at < length s → p ≡ shape (drop at s) → p ≡ Broken
-      → ImageSized (framedFrom 0 0 false (items s)) s z
+      → DidSize (framedFrom 0 0 false (items s)) s z
   sized-broken p z e h k q =
       sized-refused s z n e (walked-broken s _ at n r closed p (z .verdict) (answer-of z n e) (w .walked) h k q)
 
-  pub sized-open : (z : Size) → z ≡ wrongItem n → length s ≤ at → closed ≡ false → ImageSized (framedFrom 0 0 false (items s)) s z
+  pub sized-open : (z : Size) → z ≡ wrongItem n → length s ≤ at → closed ≡ false → DidSize (framedFrom 0 0 false (items s)) s z
   sized-open z e h q = sized-refused s z n e (walked-open s _ at n r closed (z .verdict) (answer-of z n e) (w .walked) h q)
 
   pub sized-closed : (z : Size) → z ≡ sizeOf len r → length s ≤ at → closed ≡ true
-      → ImageSized (framedFrom 0 0 false (items s)) s z
+      → DidSize (framedFrom 0 0 false (items s)) s z
   unfolding sizeOf verdict lengthsFrom
   sized-closed z e h q =
       let gone : decode (drop at s) ≡ [] = decode-past s at h in
       let none = ap (λ (ys : List Item). length (encode ys)) gone ∙ no-file in
       let over = ap (λ (ys : List Item). length (lengthsFrom 0 ys)) gone in
-      subst (ImageSized (framedFrom 0 0 false (items s)) s) (sym e)
+      subst (DidSize (framedFrom 0 0 false (items s)) s) (sym e)
       (record {
         said = walked-closed s _ at n r closed (verdict 0 0 0) refl (w .walked) h q;
         bytes = λ _. omega (arith, w .bytes);
@@ -143,12 +143,12 @@ pub ruleset sizes =
 
 -- ---- any image
 
-pub framed-opened : (s : List ℕ) (b : Bool) (z : Size) → b ≡ opens s → b ≡ true → ImageSized (framedFrom 0 0 false (items s)) s z
-    → ImageSized (framing s) s z
+pub framed-opened : (s : List ℕ) (b : Bool) (z : Size) → b ≡ opens s → b ≡ true → DidSize (framedFrom 0 0 false (items s)) s z
+    → DidSize (framing s) s z
 framed-opened s b z e h x = record { said = x .said ∙ sym (framing-opened s (sym e ∙ h)); bytes = x .bytes; reels = x .reels }
 
 pub framed-shut : (s : List ℕ) (b : Bool) (v : Verdict) → b ≡ opens s → b ≡ false → v ≡ framing s
-    → ImageSized (framing s) s (record { verdict = v; len = 0; files = 0 })
+    → DidSize (framing s) s (record { verdict = v; len = 0; files = 0 })
 framed-shut s b v e h q =
     let wrong : v .number ≡ 0 → ⊥ = λ z. framing-shut s (sym e ∙ h) (sym (ap (λ (u : Verdict). u .number) q) ∙ z) in
     record { said = q; bytes = λ z. absurd (wrong z); reels = λ z. absurd (wrong z) }

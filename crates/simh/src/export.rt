@@ -8,7 +8,7 @@ ghost use Rattle.base.specs.Part.{putAt};
 ghost use Rattle.image.specs.Framing.{mostImage, framedFrom, items, framing};
 ghost use Rattle.simh.specs.Tape.{encode};
 ghost use Rattle.simh.specs.Set.{Converts, toSimh};
-ghost use Rattle.simh.specs.code.Passes.{ImageSized, FilesFit, wrongItem, sizeOf, shortOf, lengthsFrom};
+ghost use Rattle.simh.specs.code.Passes.{DidSize, FilesFit, wrongItem, sizeOf, shortOf, lengthsFrom};
 use crate::put::put_four;
 use crate::put::put_record;
 use crate::tape::END_WORD;
@@ -69,7 +69,7 @@ fn good(len: usize, files: usize) -> Size
 // The items of an image that opens as one.
 fn size_of_items(image: &[u8]) -> Size
     requires { ⌜ length (now image) ≤ mostImage ⌝ }
-    ensures { λ r. ⌜ ImageSized (framedFrom 0 0 false (items (now (image .entry)))) (now (image .entry)) r ⌝ }
+    ensures { λ r. ⌜ DidSize (framedFrom 0 0 false (items (now (image .entry)))) (now (image .entry)) r ⌝ }
 {
     let mut at: usize = 5;
     let mut item: u32 = 0;
@@ -111,7 +111,7 @@ fn size_of_items(image: &[u8]) -> Size
 
 // The framing of an image, and the size of its files.
 fn size_of_image(image: &[u8]) -> Size
-    ensures { λ r. ⌜ ImageSized (framing (now (image .entry))) (now (image .entry)) r ⌝ }
+    ensures { λ r. ⌜ DidSize (framing (now (image .entry))) (now (image .entry)) r ⌝ }
 {
     if image::opens(image) {
         return size_of_items(image);

@@ -9,7 +9,7 @@ ghost use Rattle.base.specs.Answer.{verdict};
 ghost use Rattle.image.specs.Item.{encode as imageBytes};
 ghost use Rattle.output.specs.Output.{AnswersAt};
 ghost use Rattle.simh.specs.Set.{torn, reelsVerdict, reelsIn, isFew, tapeVerdict, fromSimh};
-ghost use Rattle.simh.specs.code.Passes.{Scanned, TapeMeasured, FittingItems, Storable, itemsIn};
+ghost use Rattle.simh.specs.code.Passes.{DidScan, DidMeasure, FittingItems, Storable, itemsIn};
 ghost use Rattle.simh.specs.Tape.{decode};
 use crate::put::put_block;
 use crate::put::put_three;
@@ -47,7 +47,7 @@ pub struct Scan {
 // One file, whose first item has this number.
 fn scan_reel(reel: &[u8], first: usize) -> Scan
     requires { ⌜ first + length (now reel) < 18446744073709551616 ⌝ }
-    ensures { λ r. ⌜ Scanned first (now (reel .entry)) r ⌝ }
+    ensures { λ r. ⌜ DidScan first (now (reel .entry)) r ⌝ }
 {
     let mut at: usize = 0;
     let mut item = first;
@@ -125,7 +125,7 @@ pub struct Measure {
 // All files, which their lengths tell.
 fn measure_reels(tape: &[u8], lengths: &[u64]) -> Measure
     requires { ⌜ sum (now lengths) ≡ length (now tape) ⌝ }
-    ensures { λ r. ⌜ TapeMeasured (reelsVerdict 0 (reelsIn (now (tape .entry)) (now (lengths .entry)))) (now (tape .entry)) (now (lengths .entry)) r ⌝ }
+    ensures { λ r. ⌜ DidMeasure (reelsVerdict 0 (reelsIn (now (tape .entry)) (now (lengths .entry)))) (now (tape .entry)) (now (lengths .entry)) r ⌝ }
 {
     let mut from: usize = 0;
     let mut item: usize = 0;
@@ -160,7 +160,7 @@ fn is_few(n: usize) -> bool
 
 // 15 for the lengths, then for what stands in the files, then 2.
 fn check(tape: &[u8], lengths: &[u64]) -> Measure
-    ensures { λ r. ⌜ TapeMeasured (tapeVerdict (now (tape .entry)) (now (lengths .entry))) (now (tape .entry)) (now (lengths .entry)) r ⌝ }
+    ensures { λ r. ⌜ DidMeasure (tapeVerdict (now (tape .entry)) (now (lengths .entry))) (now (tape .entry)) (now (lengths .entry)) r ⌝ }
 {
     if add_up_to(lengths, tape.len()) {
         let m = measure_reels(tape, lengths);

@@ -11,6 +11,7 @@ use lib.ListN.{length}
 use Rattle.base.specs.If.{ifB}
 use Rattle.base.proofs.Ifs.{if-true, if-false, if-case, ap-if, so-true, so-false}
 use Rattle.base.specs.Part.{part}
+use Rattle.base.proofs.Parts.{part-part}
 use Rattle.base.proofs.Faults.{or-second}
 use Rattle.base.specs.Answer.{fault, orElse}
 use Rattle.base.specs.declared.Fault.{Fault}
@@ -24,18 +25,19 @@ use Rattle.label.specs.Judged.{labelFault}
 use Rattle.block.specs.declared.Outcome.{Outcome}
 use Rattle.volume.specs.declared.Reading.{Reading}
 use Rattle.volume.specs.State.{State}
-use Rattle.volume.specs.Fault.{outcomeIn, volumeFault, contextFault, itemFault}
+use Rattle.volume.specs.Fault.{namesAt, outcomeIn, volumeFault, contextFault, itemFault}
 use Rattle.volume.specs.Step.{stateAfter, volumesAfter, filesAfter, continuesAfter, hdr1After, hdr2After, countAfter, pendingAfter}
-use Rattle.volume.specs.code.Place.{labelAt, namesAt, contents}
-use Rattle.volume.specs.code.Walk.{LabelSized, ReadingBehind}
+use Rattle.volume.specs.code.Place.{labelAt, contents}
+use Rattle.volume.specs.code.Walk.{LabelSized, DidRead}
 use Rattle.volume.proofs.Faults.{length-names}
 
 -- ---- field by field
 
-names-append : (s places : List ℕ) (a : ℕ) → namesAt s (places ++ (a ∷ [])) ≡ namesAt s places ++ (volumeOf (labelAt s a) ∷ [])
+-- one place more is one name more
+pub names-append : (s places : List ℕ) (a : ℕ) → namesAt s (places ++ (a ∷ [])) ≡ namesAt s places ++ (part a 6 s ∷ [])
 unfolding namesAt
 names-append s [] a = refl
-names-append s (x ∷ places) a = ap (λ (l : List (List ℕ)). volumeOf (labelAt s x) ∷ l) (names-append s places a)
+names-append s (x ∷ places) a = ap (λ (l : List (List ℕ)). part x 6 s ∷ l) (names-append s places a)
 
 label-sized : (s : List ℕ) (start len : ℕ) → len ≡ 80 → labelAt s start ≡ part start len s
 unfolding labelAt
@@ -51,11 +53,12 @@ label-after s t start len kept z =
 
 -- the volume identifiers, with one more
 names-kept : (s volumes : List ℕ) (start len : ℕ) (t : Bool) → (t ≡ true → len ≡ 80)
-    → namesAt s (ifB t (volumes ++ (start ∷ [])) volumes)
+    → namesAt s (ifB t (volumes ++ ((start + 4) ∷ [])) volumes)
     ≡ ifB t (namesAt s volumes ++ (volumeOf (part start len s) ∷ [])) (namesAt s volumes)
-unfolding ifB
+unfolding ifB volumeOf
 names-kept s volumes start len true z =
-    names-append s volumes start ∙ ap (λ (l : List ℕ). namesAt s volumes ++ (volumeOf l ∷ [])) (label-sized s start len (z refl))
+    names-append s volumes (start + 4)
+    ∙ ap (λ (l : List ℕ). namesAt s volumes ++ (l ∷ [])) (sym (part-part start 4 6 len s (omega (arith, z refl))))
 names-kept s volumes start len false z = refl
 
 -- ---- the whole state
@@ -71,12 +74,13 @@ pub contents-after : (s : List ℕ) (st : Reading) (p : Phase) (k : Kind) (start
     → count ≡ ifB (isKind k dataBlock) (st .count + 1) (ifB (isKind k (hdr 1)) 0 (st .count))
     → pending ≡ ifB (isKind k dataBlock) (outcomeIn (labelAt s (st .hdr2)) (st .pending) (part start len s) .pending)
     (st .pending)
-    → contents s (ifB (isKind k (vol 1)) (volumes ++ (start ∷ [])) volumes)
+    → contents s (ifB (isKind k (vol 1)) (volumes ++ ((start + 4) ∷ [])) volumes)
     (record { hdr1 = first; hdr2 = second; count = count; pending = pending; files = files; phase = p; continues = continues })
     ≡ stateAfter (contents s volumes st) p k (part start len s)
 unfolding contents stateAfter volumesAfter filesAfter continuesAfter hdr1After hdr2After countAfter pendingAfter
 contents-after s st p k start len files first second count pending continues volumes z ef eo e1 e2 ec ep =
-    let a : namesAt s (ifB (isKind k (vol 1)) (volumes ++ (start ∷ [])) volumes) ≡ ifB (isKind k (vol 1)) (namesAt s volumes ++ (volumeOf (part start len s) ∷ [])) (namesAt s volumes)
+    let a : namesAt s (ifB (isKind k (vol 1)) (volumes ++ ((start + 4) ∷ [])) volumes)
+    ≡ ifB (isKind k (vol 1)) (namesAt s volumes ++ (volumeOf (part start len s) ∷ [])) (namesAt s volumes)
     = names-kept s volumes start len (isKind k (vol 1)) (z .volume) in
     let b : labelAt s first ≡ ifB (isKind k (hdr 1)) (part start len s) (labelAt s (st .hdr1))
     = ap (labelAt s) e1 ∙ label-after s (isKind k (hdr 1)) start len (st .hdr1) (z .hdr1) in
@@ -98,7 +102,7 @@ pub behind-made : (s : List ℕ) (st : Reading) (p : Phase) (k : Kind) (start le
     → count ≡ ifB (isKind k dataBlock) (st .count + 1) (ifB (isKind k (hdr 1)) 0 (st .count))
     → pending ≡ ifB (isKind k dataBlock) (outcomeIn (labelAt s (st .hdr2)) (st .pending) (part start len s) .pending)
     (st .pending)
-    → ReadingBehind s st p k start len
+    → DidRead s st p k start len
     (record { hdr1 = first; hdr2 = second; count = count; pending = pending; files = files; phase = p; continues = continues })
 behind-made s st p k start len files first second count pending continues z ef eo e1 e2 ec ep =
     record {
@@ -132,10 +136,12 @@ names-room names l =
     (λ _ h. absurd (eqb-false 2 0 refl h)) (λ e _. leb-false mostReels (length names) e)
 
 -- so one without fault is at most the sixteenth
-pub room-for-name : (s volumes : List ℕ) (st : Reading) (k : Kind) (l : List ℕ) → itemFault (contents s volumes st) k l .number ≡ 0
+pub room-for-name : (s volumes : List ℕ) (st : Reading) (k : Kind) (l : List ℕ)
+    → itemFault (contents s volumes st) k l .number ≡ 0
     → isKind k (vol 1) ≡ true → length volumes < mostReels
 unfolding itemFault contextFault isKind ifB contents
 room-for-name s volumes st k l z v =
-    let here : itemFault (contents s volumes st) (vol 1) l .number ≡ 0 = subst (λ (j : Kind). itemFault (contents s volumes st) j l .number ≡ 0) (kind-is k (vol 1) v) z in
+    let here : itemFault (contents s volumes st) (vol 1) l .number ≡ 0
+    = subst (λ (j : Kind). itemFault (contents s volumes st) j l .number ≡ 0) (kind-is k (vol 1) v) z in
     let few : length (namesAt s volumes) < 16 = names-room _ l (or-second (labelFault (vol 1) l) (volumeFault _ l) here) in
     omega (arith, length-names s volumes)

@@ -34,7 +34,7 @@ use Rattle.volume.specs.State.{State}
 use Rattle.volume.specs.Fault.{valueOf, outcomeIn, blockFault, contextFault, itemFault}
 use Rattle.volume.specs.Step.{Event, Next, go, step, ordered, judged, kindIn, bytesIn, isDue, stateAfter, eventsOf, volumesAfter, filesAfter, continuesAfter, hdr1After, hdr2After, countAfter, pendingAfter}
 use Rattle.volume.specs.code.Told.{toldFrom}
-use Rattle.volume.specs.code.Body.{body, Given, PlaceInside, toldBetween, Skipped, between}
+use Rattle.volume.specs.code.Body.{body, Given, PlaceInside, toldBetween, DidSkip, between}
 use Rattle.volume.proofs.Runs.{told-go}
 
 -- a data block has the fault of its units and turns, and no other
@@ -53,14 +53,14 @@ step-block t count pending l h =
 -- ---- the loop over blocks
 
 pub skip-none : (s : List ℕ) (h : Lengths) (at item count pending : ℕ) → PlaceInside s at item count
-    → Skipped s h (between at item count pending) (between at item count pending)
+    → DidSkip s h (between at item count pending) (between at item count pending)
 skip-none s h at item count pending i = record { same = λ t g. refl; onward = le-refl at; passed = le-refl item; inside = i }
 
 -- what the code found of a block is what the section's HDR2 makes of it
 outcome-given : (h : Lengths) (second : List ℕ) (pending : ℕ) (l : List ℕ) → Given h second
-    → blockOutcome (h .format) (h .block) (h .size) (h .offset) pending l ≡ outcomeIn second pending l
+    → blockOutcome (h .format) (h .block) (h .«record_length») (h .offset) pending l ≡ outcomeIn second pending l
 unfolding outcomeIn
-outcome-given h second pending l g = cc (g .format, g .block, g .size, g .offset)
+outcome-given h second pending l g = cc (g .format, g .block, g .«record_length», g .offset)
 
 -- a block of n bytes stands at a place, as the code tells it
 pub record BlockStands (s : List ℕ) (at n : ℕ) : Type 0 where
@@ -74,18 +74,18 @@ pub block-ends : (s : List ℕ) (at n : ℕ) → n ≡ blockLength (shape (drop 
 block-ends s at n e h = block-at s at n e h .within
 
 pub skip-block : (s : List ℕ) (h : Lengths) (a : Between) (at item count pending n : ℕ) (o : Outcome)
-    → Skipped s h a (between at item count pending) → n ≡ blockLength (shape (drop at s)) → (n ≡ 0 → ⊥)
-    → o ≡ blockOutcome (h .format) (h .block) (h .size) (h .offset) pending (take (at + 3 + n - (at + 3)) (drop (at + 3) s))
+    → DidSkip s h a (between at item count pending) → n ≡ blockLength (shape (drop at s)) → (n ≡ 0 → ⊥)
+    → o ≡ blockOutcome (h .format) (h .block) (h .«record_length») (h .offset) pending (take (at + 3 + n - (at + 3)) (drop (at + 3) s))
     → o .number ≡ 0
-    → Skipped s h a (between (at + 3 + n) (item + 1) (count + 1) (o .pending))
+    → DidSkip s h a (between (at + 3 + n) (item + 1) (count + 1) (o .pending))
 unfolding toldBetween
 skip-block s h a at item count pending n o k e f q z =
     let b = block-at s at n e f in
     let w : at + 3 + n ≤ length s = b .within in
     let i : PlaceInside s at item count = k .inside in
     let l : List ℕ = part (at + 3) n s in
-    let made : o ≡ blockOutcome (h .format) (h .block) (h .size) (h .offset) pending l
-    = q ∙ ap (blockOutcome (h .format) (h .block) (h .size) (h .offset) pending) (part-within (at + 3) n s) in
+    let made : o ≡ blockOutcome (h .format) (h .block) (h .«record_length») (h .offset) pending l
+    = q ∙ ap (blockOutcome (h .format) (h .block) (h .«record_length») (h .offset) pending) (part-within (at + 3) n s) in
     record {
       same = λ t g.
           k .same t g

@@ -7,19 +7,17 @@ use Prim.Native.Nat.{ℕ, _+_}
 use lib.Dec.{eqb}
 use Rattle.base.specs.If.{ifB}
 use Rattle.base.proofs.Ifs.{if-true, if-false}
-use Rattle.base.specs.Part.{same}
 use Rattle.base.specs.Answer.{fault, orElse}
-use Rattle.base.proofs.Bytes.{same-is}
+use Rattle.base.proofs.Bytes.{same-is, same-second}
 use Rattle.base.specs.declared.Fault.{Fault}
 use Rattle.block.specs.Turn.{blockOutcome}
 use Rattle.block.specs.declared.Outcome.{Outcome}
 use Rattle.charset.specs.declared.Number.{Number}
 use Rattle.charset.specs.declared.Number.the-variants.{Value, Wrong}
-use Rattle.label.specs.Field.{volumeOf}
 use Rattle.label.specs.Judged.{labelFault}
 use Rattle.order.specs.declared.Kind.{Kind}
-use Rattle.volume.specs.Fault.{says, valueOf, lower, crossed, contextFault, itemFault}
-use Rattle.volume.specs.code.Place.{contents, labelAt, namesAt}
+use Rattle.volume.specs.Fault.{namesAt, says, valueOf, lower, crossed, contextFault, itemFault}
+use Rattle.volume.specs.code.Place.{contents, labelAt}
 use Rattle.volume.specs.declared.Reading.{Reading}
 use Rattle.volume.proofs.Faults.{value-some, value-none}
 
@@ -60,9 +58,6 @@ pub outcome-is : (r : Outcome) (f b n o g c m p : ℕ) (pending : ℕ) (l : List
     → o ≡ p → r ≡ blockOutcome g c m p pending l
 outcome-is r f b n o g c m p pending l e h i j k = cc
 
-pub same-volume : (r : Bool) (v x y z : List ℕ) → r ≡ same v x → x ≡ volumeOf y → y ≡ z → r ≡ same v (volumeOf z)
-same-volume r v x y z e f g = cc
-
 pub item-is : (r a b : Fault) (image places first second : List ℕ) (st : Reading) (k : Kind) (l : List ℕ) → r ≡ orElse a b
     → a ≡ labelFault k l
     → b ≡ contextFault (record {
@@ -84,4 +79,4 @@ unfolding fault
 number-is o p e = λ i. record { number = e i .number; byte = 0 }
 
 pub ruleset composed =
-    (says-value, says-wrong, value-some, value-none, same-volume, item-is, number-is, value-is, crossed-is, lower-is, or-else-is, same-is, section-then, section-else, outcome-is)
+    (says-value, says-wrong, value-some, value-none, same-second, item-is, number-is, value-is, crossed-is, lower-is, or-else-is, same-is, section-then, section-else, outcome-is)

@@ -12,14 +12,13 @@ use lib.ListN.{length, drop, getD, drop-of-length-le}
 use lib.Seq.{drop-cons}
 use Rattle.base.specs.If.{ifB}
 use Rattle.base.proofs.Ifs.{if-true, if-false, so-true, so-false}
-use Rattle.base.specs.Part.{same}
+use Rattle.base.specs.Part.{part, same}
 use Rattle.base.specs.Answer.{fault}
 use Rattle.base.specs.declared.Fault.{Fault}
 use Rattle.charset.specs.declared.Number.{Number}
 use Rattle.charset.specs.declared.Number.the-variants.{Value, Wrong}
 use Rattle.label.specs.Field.{volumeOf}
-use Rattle.volume.specs.Fault.{says, valueOf, isAmong, crossed, volumeFault}
-use Rattle.volume.specs.code.Place.{labelAt, namesAt}
+use Rattle.volume.specs.Fault.{namesAt, says, valueOf, isAmong, crossed, volumeFault}
 
 -- ---- a choice, at the branch that the code took
 
@@ -56,7 +55,7 @@ pub record Searched (s v places : List ℕ) (i : ℕ) : Type 0 where
 -- the place at i, and those behind it
 names-at : (s v places : List ℕ) (i : ℕ) → i < length places
     → isAmong v (namesAt s (drop i places))
-    ≡ ifB (same v (volumeOf (labelAt s (getD places i 0)))) true (isAmong v (namesAt s (drop (i + 1) places)))
+    ≡ ifB (same v (part (getD places i 0) 6 s)) true (isAmong v (namesAt s (drop (i + 1) places)))
 unfolding isAmong namesAt
 names-at s v places i h = rw (add-one, drop-cons places i 0 h)
 
@@ -64,12 +63,12 @@ pub searched-none : (s v places : List ℕ) → Searched s v places 0
 searched-none s v places = record { within = omega arith; left = refl }
 
 pub searched-more : (s v places : List ℕ) (i : ℕ) (b : Bool) → Searched s v places i → i < length places
-    → b ≡ same v (volumeOf (labelAt s (getD places i 0))) → b ≡ false → Searched s v places (i + 1)
+    → b ≡ same v (part (getD places i 0) 6 s) → b ≡ false → Searched s v places (i + 1)
 searched-more s v places i b c h e f =
     record { within = omega arith; left = sym (names-at s v places i h ∙ if-false _ _ _ (sym e ∙ f)) ∙ c .left }
 
 pub searched-found : (s v places : List ℕ) (i : ℕ) (b : Bool) → Searched s v places i → i < length places
-    → b ≡ same v (volumeOf (labelAt s (getD places i 0))) → b ≡ true → true ≡ isAmong v (namesAt s places)
+    → b ≡ same v (part (getD places i 0) 6 s) → b ≡ true → true ≡ isAmong v (namesAt s places)
 searched-found s v places i b c h e f = sym (names-at s v places i h ∙ if-true _ _ _ (sym e ∙ f)) ∙ c .left
 
 pub searched-all : (s v places : List ℕ) (i : ℕ) → Searched s v places i → length places ≤ i

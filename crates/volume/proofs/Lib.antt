@@ -7,4 +7,6 @@ pub mod Afters
 pub mod Faults
 mod Composed
 pub mod Walks
+pub mod WalkItems
+pub mod WholeWalks
 pub mod Reels

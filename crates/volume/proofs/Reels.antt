@@ -166,7 +166,7 @@ length-names s k l =
 -- ---- one item
 
 -- from item x on the framing is that from the next one on, in the state behind it
-record Onward (n : ℕ) (s : State) (x : Item) (xs : List Item) (t : State) : Type 0 where
+record FramedOn (n : ℕ) (s : State) (x : Item) (xs : List Item) (t : State) : Type 0 where
   pub framed : framedIn n s (x ∷ xs) ≡ framedIn (n + 1) t xs
   pub next : Reels (t .phase) (length (t .volumes))
 
@@ -180,7 +180,8 @@ item-on s k l q h e i d z =
     (passed-on (s .phase) q (length (s .volumes)) (isKind k (vol 1)) h
     (λ v. sym (if-false _ _ _ (or-false _ _ i v)) ∙ due-stands (s .phase) k q d) (outside-volume (s .phase) k q d)
     (λ v. volume-few s l (subst (λ (j : Kind). itemFault s j l .number ≡ 0) (kind-is k (vol 1) v) z))
-    (ap (λ (x : Seen). x .inside) (due-seen (s .phase) k q d) ∙ ap not (or-false _ _ e i)) (due-goes (s .phase) k q (h .numbered) d .numbered))
+    (ap (λ (x : Seen). x .inside) (due-seen (s .phase) k q d) ∙ ap not (or-false _ _ e i))
+    (due-goes (s .phase) k q (h .numbered) d .numbered))
 
 -- what is left behind it
 passed-framed : (n : ℕ) (xs : List Item) (p q : Phase) (m o : ℕ) → Passed p q m o
@@ -188,7 +189,7 @@ passed-framed : (n : ℕ) (xs : List Item) (p q : Phase) (m o : ℕ) → Passed 
 passed-framed n xs p q m o on = ap₂ (λ (r : ℕ) (c : Bool). framedFrom n r c xs) (on .ended) (sym (on .still))
 
 onward : (n : ℕ) (s : State) (x : Item) (xs : List Item) (p : Phase) → Reels (s .phase) (length (s .volumes)) → Faultless s x p
-    → Onward n s x xs (stateBehind s x p)
+    → FramedOn n s x xs (stateBehind s x p)
 unfolding framedIn kindIn bytesIn stateAfter isKind volumesAfter ifB
 onward n s (block l) xs p h f =
     let k : Kind = kindIn (s .phase) (block l) in
@@ -240,7 +241,7 @@ told-all n s (x ∷ xs) h =
     by-step (λ (r : Next). toldNext n s (x ∷ xs) r (λ t. toldFrom (n + 1) t xs)
     ≡ framedOr n s (x ∷ xs) (answerOf n (next r (λ t. runs t xs)))) s x
     (λ p f.
-    let on : Onward n s x xs (stateBehind s x p) = onward n s x xs p h f in
+    let on : FramedOn n s x xs (stateBehind s x p) = onward n s x xs p h f in
     told-all (n + 1) (stateBehind s x p) xs (on .next)
     ∙ ap (λ (f : Verdict). ifB (eqb (f .number) 0) (answerOf (n + 1) (runs (stateBehind s x p) xs)) f) (sym (on .framed))
     ∙ ap (framedOr n s (x ∷ xs)) (sym (answer-further n _ (runs (stateBehind s x p) xs))))

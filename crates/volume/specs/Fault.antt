@@ -51,6 +51,11 @@ unfoldable pub isAmong : List ℕ → List (List ℕ) → Bool
 isAmong v [] = false
 isAmong v (u ∷ us) = ifB (same v u) true (isAmong v us)
 
+-- the names at some places
+unfoldable pub namesAt : List ℕ → List ℕ → List (List ℕ)
+namesAt s [] = []
+namesAt s (a ∷ places) = part a 6 s ∷ namesAt s places
+
 -- A 17th reel is 2 by the framing, before any item is read; the same number here bounds the names that reading has to keep.
 unfoldable pub volumeFault : List (List ℕ) → List ℕ → Fault
 volumeFault names l =

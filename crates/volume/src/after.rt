@@ -7,7 +7,7 @@ ghost use Rattle.base.specs.Part.{part};
 ghost use Rattle.order.specs.Kind.{hdr, eov, eof, dataBlock, isKind};
 ghost use Rattle.volume.specs.Fault.{outcomeIn};
 ghost use Rattle.volume.specs.code.Place.{labelAt};
-ghost use Rattle.volume.specs.code.Walk.{LabelSized, Small, ReadingBehind};
+ghost use Rattle.volume.specs.code.Walk.{LabelSized, Small, DidRead};
 use crate::Reading;
 use crate::fault::outcome_in;
 use base::part_of;
@@ -103,7 +103,7 @@ pub(crate) fn reading_after(
 ) -> Reading
     requires { ⌜ LabelSized k len ⌝ }
     requires { ⌜ Small st ⌝ }
-    ensures { λ r. ⌜ ReadingBehind (now (image .entry)) st p k start len r ⌝ }
+    ensures { λ r. ⌜ DidRead (now (image .entry)) st p k start len r ⌝ }
 {
     Reading {
         hdr1: header_after(st.hdr1, k, 1, start),

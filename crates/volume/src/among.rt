@@ -1,12 +1,13 @@
-// The labels that reading has kept by their places, and the volume identifiers among them. It knows no rule of a label.
+// Labels and names of volumes by their places. It knows no rule of a label.
 ghost use mathlib.Core.Path.{_≡_};
-ghost use Rattle.base.specs.Part.{same};
-ghost use Rattle.label.specs.Field.{volumeOf};
-ghost use Rattle.volume.specs.Fault.{isAmong};
-ghost use Rattle.volume.specs.code.Place.{labelAt, namesAt};
+ghost use Rattle.base.specs.Part.{part, same};
+ghost use Rattle.volume.specs.Fault.{isAmong, namesAt};
+ghost use Rattle.volume.specs.code.Place.{labelAt};
 use base::equal;
 use base::part_of;
-use label::volume_of;
+
+// The bytes of a volume's name.
+pub const NAME: usize = 6;
 
 // The label at a place of the image.
 pub(crate) fn label_at(image: &[u8], at: usize) -> &[u8]
@@ -15,20 +16,20 @@ pub(crate) fn label_at(image: &[u8], at: usize) -> &[u8]
     part_of(image, at, 80)
 }
 
-// Whether v is the volume identifier of the label at a place.
-fn is_volume_at(image: &[u8], at: usize, v: &[u8]) -> bool
-    ensures { λ r. ⌜ r ≡ same (now (v .entry)) (volumeOf (labelAt (now (image .entry)) at)) ⌝ }
+// Whether v is the name at a place.
+fn is_name_at(bytes: &[u8], at: usize, v: &[u8]) -> bool
+    ensures { λ r. ⌜ r ≡ same (now (v .entry)) (part at 6 (now (bytes .entry))) ⌝ }
 {
-    equal(v, volume_of(label_at(image, at)))
+    equal(v, part_of(bytes, at, NAME))
 }
 
-// Whether v is the volume identifier of a label at one of the places.
-pub(crate) fn is_among(image: &[u8], places: &[usize], v: &[u8]) -> bool
-    ensures { λ r. ⌜ r ≡ isAmong (now (v .entry)) (namesAt (now (image .entry)) (now (places .entry))) ⌝ }
+// Whether v is the name at one of the places.
+pub fn is_among(bytes: &[u8], places: &[usize], v: &[u8]) -> bool
+    ensures { λ r. ⌜ r ≡ isAmong (now (v .entry)) (namesAt (now (bytes .entry)) (now (places .entry))) ⌝ }
 {
     let mut i = 0;
     while i < places.len() {
-        if is_volume_at(image, places[i], v) {
+        if is_name_at(bytes, places[i], v) {
             return true;
         }
         i += 1;

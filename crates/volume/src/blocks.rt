@@ -2,7 +2,7 @@
 // HDR2 gives.
 ghost use mathlib.Core.Path.{_≡_};
 ghost use Rattle.block.specs.Turn.{blockOutcome};
-ghost use Rattle.volume.specs.code.Body.{PlaceInside, Skipped};
+ghost use Rattle.volume.specs.code.Body.{PlaceInside, DidSkip};
 use base::SEGMENTED;
 use base::VARIABLE;
 use block::Outcome;
@@ -15,7 +15,7 @@ use image::block_length_at;
 pub struct Lengths {
     pub format: u8,
     pub block: usize,
-    pub size: u32,
+    pub record_length: u32,
     pub offset: usize,
 }
 
@@ -30,11 +30,11 @@ pub struct Between {
 // The answer on a data block. A D block that can be cut and an S block are passed here, short ones with no call: an image may
 // hold millions of them.
 fn outcome_of(h: Lengths, pending: usize, s: &[u8]) -> Outcome
-    ensures { λ r. ⌜ r ≡ blockOutcome (h .format) (h .block) (h .size) (h .offset) pending (now (s .entry)) ⌝ }
+    ensures { λ r. ⌜ r ≡ blockOutcome (h .format) (h .block) (h .«record_length») (h .offset) pending (now (s .entry)) ⌝ }
 {
     if h.format == VARIABLE {
         if pending == 0 {
-            if is_variable_block(h.block, h.size, h.offset, s) {
+            if is_variable_block(h.block, h.record_length, h.offset, s) {
                 return Outcome {
                     number: 0,
                     pending: 0,
@@ -43,15 +43,15 @@ fn outcome_of(h: Lengths, pending: usize, s: &[u8]) -> Outcome
         }
     }
     if h.format == SEGMENTED {
-        return segmented_outcome(h.block, h.size, h.offset, pending, s);
+        return segmented_outcome(h.block, h.record_length, h.offset, pending, s);
     }
-    block_outcome(h.format, h.block, h.size, h.offset, pending, s)
+    block_outcome(h.format, h.block, h.record_length, h.offset, pending, s)
 }
 
 // The place behind all the blocks from here on that have no fault.
 pub(crate) fn past_blocks(image: &[u8], h: Lengths, from: Between) -> Between
     requires { ⌜ PlaceInside (now image) (from .at) (from .item) (from .count) ⌝ }
-    ensures { λ r. ⌜ Skipped (now (image .entry)) h from r ⌝ }
+    ensures { λ r. ⌜ DidSkip (now (image .entry)) h from r ⌝ }
 {
     let mut at = from.at;
     let mut item = from.item;

@@ -9,8 +9,8 @@ ghost use Rattle.base.specs.Part.{same};
 ghost use Rattle.base.specs.Answer.{fault, orElse};
 ghost use Rattle.order.specs.Kind.{eov, eof, isKind};
 ghost use Rattle.label.specs.Field.{setOf, sectionOf, countOf};
-ghost use Rattle.volume.specs.Fault.{says, valueOf, lower, crossed, volumeFault, newFilePlace, laterPlace, fileFault, hdr1Fault, hdr2Fault, trailer1Fault, openFault, fileEndFault, trailer2Fault, outcomeIn, blockFault, contextFault, itemFault};
-ghost use Rattle.volume.specs.code.Place.{namesAt, contents};
+ghost use Rattle.volume.specs.Fault.{namesAt, says, valueOf, lower, crossed, volumeFault, newFilePlace, laterPlace, fileFault, hdr1Fault, hdr2Fault, trailer1Fault, openFault, fileEndFault, trailer2Fault, outcomeIn, blockFault, contextFault, itemFault};
+ghost use Rattle.volume.specs.code.Place.{contents};
 use super::Reading;
 use super::among::is_among;
 use super::among::label_at;
@@ -110,7 +110,7 @@ fn or_else(f: Fault, g: Fault) -> Fault
     f
 }
 
-// The fault of VOL1 behind the volume labels at these places: a 17th reel, or an identifier that one of them has.
+// The fault of VOL1 behind the volumes whose names stand at these places: a 17th reel, or the name of one of them.
 fn volume_fault(image: &[u8], volumes: &[usize], l: &[u8]) -> Fault
     ensures { λ r. ⌜ r ≡ volumeFault (namesAt (now (image .entry)) (now (volumes .entry))) (now (l .entry)) ⌝ }
 {
@@ -268,9 +268,9 @@ pub(crate) fn outcome_in(hdr2: &[u8], pending: usize, l: &[u8]) -> Outcome
     ensures { λ r. ⌜ r ≡ outcomeIn (now (hdr2 .entry)) pending (now (l .entry)) ⌝ }
 {
     let block = value_of(block_length(hdr2)) as usize;
-    let size = value_of(record_length(hdr2));
+    let record_length = value_of(record_length(hdr2));
     let offset = value_of(offset_length(hdr2)) as usize;
-    block_outcome(format_of(hdr2), block, size, offset, pending, l)
+    block_outcome(format_of(hdr2), block, record_length, offset, pending, l)
 }
 
 // The fault of a data block.

@@ -11,7 +11,7 @@ ghost use Rattle.volume.specs.State.{start as begin};
 ghost use Rattle.volume.specs.Step.{kindIn};
 ghost use Rattle.volume.specs.code.Told.{toldFrom};
 ghost use Rattle.volume.specs.code.Body.{Given};
-ghost use Rattle.volume.specs.code.Walk.{toldAt, toldBy, toldDue, toldEnd, lastTurn, onTurn, bareTurn, inPhase, BlockHere, BareHere, FirstSpot, Past, FrameHere, Bounded, LabelSized, Onward, Owes};
+ghost use Rattle.volume.specs.code.Walk.{toldAt, toldBy, toldDue, toldEnd, lastTurn, onTurn, bareTurn, inPhase, BlockHere, BareHere, DidStart, DidPass, FrameHere, Bounded, LabelSized, DidGoOn, DidTurn};
 use crate::Reading;
 use crate::after::reading_after;
 use crate::blocks::Between;
@@ -25,6 +25,7 @@ use base::Verdict;
 use base::part_of;
 use image::Shape;
 use image::block_length_at;
+use label::VOLUME;
 use label::block_length;
 use label::format_of;
 use label::offset_length;
@@ -48,11 +49,12 @@ pub struct Spot {
     pub item: u32,
 }
 
-// What a turn of the walk leads to: on from a spot, past a volume label or not; or the end at a spot, with a fault or with none.
+// What a turn of the walk leads to: on from a spot, past the name of a volume or not; or the end at a spot, with a fault or
+// with none.
 pub struct Turn {
     pub spot: Spot,
     pub fault: Fault,
-    pub label: usize,
+    pub name: usize,
     pub on: bool,
     pub named: bool,
 }
@@ -64,20 +66,20 @@ fn last(x: Spot, number: u32, byte: u32) -> Turn
     Turn {
         spot: x,
         fault: Fault { number, byte },
-        label: 0,
+        name: 0,
         on: false,
         named: false,
     }
 }
 
 // A turn that goes on.
-fn on(at: usize, item: u32, state: Reading, named: bool, label: usize) -> Turn
-    ensures { λ r. ⌜ r ≡ onTurn at item state named label ⌝ }
+fn on(at: usize, item: u32, state: Reading, named: bool, name: usize) -> Turn
+    ensures { λ r. ⌜ r ≡ onTurn at item state named name ⌝ }
 {
     Turn {
         spot: Spot { at, state, item },
         fault: Fault { number: 0, byte: 0 },
-        label,
+        name,
         on: true,
         named,
     }
@@ -87,7 +89,7 @@ fn on(at: usize, item: u32, state: Reading, named: bool, label: usize) -> Turn
 fn go_on(image: &[u8], x: Spot, p: Phase, k: Kind, n: usize) -> Turn
     requires { ⌜ LabelSized k n ⌝ }
     requires { ⌜ BlockHere (now image) x n ⌝ }
-    ensures { λ r. ⌜ Onward (now (image .entry)) x p k n r ⌝ }
+    ensures { λ r. ⌜ DidGoOn (now (image .entry)) x p k n r ⌝ }
 {
     let st = x.state;
     let start = x.at + 3;
@@ -98,7 +100,7 @@ fn go_on(image: &[u8], x: Spot, p: Phase, k: Kind, n: usize) -> Turn
         item,
         reading_after(image, st, p, k, start, n),
         is(k, VOL, 1),
-        start,
+        start + VOLUME,
     )
 }
 
@@ -106,7 +108,8 @@ fn go_on(image: &[u8], x: Spot, p: Phase, k: Kind, n: usize) -> Turn
 fn judge(image: &[u8], volumes: &[usize], x: Spot, p: Phase, k: Kind, n: usize) -> Turn
     requires { ⌜ LabelSized k n ⌝ }
     requires { ⌜ BlockHere (now image) x n ⌝ }
-    ensures { λ r. ⌜ Owes (now (image .entry)) (now (volumes .entry)) (x .at) (toldDue (now (image .entry)) (now (volumes .entry)) x p k (part (x .at + 3) n (now (image .entry))) (x .at + 3 + n)) r ⌝ }
+    ensures { λ r. ⌜ DidTurn (now (image .entry)) (now (volumes .entry)) (x .at)
+        (toldDue (now (image .entry)) (now (volumes .entry)) x p k (part (x .at + 3) n (now (image .entry))) (x .at + 3 + n)) r ⌝ }
 {
     let st = x.state;
     let start = x.at + 3;
@@ -122,7 +125,8 @@ fn judge(image: &[u8], volumes: &[usize], x: Spot, p: Phase, k: Kind, n: usize) 
 fn order_turn(image: &[u8], volumes: &[usize], x: Spot, k: Kind, n: usize) -> Turn
     requires { ⌜ LabelSized k n ⌝ }
     requires { ⌜ BlockHere (now image) x n ⌝ }
-    ensures { λ r. ⌜ Owes (now (image .entry)) (now (volumes .entry)) (x .at) (toldBy (now (image .entry)) (now (volumes .entry)) x k (part (x .at + 3) n (now (image .entry))) (x .at + 3 + n)) r ⌝ }
+    ensures { λ r. ⌜ DidTurn (now (image .entry)) (now (volumes .entry)) (x .at)
+        (toldBy (now (image .entry)) (now (volumes .entry)) x k (part (x .at + 3) n (now (image .entry))) (x .at + 3 + n)) r ⌝ }
 {
     let st = x.state;
     let phase = st.phase;
@@ -136,7 +140,8 @@ fn order_turn(image: &[u8], volumes: &[usize], x: Spot, k: Kind, n: usize) -> Tu
 fn end_turn(image: &[u8], volumes: &[usize], x: Spot) -> Turn
     requires { ⌜ Bounded (now image) (x .at) (x .item) (x .state) ⌝ }
     requires { ⌜ length (now image) ≤ x .at ⌝ }
-    ensures { λ r. ⌜ Owes (now (image .entry)) (now (volumes .entry)) (x .at) (toldAt (now (image .entry)) (now (volumes .entry)) x) r ⌝ }
+    ensures { λ r. ⌜ DidTurn (now (image .entry)) (now (volumes .entry)) (x .at)
+        (toldAt (now (image .entry)) (now (volumes .entry)) x) r ⌝ }
 {
     let st = x.state;
     let phase = st.phase;
@@ -151,7 +156,7 @@ fn end_turn(image: &[u8], volumes: &[usize], x: Spot) -> Turn
 }
 
 // What a block is in that phase: data where data is due, else a label.
-pub fn kind_in(phase: Phase, l: &[u8]) -> Kind
+fn kind_in(phase: Phase, l: &[u8]) -> Kind
     ensures { λ r. ⌜ r ≡ kindIn phase (block (now (l .entry))) ⌝ }
 {
     let k = Kind {
@@ -167,7 +172,8 @@ pub fn kind_in(phase: Phase, l: &[u8]) -> Kind
 // The turn of a block of n bytes.
 fn block_turn(image: &[u8], volumes: &[usize], x: Spot, n: usize) -> Turn
     requires { ⌜ BlockHere (now image) x n ⌝ }
-    ensures { λ r. ⌜ Owes (now (image .entry)) (now (volumes .entry)) (x .at) (toldAt (now (image .entry)) (now (volumes .entry)) x) r ⌝ }
+    ensures { λ r. ⌜ DidTurn (now (image .entry)) (now (volumes .entry)) (x .at)
+        (toldAt (now (image .entry)) (now (volumes .entry)) x) r ⌝ }
 {
     let st = x.state;
     let phase = st.phase;
@@ -205,7 +211,8 @@ fn pass(x: Spot, p: Phase) -> Turn
 // The turn of a mark or the end of a reel, which has no fault where it is due.
 fn bare_turn(image: &[u8], volumes: &[usize], x: Spot, family: u32) -> Turn
     requires { ⌜ BareHere (now image) x family ⌝ }
-    ensures { λ r. ⌜ Owes (now (image .entry)) (now (volumes .entry)) (x .at) (toldAt (now (image .entry)) (now (volumes .entry)) x) r ⌝ }
+    ensures { λ r. ⌜ DidTurn (now (image .entry)) (now (volumes .entry)) (x .at)
+        (toldAt (now (image .entry)) (now (volumes .entry)) x) r ⌝ }
 {
     let st = x.state;
     let phase = st.phase;
@@ -220,7 +227,8 @@ fn bare_turn(image: &[u8], volumes: &[usize], x: Spot, family: u32) -> Turn
 fn item_turn(image: &[u8], volumes: &[usize], x: Spot) -> Turn
     requires { ⌜ Bounded (now image) (x .at) (x .item) (x .state) ⌝ }
     requires { ⌜ x .at < length (now image) ⌝ }
-    ensures { λ r. ⌜ Owes (now (image .entry)) (now (volumes .entry)) (x .at) (toldAt (now (image .entry)) (now (volumes .entry)) x) r ⌝ }
+    ensures { λ r. ⌜ DidTurn (now (image .entry)) (now (volumes .entry)) (x .at)
+        (toldAt (now (image .entry)) (now (volumes .entry)) x) r ⌝ }
 {
     let at = x.at;
     match image::shape_at(image, at) {
@@ -234,7 +242,8 @@ fn item_turn(image: &[u8], volumes: &[usize], x: Spot) -> Turn
 // The turn at a spot.
 fn take_turn(image: &[u8], volumes: &[usize], x: Spot) -> Turn
     requires { ⌜ Bounded (now image) (x .at) (x .item) (x .state) ⌝ }
-    ensures { λ r. ⌜ Owes (now (image .entry)) (now (volumes .entry)) (x .at) (toldAt (now (image .entry)) (now (volumes .entry)) x) r ⌝ }
+    ensures { λ r. ⌜ DidTurn (now (image .entry)) (now (volumes .entry)) (x .at)
+        (toldAt (now (image .entry)) (now (volumes .entry)) x) r ⌝ }
 {
     if image.len() <= x.at {
         return end_turn(image, volumes, x);
@@ -249,7 +258,7 @@ fn lengths_of(hdr2: &[u8]) -> Lengths
     Lengths {
         format: format_of(hdr2),
         block: value_of(block_length(hdr2)) as usize,
-        size: value_of(record_length(hdr2)),
+        record_length: value_of(record_length(hdr2)),
         offset: value_of(offset_length(hdr2)) as usize,
     }
 }
@@ -258,7 +267,7 @@ fn lengths_of(hdr2: &[u8]) -> Lengths
 fn past_data(image: &[u8], x: Spot) -> Spot
     requires { ⌜ Bounded (now image) (x .at) (x .item) (x .state) ⌝ }
     requires { ⌜ x .state .phase ≡ Phase.Data ⌝ }
-    ensures { λ r. ⌜ Past (now (image .entry)) x r ⌝ }
+    ensures { λ r. ⌜ DidPass (now (image .entry)) x r ⌝ }
 {
     let st = x.state;
     let from = Between {
@@ -287,7 +296,7 @@ fn past_data(image: &[u8], x: Spot) -> Spot
 // The spot behind the data blocks that stand here, if any.
 fn past(image: &[u8], x: Spot) -> Spot
     requires { ⌜ Bounded (now image) (x .at) (x .item) (x .state) ⌝ }
-    ensures { λ r. ⌜ Past (now (image .entry)) x r ⌝ }
+    ensures { λ r. ⌜ DidPass (now (image .entry)) x r ⌝ }
 {
     let st = x.state;
     let phase = st.phase;
@@ -301,7 +310,7 @@ fn past(image: &[u8], x: Spot) -> Spot
 fn first_spot(image: &[u8]) -> Spot
     requires { ⌜ 5 ≤ length (now image) ⌝ }
     requires { ⌜ length (now image) ≤ mostImage ⌝ }
-    ensures { λ r. ⌜ FirstSpot (now (image .entry)) [] r ⌝ }
+    ensures { λ r. ⌜ DidStart (now (image .entry)) [] r ⌝ }
 {
     Spot {
         at: 5,
@@ -354,7 +363,7 @@ pub(crate) fn walk(image: &[u8]) -> Verdict
         x = t.spot;
         if t.on {
             if t.named {
-                volumes[reels] = t.label;
+                volumes[reels] = t.name;
                 reels += 1;
             }
         } else {

@@ -14,7 +14,7 @@ use Rattle.writing.specs.Lay.{Sequel}
 use Rattle.writing.proofs.Packing.{by-test, blocks-going}
 use Rattle.writer.specs.declared.pen.Pen.{Pen}
 use Rattle.writer.specs.code.Pass.{Job, inkAt, inked, PassEnd, outcome, restOf, ends, EndsWithin, Sound, UnitDue, between, fillOf, afterOf, fillDue, leftDue, penned}
-use Rattle.writer.specs.code.Pens.{Ready, Opens}
+use Rattle.writer.specs.code.Pens.{CanOpen, DidOpen}
 use Rattle.writer.specs.code.Packs.{entersOn, Wanting, Blocked, more}
 use Rattle.writer.proofs.Passes.{outcome-unit, fits-unit}
 use Rattle.writer.proofs.Pens.{ends-given, ends-short}
@@ -144,7 +144,7 @@ module _ (lay : Bool) (f b : ℕ) (j : Job) (n : ℕ) (p : Pen) (o : List ℕ) (
     enough : (x : List ℕ) → length x ≡ n → enters f b 0 (length x) ≡ true
     enough x l = ap (enters f b 0) l ∙ w .enough
 
-    pub wanting-ready : Ready lay j p o
+    pub wanting-ready : CanOpen lay j p o
     wanting-ready =
         record {
           sound = w .sound;
@@ -158,12 +158,12 @@ module _ (lay : Bool) (f b : ℕ) (j : Job) (n : ℕ) (p : Pen) (o : List ℕ) (
                 next = a .next;
                 fits =
                     subst (λ (u : PassEnd). EndsWithin u (length o))
-                    (penned-full true f b j p o (a .begun) (a .first) (a .later) (a .next) (full (a .first) (a .size))
-                    (enough (a .first) (a .size), a .room)) (a .fits);
+                    (penned-full true f b j p o (a .begun) (a .first) (a .later) (a .next) (full (a .first) (a .«record_length»))
+                    (enough (a .first) (a .«record_length»), a .room)) (a .fits);
               };
         }
 
-    pub blocked-next : (q : List ℕ) (r : Pen) → Opens lay j p o q r → Blocked lay f b j n p o q r
+    pub blocked-next : (q : List ℕ) (r : Pen) → DidOpen lay j p o q r → Blocked lay f b j n p o q r
     blocked-next q r y =
         record {
           sound = y .sound;

@@ -23,11 +23,11 @@ use Rattle.writer.specs.declared.source.Cursor.{Cursor}
 use Rattle.writer.specs.declared.source.Found.{Found}
 use Rattle.writer.specs.declared.record.Quick.{Quick}
 use Rattle.writer.specs.code.Pass.{Job, PassEnd, EndsWithin, between, penned}
-use Rattle.writer.specs.code.Source.{walkOf, movedTo, recordsOf, endAt, stopOf, GoodCursor, splitBytes, SplitHere, foundBytes, Finds}
-use Rattle.writer.specs.code.Records.{RoomBehind, Wholable, Wholed, Recordable, Splittable, Recorded, Somewhere, QuickBlock}
-use Rattle.writer.specs.code.Bodies.{Takable, Bodied, BodyPut}
+use Rattle.writer.specs.code.Source.{walkOf, movedTo, recordsOf, endAt, stopOf, GoodCursor, splitBytes, SplitHere, foundBytes, DidFind}
+use Rattle.writer.specs.code.Records.{RoomBehind, CanPutWhole, DidPutWhole, CanPutRecord, CanSplit, DidPutRecord, CanQuickBlock, DidQuickBlock}
+use Rattle.writer.specs.code.Bodies.{CanTake, CanPutRecords, DidPutRecords}
 use Rattle.writer.proofs.Blocks.{penned-short}
-use Rattle.writer.proofs.Records.{record-somewhere, record-wholable, record-whole, record-kept, record-again, record-slow}
+use Rattle.writer.proofs.RecordBlocks.{record-somewhere, record-wholable, record-whole, record-kept, record-again, record-slow}
 
 -- ---- a record that was found
 
@@ -44,8 +44,8 @@ unfolding splitBytes
 split-length bytes c n h = split-long bytes (walkOf c) n (h .behind) (Split n (h .behind)) (h .is) refl
 
 module _ (lay : Bool) (f b : ℕ) (j : Job) (bytes : List ℕ) (c : Cursor) (r : Found) (p : Pen) (o : List ℕ)
-    (k : Takable lay f b j bytes c r p o) where
-  pub take-split : r .kind ≡ 2 → Splittable lay f b j bytes c (r .len) p o
+    (k : CanTake lay f b j bytes c r p o) where
+  pub take-split : r .kind ≡ 2 → CanSplit lay f b j bytes c (r .len) p o
   take-split e =
       record {
         sound = k .sound;
@@ -56,11 +56,11 @@ module _ (lay : Bool) (f b : ℕ) (j : Job) (bytes : List ℕ) (c : Cursor) (r :
         ahead = λ l. subst (λ (x : List ℕ). RoomBehind f b j x p o) (found-split bytes c r e) (k .ahead l);
       }
 
-  pub took-split : (q : List ℕ) (v : Pen) → r .kind ≡ 2 → Recorded lay f b j (splitBytes bytes c) p o q v
-      → Recorded lay f b j (foundBytes bytes c r) p o q v
-  took-split q v e x = subst (λ (s : List ℕ). Recorded lay f b j s p o q v) (sym (found-split bytes c r e)) x
+  pub took-split : (q : List ℕ) (v : Pen) → r .kind ≡ 2 → DidPutRecord lay f b j (splitBytes bytes c) p o q v
+      → DidPutRecord lay f b j (foundBytes bytes c r) p o q v
+  took-split q v e x = subst (λ (s : List ℕ). DidPutRecord lay f b j s p o q v) (sym (found-split bytes c r e)) x
 
-  take-whole : (r .kind ≡ 2 → ⊥) → Recordable lay f b j bytes (r .from) (r .len) p o
+  take-whole : (r .kind ≡ 2 → ⊥) → CanPutRecord lay f b j bytes (r .from) (r .len) p o
   take-whole e =
       record {
         sound = k .sound;
@@ -72,35 +72,37 @@ module _ (lay : Bool) (f b : ℕ) (j : Job) (bytes : List ℕ) (c : Cursor) (r :
       }
 
   module _ (e : r .kind ≡ 2 → ⊥) where
-    took-whole : (q : List ℕ) (v : Pen) → Recorded lay f b j (part (r .from) (r .len) bytes) p o q v
-        → Recorded lay f b j (foundBytes bytes c r) p o q v
-    took-whole q v x = subst (λ (s : List ℕ). Recorded lay f b j s p o q v) (sym (found-whole bytes c r e)) x
+    took-whole : (q : List ℕ) (v : Pen) → DidPutRecord lay f b j (part (r .from) (r .len) bytes) p o q v
+        → DidPutRecord lay f b j (foundBytes bytes c r) p o q v
+    took-whole q v x = subst (λ (s : List ℕ). DidPutRecord lay f b j s p o q v) (sym (found-whole bytes c r e)) x
 
-    pub take-somewhere : Somewhere lay f b (r .len) p o
+    pub take-somewhere : CanQuickBlock lay f b (r .len) p o
     take-somewhere = record-somewhere lay f b j bytes (r .from) (r .len) p o (take-whole e)
 
-    module _ (q : List ℕ) (t : Quick) (y : QuickBlock lay f b (r .len) p o q t) where
-      pub take-in : t .ok ≡ true → Wholable lay f bytes (r .from) (r .len) (t .pen) (length q)
+    module _ (q : List ℕ) (t : Quick) (y : DidQuickBlock lay f b (r .len) p o q t) where
+      pub take-in : t .ok ≡ true → CanPutWhole lay f bytes (r .from) (r .len) (t .pen) (length q)
       take-in = record-wholable lay f b j bytes (r .from) (r .len) p o (take-whole e) q t y
 
-      pub take-slow : t .ok ≡ false → Recordable lay f b j bytes (r .from) (r .len) p q
+      pub take-slow : t .ok ≡ false → CanPutRecord lay f b j bytes (r .from) (r .len) p q
       take-slow = record-again lay f b j bytes (r .from) (r .len) p o (take-whole e) q t y
 
       module _ (z : List ℕ) (v : Pen) where
-        pub took-in : t .ok ≡ true → Wholed lay f bytes (r .from) (r .len) (t .pen) q z v → Recorded lay f b j (foundBytes bytes c r) p o z v
+        pub took-in : t .ok ≡ true → DidPutWhole lay f bytes (r .from) (r .len) (t .pen) q z v
+            → DidPutRecord lay f b j (foundBytes bytes c r) p o z v
         took-in h x = took-whole z v (record-whole lay f b j bytes (r .from) (r .len) p o (take-whole e) q t y z v h x)
 
-        pub took-in-kept : t .ok ≡ true → Wholed lay f bytes (r .from) (r .len) (t .pen) q z v → length z ≡ length o
+        pub took-in-kept : t .ok ≡ true → DidPutWhole lay f bytes (r .from) (r .len) (t .pen) q z v → length z ≡ length o
         took-in-kept h x = record-kept lay f b j bytes (r .from) (r .len) p o (take-whole e) q t y z v h x
 
-        pub took-slow : t .ok ≡ false → Recorded lay f b j (part (r .from) (r .len) bytes) p q z v
-            → Recorded lay f b j (foundBytes bytes c r) p o z v
+        pub took-slow : t .ok ≡ false → DidPutRecord lay f b j (part (r .from) (r .len) bytes) p q z v
+            → DidPutRecord lay f b j (foundBytes bytes c r) p o z v
         took-slow h x = took-whole z v (record-slow lay f b j bytes (r .from) (r .len) p o (take-whole e) q t y z v h x)
 
-        pub took-slow-kept : Recorded lay f b j (part (r .from) (r .len) bytes) p q z v → length z ≡ length o
+        pub took-slow-kept : DidPutRecord lay f b j (part (r .from) (r .len) bytes) p q z v → length z ≡ length o
         took-slow-kept x = x .kept ∙ y .kept
 
-pub took-kept : (lay : Bool) (f b : ℕ) (j : Job) (x : List ℕ) (p : Pen) (o q : List ℕ) (v : Pen) → Recorded lay f b j x p o q v
+pub took-kept : (lay : Bool) (f b : ℕ) (j : Job) (x : List ℕ) (p : Pen) (o q : List ℕ) (v : Pen)
+    → DidPutRecord lay f b j x p o q v
     → length q ≡ length o
 took-kept lay f b j x p o q v y = y .kept
 
@@ -111,7 +113,7 @@ pub ruleset taking = (take-split, took-split, took-kept, needs)
 -- from the beginning of a file to a cursor in it
 pub record Writing (lay : Bool) (f b : ℕ) (j : Job) (lengths bytes : List ℕ) (first : Cursor) (p : Pen) (o q : List ℕ) (r : Pen)
     (c : Cursor) : Type 0 where
-  pub bodied : Bodied lay f b j lengths bytes c r q
+  pub bodied : CanPutRecords lay f b j lengths bytes c r q
   pub kept : length q ≡ length o
   pub untouched : lay ≡ false → q ≡ o
   pub end : endAt lengths bytes c ≡ endAt lengths bytes first
@@ -119,7 +121,7 @@ pub record Writing (lay : Bool) (f b : ℕ) (j : Job) (lengths bytes : List ℕ)
       ≡ penned lay f b j p o (between (startOf (recordsOf lengths bytes first))) next
 
 pub writing-none : (lay : Bool) (f b : ℕ) (j : Job) (lengths bytes : List ℕ) (first : Cursor) (p : Pen) (o : List ℕ)
-    → Bodied lay f b j lengths bytes first p o
+    → CanPutRecords lay f b j lengths bytes first p o
     → Writing lay f b j lengths bytes first p o o p first
 writing-none lay f b j lengths bytes first p o k =
     record { bodied = k; kept = refl; untouched = λ _. refl; end = refl; same = λ next. refl }
@@ -133,12 +135,12 @@ module _ (lay : Bool) (f b : ℕ) (j : Job) (lengths bytes : List ℕ) (first : 
   pub writing-good : GoodCursor lengths bytes c
   writing-good = w .bodied .good
 
-  module _ (x : Found) (y : Finds lengths bytes c x) where
+  module _ (x : Found) (y : DidFind lengths bytes c x) where
     pub writing-stop : x .kind ≡ 0 → stopOf c ≡ endAt lengths bytes c
     writing-stop e = y .over e
 
     pub writing-all : (n : ℕ) → x .kind ≡ 0 → n ≡ endAt lengths bytes c
-        → BodyPut lay f b j lengths bytes first p o q (record { pen = r; end = n })
+        → DidPutRecords lay f b j lengths bytes first p o q (record { pen = r; end = n })
     unfolding startOf
     writing-all n e m =
         record {
@@ -179,7 +181,7 @@ module _ (lay : Bool) (f b : ℕ) (j : Job) (lengths bytes : List ℕ) (first : 
           let s : x .kind ≡ 2 → ⊥ = eqb-false _ _ t in
           ap length (found-whole bytes c x s) ∙ length-part (x .from) (x .len) bytes (y .inside e s))
 
-      pub writing-takable : Takable lay f b j bytes c x r q
+      pub writing-takable : CanTake lay f b j bytes c x r q
       writing-takable =
           record {
             sound = w .bodied .sound;
@@ -203,7 +205,7 @@ module _ (lay : Bool) (f b : ℕ) (j : Job) (lengths bytes : List ℕ) (first : 
       pub fewer-left : (d : Cursor) → d ≡ later → length (recordsOf lengths bytes d) < length (recordsOf lengths bytes c)
       fewer-left d m = let n : length (recordsOf lengths bytes d) ≡ length xs = ap (λ (z : Cursor). length (recordsOf lengths bytes z)) m in omega (arith, ap length cons)
 
-      module _ (z : List ℕ) (v : Pen) (u : Recorded lay f b j one r q z v) where
+      module _ (z : List ℕ) (v : Pen) (u : DidPutRecord lay f b j one r q z v) where
         pub writing-put-kept : length z ≡ length o
         writing-put-kept = u .kept ∙ w .kept
 
@@ -241,7 +243,7 @@ module _ (lay : Bool) (f b : ℕ) (j : Job) (lengths bytes : List ℕ) (first : 
               same = λ next. step next ∙ w .same next;
             })
 
-        pub writing-short : v .short ≡ true → BodyPut lay f b j lengths bytes first p o z (record { pen = v; end = 0 })
+        pub writing-short : v .short ≡ true → DidPutRecords lay f b j lengths bytes first p o z (record { pen = v; end = 0 })
         writing-short s =
             record {
               sound = u .sound;

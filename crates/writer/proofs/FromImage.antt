@@ -37,8 +37,8 @@ use Rattle.writer.specs.declared.body.Body.{Body}
 use Rattle.writer.specs.declared.set.Place.{Place}
 use Rattle.writer.specs.code.Pass.{job}
 use Rattle.writer.specs.code.Source.{walkOf, recordsOf, endAt, GoodCursor}
-use Rattle.writer.specs.code.Files.{FileReady, FilePut}
-use Rattle.writer.specs.code.Sets.{Origin, read, originOf, totalOf, filesAt, PlacedAmong, walkAt, passed, followedBy, Task, task, Fileable, OneFiled, sheetAt, Ordered}
+use Rattle.writer.specs.code.Files.{CanPutFile, DidPutFile}
+use Rattle.writer.specs.code.Sets.{Origin, read, originOf, totalOf, filesAt, PlacedAmong, walkAt, passed, followedBy, Task, task, CanFile, DidFileOne, sheetAt, CanOrder}
 use Rattle.writer.proofs.Filing.{legal-set, legal-others, file-ready, one-filed}
 
 -- ---- the file at a place
@@ -60,7 +60,7 @@ met-first s h d ds (f, e, is, rest) =
     subst (λ (g : FileAt). FileIs s g d × Met s (nextFile s (g .hdr1) (g .hdr2)) ds) same (is, rest)
 
 module _ (lay : Bool) (set lengths bytes rooms names : List ℕ) (g : Place) (p : Pen) (o : List ℕ)
-    (y : Fileable lay (task read set lengths bytes rooms names) g p o) where
+    (y : CanFile lay (task read set lengths bytes rooms names) g p o) where
   abbrev t : Task
   t = task read set lengths bytes rooms names
 
@@ -126,10 +126,10 @@ module _ (lay : Bool) (set lengths bytes rooms names : List ℕ) (g : Place) (p 
           inside = omega (arith, ends, is .ends);
         }
 
-    pub read-ready : FileReady lay (job set entry (g .nth + 1) rooms names) lengths bytes c p o
+    pub read-ready : CanPutFile lay (job set entry (g .nth + 1) rooms names) lengths bytes c p o
     read-ready = file-ready t g entry (d .records) _ (y .placed) files-first lay c good begun p o y
 
-    module _ (q : List ℕ) (x : Body) (m : FilePut lay (job set entry (g .nth + 1) rooms names) lengths bytes c p o q x) where
+    module _ (q : List ℕ) (x : Body) (m : DidPutFile lay (job set entry (g .nth + 1) rooms names) lengths bytes c p o q x) where
       -- a place behind this file
       placed-on : (f : FileAt) (stop : ℕ) (on : Bool) → (g .nth + 1 < length all → Met bytes (At f) (drop (g .nth + 1) all))
           → PlacedAmong read set lengths bytes (passed g stop (x .end) f on)
@@ -143,7 +143,7 @@ module _ (lay : Bool) (set lengths bytes rooms names : List ℕ) (g : Place) (p 
           }
 
       next-filed : (stop : ℕ) (h : NextFile) → x .pen .short ≡ false → nextFile bytes (g .file .hdr1) (g .file .hdr2) ≡ h
-          → OneFiled lay t g p o q (record { place = followedBy g stop (x .end) h; pen = x .pen })
+          → DidFileOne lay t g p o q (record { place = followedBy g stop (x .end) h; pen = x .pen })
       unfolding followedBy totalOf filesAt
       next-filed stop (At h) z e =
           let there : Met bytes (At h) (drop (g .nth + 1) all) = subst (λ (f : NextFile). Met bytes f (drop (g .nth + 1) all)) e (both .1) in
@@ -161,14 +161,14 @@ module _ (lay : Bool) (set lengths bytes rooms names : List ℕ) (g : Place) (p 
 
       -- unless a reel is lacking, the next file is found from where the records of this one end
       pub read-filed : (stop : ℕ) → x .pen .short ≡ false
-          → OneFiled lay t g p o q
+          → DidFileOne lay t g p o q
           (record { place = followedBy g stop (x .end) (fileBehind bytes (g .file .hdr1) (x .end)); pen = x .pen })
       read-filed stop z =
           next-filed stop (fileBehind bytes (g .file .hdr1) (x .end)) z
           (sym (ap (fileBehind bytes (g .file .hdr1)) (m .end z ∙ ends) ∙ is .behind))
 
       pub read-short : (stop : ℕ) → x .pen .short ≡ true
-          → OneFiled lay t g p o q (record { place = passed g stop (x .end) (g .file) false; pen = x .pen })
+          → DidFileOne lay t g p o q (record { place = passed g stop (x .end) (g .file) false; pen = x .pen })
       read-short stop z =
           one-filed t g entry (d .records) _ (y .placed) files-first lay c good begun p o q x _ m refl refl
           (λ w. absurd (false≢true (sym w ∙ z)))
@@ -208,10 +208,10 @@ module _ (s : List ℕ) (quota : ℕ) (names : List ℕ) (h : imageVerdict s .nu
       same-set : set ≡ content s .set
       same-set = q ∙ ap setOf p ∙ sym (set-first s f h e)
 
-      pub image-ordered : Ordered (originOf true files counts) set lengths s start quota names
+      pub image-ordered : CanOrder (originOf true files counts) set lengths s start quota names
       unfolding sheetFrom totalOf filesAt
       image-ordered =
-          subst (λ (o : Origin). Ordered o set lengths s start quota names) (sym is-from)
+          subst (λ (o : Origin). CanOrder o set lengths s start quota names) (sym is-from)
           (record {
             placed =
                 record {

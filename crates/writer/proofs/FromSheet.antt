@@ -31,9 +31,10 @@ use Rattle.writer.specs.declared.body.Body.{Body}
 use Rattle.writer.specs.declared.set.Place.{Place}
 use Rattle.writer.specs.code.Pass.{job}
 use Rattle.writer.specs.code.Source.{lengthsAt, recordsOf, endAt, GoodCursor}
-use Rattle.writer.specs.code.Files.{FileReady, FilePut}
-use Rattle.writer.specs.code.Sets.{Origin, listed, originOf, totalOf, filesAt, PlacedAmong, listedAt, passed, Task, task, Fileable, OneFiled, sheetAt, Ordered}
-use Rattle.writer.proofs.Filing.{legal-set, legal-others, file-ready, one-filed, no-counts}
+use Rattle.writer.specs.code.Files.{CanPutFile, DidPutFile}
+use Rattle.writer.specs.code.Sets.{Origin, listed, originOf, totalOf, filesAt, PlacedAmong, listedAt, passed, Task, task, CanFile, DidFileOne, sheetAt, CanOrder}
+use Rattle.writer.proofs.Filing.{legal-set, legal-others, file-ready, one-filed}
+use Rattle.writer.proofs.Sets.{no-counts}
 
 abbrev place : FileAt → ℕ → ℕ → ℕ → Bool → Place
 place f nth first byte on = record { nth = nth; first = first; byte = byte; file = f; on = on }
@@ -153,8 +154,8 @@ module _ (files counts set lengths bytes rooms names : List ℕ) (g : Place)
           inside = omega (arith, ends, measured, y .stands .inside);
         }
 
-    pub entry-ready : (lay : Bool) (p : Pen) (o : List ℕ) → Fileable lay t g p o
-        → FileReady lay (job set entry (g .nth + 1) rooms names) lengths bytes d p o
+    pub entry-ready : (lay : Bool) (p : Pen) (o : List ℕ) → CanFile lay t g p o
+        → CanPutFile lay (job set entry (g .nth + 1) rooms names) lengths bytes d p o
     entry-ready lay p o f = file-ready t g entry records _ y files-some lay d good begun p o f
 
     -- the place behind this file, unless a reel is lacking
@@ -171,13 +172,13 @@ module _ (files counts set lengths bytes rooms names : List ℕ) (g : Place)
     files-on on = refl
 
     pub listed-filed : (lay : Bool) (p : Pen) (o q : List ℕ) (x : Body) (r : Place)
-        → FilePut lay (job set entry (g .nth + 1) rooms names) lengths bytes d p o q x
+        → DidPutFile lay (job set entry (g .nth + 1) rooms names) lengths bytes d p o q x
         → r ≡ passed g stop (x .end) (g .file) (ifB (x .pen .short) false (ltb (g .nth + 1) (length counts)))
-        → OneFiled lay t g p o q (record { place = r; pen = x .pen })
+        → DidFileOne lay t g p o q (record { place = r; pen = x .pen })
     unfolding totalOf
     listed-filed lay p o q x r m e =
         let on : Bool = ifB (x .pen .short) false (ltb (g .nth + 1) (length counts)) in
-        subst (λ (h : Place). OneFiled lay t g p o q (record { place = h; pen = x .pen })) (sym e)
+        subst (λ (h : Place). DidFileOne lay t g p o q (record { place = h; pen = x .pen })) (sym e)
         (one-filed t g entry records _ y files-some lay d good begun p o q x _ m refl refl
         (λ z. ap (filesAt (listed files counts) lengths bytes) (sym (place-is x on (m .end) z)) ∙ files-on on)
         (λ z. subst (PlacedAmong (listed files counts) set lengths bytes) (place-is x on (m .end) z) (placed-on on))
@@ -243,7 +244,7 @@ module _ (set files counts lengths bytes : List ℕ) (quota : ℕ) (names : List
   from = originOf false files counts
 
   abbrev nowhere : Walk
-  nowhere = record { format = 0; size = 0; offset = 0; at = 0; left = 0 }
+  nowhere = record { format = 0; «record_length» = 0; offset = 0; at = 0; left = 0 }
 
   abbrev start : Place
   start = place (record { hdr1 = 0; hdr2 = 0; walk = nowhere }) 0 0 0 true
@@ -283,10 +284,10 @@ module _ (set files counts lengths bytes : List ℕ) (quota : ℕ) (names : List
   unfolding legalSheet sheetOf
   legal k = both (legalQuota quota) _ (λ q r. both (legalNames (inParts 6 names)) _ (λ n _. k q n) r) (known .legal)
 
-  pub sheet-ordered : Ordered (originOf false files counts) set lengths bytes start quota names
+  pub sheet-ordered : CanOrder (originOf false files counts) set lengths bytes start quota names
   unfolding sheetOf totalOf
   sheet-ordered =
-      subst (λ (o : Origin). Ordered o set lengths bytes start quota names) (sym is-from)
+      subst (λ (o : Origin). CanOrder o set lengths bytes start quota names) (sym is-from)
       (record {
         placed = start-placed;
         first = refl;

@@ -20,8 +20,8 @@ use Rattle.writer.specs.declared.body.Body.{Body}
 use Rattle.writer.specs.declared.set.Place.{Place}
 use Rattle.writer.specs.code.Pass.{Job, job, namesIn, jobOf}
 use Rattle.sections.specs.Section.{setIn}
-use Rattle.writer.specs.code.Files.{FileReady, FilePut}
-use Rattle.writer.specs.code.Sets.{Enterable, entryAt, LabelsEntered}
+use Rattle.writer.specs.code.Files.{CanPutFile, DidPutFile}
+use Rattle.writer.specs.code.Sets.{CanEnter, entryAt, DidEnter}
 
 -- what is put among the label parts has room there
 pub parts-put-in : (labels : List ℕ) (at : ℕ) (s r : List ℕ) → length labels ≡ 149 → at + length s ≤ 149 → r ≡ putIn labels at s
@@ -66,7 +66,7 @@ fields-made labels bytes i j f s a x b y c z l bi bj ef es ea ex eb ey ec ez =
 -- ---- the entry and the number of a file
 
 entered-by : (labels e : List ℕ) (n : ℕ) (r : List ℕ) → length labels ≡ 149 → length e ≡ 46 → r ≡ putAt (set labels 46 n) 0 e
-    → LabelsEntered labels e n r
+    → DidEnter labels e n r
 entered-by labels e n r l k h =
     let old : List ℕ = set labels 46 n in
     let long : length old ≡ 149 = length-set labels 46 n ∙ l in
@@ -87,7 +87,7 @@ entered-by labels e n r l k h =
       others = sym (drop-drop 1 46 r) ∙ ap (drop 1) behind ∙ drop-drop 1 46 old ∙ drop-set-lt 47 labels 46 n (omega arith);
     }
 
-module _ (image : Bool) (files bytes : List ℕ) (g : Place) (y : Enterable image (length files) (length bytes) g) where
+module _ (image : Bool) (files bytes : List ℕ) (g : Place) (y : CanEnter image (length files) (length bytes) g) where
   -- a field of the first label or the second has room among the label parts
   pub first-room : (l s : List ℕ) (at from w : ℕ) → image ≡ true → l ≡ part (g .file .hdr1) 80 bytes → from + w ≤ 80
       → at + w ≤ 46 → s ≡ part from w l → at + length s ≤ 149
@@ -104,21 +104,21 @@ module _ (image : Bool) (files bytes : List ℕ) (g : Place) (y : Enterable imag
     pub entered-read : (f s a u b v d : List ℕ) → image ≡ true → f ≡ part (g .file .hdr1) 80 bytes
         → s ≡ part (g .file .hdr2) 80 bytes → a ≡ part 4 17 f
         → u ≡ putAt (set labels 46 (g .nth + 1)) 0 a → b ≡ part 35 18 f → v ≡ putAt u 17 b → d ≡ part 4 11 s → r ≡ putAt v 35 d
-        → LabelsEntered labels (entryAt image files bytes g) (g .nth + 1) r
+        → DidEnter labels (entryAt image files bytes g) (g .nth + 1) r
     unfolding entryAt
     entered-read f s a u b v d i ef es ea eu eb ev ed er =
         let h = fields-made (set labels 46 (g .nth + 1)) bytes (g .file .hdr1) (g .file .hdr2) f s a u b v d r (length-set labels 46 (g .nth + 1) ∙ l) (y .first i) (y .second i) ef es ea eu eb ev ed er in
-        subst (λ (e : List ℕ). LabelsEntered labels e (g .nth + 1) r) (sym (if-true _ _ _ i))
+        subst (λ (e : List ℕ). DidEnter labels e (g .nth + 1) r) (sym (if-true _ _ _ i))
         (entered-by labels _ (g .nth + 1) r l
         (length-entry _ _ (length-part (g .file .hdr1) 80 bytes (y .first i))
         (length-part (g .file .hdr2) 80 bytes (y .second i))) h)
 
     pub entered-listed : (e : List ℕ) → image ≡ false → e ≡ part (46 * g .nth) 46 files
         → r ≡ putAt (set labels 46 (g .nth + 1)) 0 e
-        → LabelsEntered labels (entryAt image files bytes g) (g .nth + 1) r
+        → DidEnter labels (entryAt image files bytes g) (g .nth + 1) r
     unfolding entryAt
     entered-listed e i k h =
-        subst (λ (d : List ℕ). LabelsEntered labels d (g .nth + 1) r) (k ∙ sym (if-false _ _ _ i))
+        subst (λ (d : List ℕ). DidEnter labels d (g .nth + 1) r) (k ∙ sym (if-false _ _ _ i))
         (entered-by labels e (g .nth + 1) r l (ap length k ∙ length-part (46 * g .nth) 46 files (y .listed i)) h)
 
   pub entry-room : (e : List ℕ) → image ≡ false → e ≡ part (46 * g .nth) 46 files → 0 + length e ≤ 149
@@ -127,7 +127,7 @@ module _ (image : Bool) (files bytes : List ℕ) (g : Place) (y : Enterable imag
 pub ruleset entering = (first-room, second-room, entry-few, entered-read, entered-listed, entry-room, needs)
 
 -- what the labels of the file are then made of
-module _ (labels e : List ℕ) (n : ℕ) (r rooms : List ℕ) (y : LabelsEntered labels e n r) where
+module _ (labels e : List ℕ) (n : ℕ) (r rooms : List ℕ) (y : DidEnter labels e n r) where
   same-part : (a w : ℕ) → part (47 + a) w r ≡ part (47 + a) w labels
   same-part a w = sym (part-drop 47 a w r) ∙ ap (part a w) (y .others) ∙ part-drop 47 a w labels
 
@@ -144,13 +144,13 @@ module _ (labels e : List ℕ) (n : ℕ) (r rooms : List ℕ) (y : LabelsEntered
       }
 
   module _ (lay : Bool) (lengths bytes : List ℕ) (d : Cursor) (p : Pen) (o : List ℕ) where
-    pub parts-ready : FileReady lay (job (setIn labels) e n rooms (namesIn (length rooms) labels)) lengths bytes d p o
-        → FileReady lay (jobOf r rooms) lengths bytes d p o
-    parts-ready k = subst (λ (j : Job). FileReady lay j lengths bytes d p o) (sym job-is) k
+    pub parts-ready : CanPutFile lay (job (setIn labels) e n rooms (namesIn (length rooms) labels)) lengths bytes d p o
+        → CanPutFile lay (jobOf r rooms) lengths bytes d p o
+    parts-ready k = subst (λ (j : Job). CanPutFile lay j lengths bytes d p o) (sym job-is) k
 
-    pub parts-put : (q : List ℕ) (x : Body) → FilePut lay (jobOf r rooms) lengths bytes d p o q x
-        → FilePut lay (job (setIn labels) e n rooms (namesIn (length rooms) labels)) lengths bytes d p o q x
-    parts-put q x k = subst (λ (j : Job). FilePut lay j lengths bytes d p o q x) job-is k
+    pub parts-put : (q : List ℕ) (x : Body) → DidPutFile lay (jobOf r rooms) lengths bytes d p o q x
+        → DidPutFile lay (job (setIn labels) e n rooms (namesIn (length rooms) labels)) lengths bytes d p o q x
+    parts-put q x k = subst (λ (j : Job). DidPutFile lay j lengths bytes d p o q x) job-is k
 
 -- ---- the set entry and the names
 

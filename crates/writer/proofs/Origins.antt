@@ -22,8 +22,8 @@ use Rattle.writer.specs.declared.body.Body.{Body}
 use Rattle.writer.specs.declared.set.Place.{Place}
 use Rattle.writer.specs.code.Pass.{Job, job, namesIn, jobOf}
 use Rattle.sections.specs.Section.{setIn}
-use Rattle.writer.specs.code.Files.{FileReady, FilePut}
-use Rattle.writer.specs.code.Sets.{Origin, listed, read, originOf, totalOf, listedAt, walkAt, cursorAt, Countable, entryAt, Enterable, LabelsEntered, passed, followedBy, behindFile, Task, task, taskOf, Fileable, OneFiled}
+use Rattle.writer.specs.code.Files.{CanPutFile, DidPutFile}
+use Rattle.writer.specs.code.Sets.{Origin, listed, read, originOf, totalOf, listedAt, walkAt, cursorAt, CanCount, entryAt, CanEnter, DidEnter, passed, followedBy, behindFile, Task, task, taskOf, CanFile, DidFileOne}
 use Rattle.writer.proofs.Filing.{filesOn, Along, along-fileable, along-more, files-fall}
 use Rattle.writer.proofs.LabelParts.{parts-ready, parts-put}
 use Rattle.writer.proofs.FromSheet.{nth-small, stop-within, entry-within, entry-ready, listed-filed}
@@ -41,7 +41,7 @@ module _ (image : Bool) (counts : List ℕ) (n : ℕ) (g : Place) where
   unfolding cursorAt
   cursor-listed count i e = ap (λ (k : ℕ). listedAt (g .byte) k (g .first + k)) e ∙ sym (if-false _ _ _ i)
 
-  module _ (y : Countable image counts n g) (i : image ≡ false) where
+  module _ (y : CanCount image counts n g) (i : image ≡ false) where
     pub cursor-nth : g .nth < length counts
     cursor-nth = y .nth i
 
@@ -81,7 +81,7 @@ pub ruleset behinds = (behind-short, behind-listed, behind-next, behind-last, ne
 -- ---- the file
 
 module _ (lay image : Bool) (files counts lengths bytes labels rooms : List ℕ) (g : Place) (p : Pen) (o : List ℕ)
-    (y : Fileable lay (taskOf image files counts lengths bytes labels rooms) g p o) where
+    (y : CanFile lay (taskOf image files counts lengths bytes labels rooms) g p o) where
   abbrev by : Origin → Task
   by from = task from (setIn labels) lengths bytes rooms (namesIn (length rooms) labels)
 
@@ -93,16 +93,16 @@ module _ (lay image : Bool) (files counts lengths bytes labels rooms : List ℕ)
     unfolding originOf
     is-read = if-true _ _ _ i
 
-    from-image : Fileable lay (by read) g p o
-    from-image = subst (λ (f : Origin). Fileable lay (by f) g p o) is-read y
+    from-image : CanFile lay (by read) g p o
+    from-image = subst (λ (f : Origin). CanFile lay (by f) g p o) is-read y
 
   module _ (i : image ≡ false) where
     is-listed : originOf image files counts ≡ listed files counts
     unfolding originOf
     is-listed = if-false _ _ _ i
 
-    from-sheet : Fileable lay (by (listed files counts)) g p o
-    from-sheet = subst (λ (f : Origin). Fileable lay (by f) g p o) is-listed y
+    from-sheet : CanFile lay (by (listed files counts)) g p o
+    from-sheet = subst (λ (f : Origin). CanFile lay (by f) g p o) is-listed y
 
     nth-within : g .nth < length counts
     unfolding totalOf
@@ -113,14 +113,14 @@ module _ (lay image : Bool) (files counts lengths bytes labels rooms : List ℕ)
       by-test image (λ i. read-small lay (setIn labels) lengths bytes rooms names g p o (from-image i))
       (λ i. nth-small files counts (setIn labels) lengths bytes rooms names g (from-sheet i .placed) (nth-within i))
 
-  place-countable : Countable image counts (length lengths) g
+  place-countable : CanCount image counts (length lengths) g
   place-countable =
       record {
         nth = nth-within;
         stop = λ i. stop-within files counts (setIn labels) lengths bytes rooms names g (from-sheet i .placed) (nth-within i);
       }
 
-  place-enterable : Enterable image (length files) (length bytes) g
+  place-enterable : CanEnter image (length files) (length bytes) g
   place-enterable =
       record {
         few = place-small;
@@ -130,7 +130,7 @@ module _ (lay image : Bool) (files counts lengths bytes labels rooms : List ℕ)
       }
 
   module _ (c : Cursor) (k : c ≡ cursorAt image counts g) (r : List ℕ)
-      (e : LabelsEntered labels (entryAt image files bytes g) (g .nth + 1) r) where
+      (e : DidEnter labels (entryAt image files bytes g) (g .nth + 1) r) where
     abbrev j : Job
     j = job (setIn labels) (entryAt image files bytes g) (g .nth + 1) rooms names
 
@@ -140,49 +140,49 @@ module _ (lay image : Bool) (files counts lengths bytes labels rooms : List ℕ)
     listed-at : image ≡ false → c ≡ listedAt (g .byte) (getD counts (g .nth) 0) (g .first + getD counts (g .nth) 0)
     listed-at i = k ∙ sym (cursor-listed image counts 0 g (getD counts (g .nth) 0) i refl)
 
-    ready : FileReady lay j lengths bytes c p o
+    ready : CanPutFile lay j lengths bytes c p o
     unfolding entryAt
     ready =
         by-test image
         (λ i.
-        subst (λ (d : List ℕ). FileReady lay (job (setIn labels) d (g .nth + 1) rooms names) lengths bytes c p o)
+        subst (λ (d : List ℕ). CanPutFile lay (job (setIn labels) d (g .nth + 1) rooms names) lengths bytes c p o)
         (sym (if-true _ _ _ i))
         (read-ready lay (setIn labels) lengths bytes rooms names g p o (from-image i) c (read-at i)))
         (λ i.
-        subst (λ (d : List ℕ). FileReady lay (job (setIn labels) d (g .nth + 1) rooms names) lengths bytes c p o)
+        subst (λ (d : List ℕ). CanPutFile lay (job (setIn labels) d (g .nth + 1) rooms names) lengths bytes c p o)
         (sym (if-false _ _ _ i))
         (entry-ready files counts (setIn labels) lengths bytes rooms names g (from-sheet i .placed) (nth-within i) _ _ refl refl c
         (listed-at i) lay p o (from-sheet i)))
 
-    place-ready : FileReady lay (jobOf r rooms) lengths bytes c p o
+    place-ready : CanPutFile lay (jobOf r rooms) lengths bytes c p o
     place-ready = parts-ready labels (entryAt image files bytes g) (g .nth + 1) r rooms e lay lengths bytes c p o ready
 
-    module _ (q : List ℕ) (x : Body) (m : FilePut lay (jobOf r rooms) lengths bytes c p o q x) where
-      put : FilePut lay j lengths bytes c p o q x
+    module _ (q : List ℕ) (x : Body) (m : DidPutFile lay (jobOf r rooms) lengths bytes c p o q x) where
+      put : DidPutFile lay j lengths bytes c p o q x
       put = parts-put labels (entryAt image files bytes g) (g .nth + 1) r rooms e lay lengths bytes c p o q x m
 
       abbrev next : Place
       next = behindFile image counts bytes g (c .stop) (x .end) (x .pen .short)
 
-      filed-read : image ≡ true → OneFiled lay (by read) g p o q (record { place = next; pen = x .pen })
+      filed-read : image ≡ true → DidFileOne lay (by read) g p o q (record { place = next; pen = x .pen })
       unfolding entryAt
       filed-read i =
-          let put′ = subst (λ (d : List ℕ). FilePut lay (job (setIn labels) d (g .nth + 1) rooms names) lengths bytes c p o q x) (if-true _ _ _ i) put in
+          let put′ = subst (λ (d : List ℕ). DidPutFile lay (job (setIn labels) d (g .nth + 1) rooms names) lengths bytes c p o q x) (if-true _ _ _ i) put in
           by-test (x .pen .short)
           (λ z.
-          subst (λ (h : Place). OneFiled lay (by read) g p o q (record { place = h; pen = x .pen }))
+          subst (λ (h : Place). DidFileOne lay (by read) g p o q (record { place = h; pen = x .pen }))
           (behind-short image counts bytes g (c .stop) (x .end) (x .pen .short) z)
           (read-short lay (setIn labels) lengths bytes rooms names g p o (from-image i) c (read-at i) q x put′ (c .stop) z))
           (λ z.
-          subst (λ (h : Place). OneFiled lay (by read) g p o q (record { place = h; pen = x .pen }))
+          subst (λ (h : Place). DidFileOne lay (by read) g p o q (record { place = h; pen = x .pen }))
           (behind-read image counts bytes g (c .stop) (x .end) (x .pen .short) z i
           (fileBehind bytes (g .file .hdr1) (x .end)) refl)
           (read-filed lay (setIn labels) lengths bytes rooms names g p o (from-image i) c (read-at i) q x put′ (c .stop) z))
 
-      filed-listed : image ≡ false → OneFiled lay (by (listed files counts)) g p o q (record { place = next; pen = x .pen })
+      filed-listed : image ≡ false → DidFileOne lay (by (listed files counts)) g p o q (record { place = next; pen = x .pen })
       unfolding entryAt
       filed-listed i =
-          let put′ = subst (λ (d : List ℕ). FilePut lay (job (setIn labels) d (g .nth + 1) rooms names) lengths bytes c p o q x) (if-false _ _ _ i) put in
+          let put′ = subst (λ (d : List ℕ). DidPutFile lay (job (setIn labels) d (g .nth + 1) rooms names) lengths bytes c p o q x) (if-false _ _ _ i) put in
           listed-filed files counts (setIn labels) lengths bytes rooms names g (from-sheet i .placed) (nth-within i) _
           (c .stop) refl (ap (λ (d : Cursor). d .stop) (listed-at i))
           c (listed-at i ∙ ap (λ (n : ℕ). listedAt (g .byte) (getD counts (g .nth) 0) n)
@@ -197,13 +197,13 @@ module _ (lay image : Bool) (files counts lengths bytes labels rooms : List ℕ)
               ∙ ap (passed g (c .stop) (x .end) (g .file)) (sym (if-false _ _ _ z)))
 
       place-filed : (r : Place) → r ≡ next
-          → OneFiled lay (taskOf image files counts lengths bytes labels rooms) g p o q (record { place = r; pen = x .pen })
+          → DidFileOne lay (taskOf image files counts lengths bytes labels rooms) g p o q (record { place = r; pen = x .pen })
       place-filed r h =
-          subst (λ (d : Place). OneFiled lay (taskOf image files counts lengths bytes labels rooms) g p o q
+          subst (λ (d : Place). DidFileOne lay (taskOf image files counts lengths bytes labels rooms) g p o q
           (record { place = d; pen = x .pen })) (sym h)
-          (by-test image (λ i. subst (λ (f : Origin). OneFiled lay (by f) g p o q (record { place = next; pen = x .pen }))
+          (by-test image (λ i. subst (λ (f : Origin). DidFileOne lay (by f) g p o q (record { place = next; pen = x .pen }))
           (sym (is-read i)) (filed-read i))
-          (λ i. subst (λ (f : Origin). OneFiled lay (by f) g p o q (record { place = next; pen = x .pen })) (sym (is-listed i))
+          (λ i. subst (λ (f : Origin). DidFileOne lay (by f) g p o q (record { place = next; pen = x .pen })) (sym (is-listed i))
           (filed-listed i)))
 
 -- ---- the loop over files
@@ -215,26 +215,26 @@ module _ (lay image : Bool) (files counts lengths bytes labels rooms : List ℕ)
   abbrev t : Task
   t = taskOf image files counts lengths bytes labels rooms
 
-  here : Fileable lay t g p q
+  here : CanFile lay t g p q
   here = along-fileable lay t first begun out q (record { place = g; pen = p }) m on
 
   pub turn-small : g .nth < 64
   turn-small = place-small lay image files counts lengths bytes labels rooms g p q here
 
-  pub turn-countable : Countable image counts (length lengths) g
+  pub turn-countable : CanCount image counts (length lengths) g
   turn-countable = place-countable lay image files counts lengths bytes labels rooms g p q here
 
-  pub turn-enterable : Enterable image (length files) (length bytes) g
+  pub turn-enterable : CanEnter image (length files) (length bytes) g
   turn-enterable = place-enterable lay image files counts lengths bytes labels rooms g p q here
 
   module _ (c : Cursor) (k : c ≡ cursorAt image counts g) (r : List ℕ)
-      (e : LabelsEntered labels (entryAt image files bytes g) (g .nth + 1) r) where
-    pub turn-ready : FileReady lay (jobOf r rooms) lengths bytes c p q
+      (e : DidEnter labels (entryAt image files bytes g) (g .nth + 1) r) where
+    pub turn-ready : CanPutFile lay (jobOf r rooms) lengths bytes c p q
     turn-ready = place-ready lay image files counts lengths bytes labels rooms g p q here c k r e
 
-    module _ (u : List ℕ) (x : Body) (y : FilePut lay (jobOf r rooms) lengths bytes c p q u x) (h : Place)
+    module _ (u : List ℕ) (x : Body) (y : DidPutFile lay (jobOf r rooms) lengths bytes c p q u x) (h : Place)
         (b : h ≡ behindFile image counts bytes g (c .stop) (x .end) (x .pen .short)) where
-      one : OneFiled lay t g p q u (record { place = h; pen = x .pen })
+      one : DidFileOne lay t g p q u (record { place = h; pen = x .pen })
       one = place-filed lay image files counts lengths bytes labels rooms g p q here c k r e u x y h b
 
       pub turn-more : Along lay t first begun out u (record { place = h; pen = x .pen })

@@ -1,15 +1,14 @@
--- The packing of a record, or of pieces of one, turn after turn. Assumes nothing.
+-- One turn of the packing of a record, or of pieces of one. Assumes nothing.
 use mathlib.Core.Path.{_≡_, refl, sym, ap, _∙_, subst}
 use mathlib.Core.Bool.{Bool, true, false, not, false≢true}
 use mathlib.Core.List.{List, _++_}
-use Prim.Native.Nat.{ℕ, suc, _+_, _-_, _*_, _≤_, _<_}
+use Prim.Native.Nat.{ℕ, _+_, _-_, _*_, _≤_, _<_}
 use native.Mathlib.Omega.{arith}
 use borrow.Author.Needs.{needs}
 use borrow.Author.Tests.{ltb-true, ltb-false, eqb-true, eqb-false}
 use lib.Dec.{eqb}
 use lib.ListN.{length, take, drop}
 use lib.Seq.{length-take-le}
-use Rattle.base.specs.If.{ifB}
 use Rattle.base.proofs.Ifs.{if-true, if-false, if-case}
 use Rattle.block.specs.Unit.{wordOf}
 use Rattle.writing.specs.Pack.{going, controlWord}
@@ -20,12 +19,12 @@ use Rattle.writing.proofs.Units.{length-control}
 use Rattle.writer.specs.declared.pen.Pen.{Pen}
 use Rattle.writer.specs.declared.pack.Flow.{Flow}
 use Rattle.writer.specs.code.Pass.{Job, inkAt, PassEnd, EndsWithin, between, within, fillDue, leftDue, penned}
-use Rattle.writer.specs.code.Pens.{Ready, Opens}
-use Rattle.writer.specs.code.Packs.{entersOn, Wanting, Blocked, more, flowed, Flowing, FlowGoes, FlowsOn, headed, Headable, Headed, manyOf, Partable, Settled, turnsIn, Turns, Packable, Packed}
+use Rattle.writer.specs.code.Pens.{CanOpen, DidOpen}
+use Rattle.writer.specs.code.Packs.{entersOn, Wanting, Blocked, more, flowed, Flowing, DidPutPart, headed, CanPutHead, DidPutHead, manyOf, CanSpell, turnsIn, DidTakeTurn, CanPack}
 use Rattle.writer.proofs.Passes.{ink-none, ink-length}
 use Rattle.writer.proofs.Dues.{enter-fill, enter-left, some-fill}
 use Rattle.writer.proofs.Blocks.{room-unit, penned-unit, more-sound, enters-on, entered-on, wanting-ready, blocked-next}
-use Rattle.writer.proofs.Steps.{goes-goes, flowing-on, left-length, flowed-in, flowed-out}
+use Rattle.writer.proofs.Steps.{left-length, flowed-in, flowed-out}
 
 -- ---- what is wanted
 
@@ -46,7 +45,7 @@ flowing-wanting lay f b j piece s o w h =
             first = drop (s .from) piece ++ a .bytes;
             later = a .later;
             next = a .next;
-            size = left-length piece (a .bytes) (s .left) (s .from) (w .good .from) (a .size);
+            «record_length» = left-length piece (a .bytes) (s .left) (s .from) (w .good .from) (a .«record_length»);
             room = a .room;
             fits =
                 subst (λ (u : PassEnd). EndsWithin u (length o))
@@ -82,7 +81,7 @@ turns-most f b n s =
 
 pub flowing-partable : (lay : Bool) (f b : ℕ) (j : Job) (piece : List ℕ) (s : Flow) (o : List ℕ) → Flowing lay f b j piece s o
     → s .inside ≡ true
-    → Partable lay (length piece) s (length o)
+    → CanSpell lay (length piece) s (length o)
 flowing-partable lay f b j piece s o w h =
     let least : s .pen .used + s .seg ≤ b = w .good .fits h in
     let seg : s .seg ≤ s .left = w .good .seg h in
@@ -100,7 +99,7 @@ flowing-partable lay f b j piece s o w h =
           let a = w .ahead l in
           let m : ℕ = manyOf (length piece) s in
           let x : List ℕ = drop (s .from) piece ++ a .bytes in
-          let left : length x ≡ s .left = left-length piece (a .bytes) (s .left) (s .from) (w .good .from) (a .size) in
+          let left : length x ≡ s .left = left-length piece (a .bytes) (s .left) (s .from) (w .good .from) (a .«record_length») in
           let few : m ≤ length x = omega (arith, seg) in
           let size : length (take m x) ≡ m = length-take-le m x few in
           let r : s .pen .at + 3 + s .pen .used + length (take m x) ≤ length o
@@ -113,13 +112,13 @@ flowing-partable lay f b j piece s o w h =
           omega arith;
     }
 
-module _ (lay : Bool) (f b : ℕ) (j : Job) (piece : List ℕ) (s : Flow) (o : List ℕ) (k : Packable lay f b j piece s o) where
+module _ (lay : Bool) (f b : ℕ) (j : Job) (piece : List ℕ) (s : Flow) (o : List ℕ) (k : CanPack lay f b j piece s o) where
   -- ---- within a unit
 
-  pub turn-partable : s .inside ≡ true → Partable lay (length piece) s (length o)
+  pub turn-partable : s .inside ≡ true → CanSpell lay (length piece) s (length o)
   turn-partable h = flowing-partable lay f b j piece s o (k .flowing) h
 
-  pub turn-in : (q : List ℕ) (r : Flow) → s .inside ≡ true → FlowsOn lay piece s o q r → Turns lay f b j piece s o q r
+  pub turn-in : (q : List ℕ) (r : Flow) → s .inside ≡ true → DidPutPart lay piece s o q r → DidTakeTurn lay f b j piece s o q r
   turn-in q r h y =
       let w = k .flowing in
       let here : length piece ≤ s .left + s .from = w .good .here in
@@ -145,7 +144,7 @@ module _ (lay : Bool) (f b : ℕ) (j : Job) (piece : List ℕ) (s : Flow) (o : L
           (λ t. let e : s .seg ≡ 0 = eqb-true _ _ t in let n = z e in absurd (omega (arith, y .from)))
           (λ t. let e : s .seg ≡ 0 → ⊥ = eqb-false _ _ t in omega (arith, y .from))
 
-  pub turn-in-kept : (q : List ℕ) (r : Flow) → FlowsOn lay piece s o q r → length q ≡ length o
+  pub turn-in-kept : (q : List ℕ) (r : Flow) → DidPutPart lay piece s o q r → length q ≡ length o
   turn-in-kept q r y = y .kept
 
   -- ---- between units
@@ -171,7 +170,7 @@ module _ (lay : Bool) (f b : ℕ) (j : Job) (piece : List ℕ) (s : Flow) (o : L
       word-free : lay ≡ true → p .at + 3 + p .used + wordOf f ≤ length o
       word-free l =
           let a = wanting .ahead l in
-          let n : enters f b (p .used) (length (a .first)) ≡ true = ap (enters f b (p .used)) (a .size) ∙ goes-in in
+          let n : enters f b (p .used) (length (a .first)) ≡ true = ap (enters f b (p .used)) (a .«record_length») ∙ goes-in in
           let i : ℕ = indicatorOf (a .begun) (taken f b (p .used) (length (a .first))) (length (a .first)) in
           let m : ℕ = taken f b (p .used) (length (a .first)) in
           let c : length (controlWord f i m) ≡ wordOf f = length-control f i m in
@@ -181,7 +180,7 @@ module _ (lay : Bool) (f b : ℕ) (j : Job) (piece : List ℕ) (s : Flow) (o : L
           (enter-fill f b (p .used) (a .begun) (a .first) n (a .later) ∙ ap (λ (z : ℕ). controlWord f i m ++ fillDue f b true (p .used + z) (within m (a .first) (a .later))) (sym c)) (a .fits) in
           omega arith
 
-      pub turn-headable : Headable lay f b s (length o)
+      pub turn-headable : CanPutHead lay f b s (length o)
       turn-headable =
           record {
             enters = goes-in;
@@ -217,18 +216,18 @@ module _ (lay : Bool) (f b : ℕ) (j : Job) (piece : List ℕ) (s : Flow) (o : L
           (enter-left f b (p .used) (s .begun) x n xs ∙ ap (λ (d : ℕ). leftDue f b true (p .used + d) (within m x xs)) (sym c))
           ∙ sym (flowed-out lay f b j s o x xs next out)
 
-      module _ (z : List ℕ) (r : Flow) (v : Headed lay f b s o z r) where
+      module _ (z : List ℕ) (r : Flow) (v : DidPutHead lay f b s o z r) where
         pub turn-head-kept : length z ≡ length o
         turn-head-kept =
             ap length (v .laid)
             ∙ ink-length lay o (p .at + 3 + p .used) (controlWord f (indicatorOf (s .begun) seg (s .left)) seg)
             (λ l. let m = word-free l in omega (arith, length-control f (indicatorOf (s .begun) seg (s .left)) seg))
 
-        pub turn-head : Turns lay f b j piece s o z r
+        pub turn-head : DidTakeTurn lay f b j piece s o z r
         turn-head =
             let u = entered f b (p .used) (s .left) goes-in in
             let g = k .flowing .good in
-            subst (Turns lay f b j piece s o z) (sym (v .is))
+            subst (DidTakeTurn lay f b j piece s o z) (sym (v .is))
             (record {
               goes =
                   record {
@@ -263,10 +262,10 @@ module _ (lay : Bool) (f b : ℕ) (j : Job) (piece : List ℕ) (s : Flow) (o : L
 
     -- it does not enter the open block: the next is opened
     module _ (h : t ≡ false) where
-      pub turn-ready : Ready lay j (s .pen) o
+      pub turn-ready : CanOpen lay j (s .pen) o
       turn-ready = wanting-ready lay f b j (s .left) (s .pen) o wanting t e h
 
-      module _ (q : List ℕ) (r : Pen) (y : Opens lay j (s .pen) o q r) where
+      module _ (q : List ℕ) (r : Pen) (y : DidOpen lay j (s .pen) o q r) where
         pub turn-open-kept : length q ≡ length o
         turn-open-kept = y .kept
 
@@ -292,7 +291,7 @@ module _ (lay : Bool) (f b : ℕ) (j : Job) (piece : List ℕ) (s : Flow) (o : L
         is-short : not (r .short) ≡ false → r .short ≡ true
         is-short w = by-test (r .short) (λ z. z) (λ z. absurd (false≢true (sym w ∙ ap not z)))
 
-        pub turn-open : Turns lay f b j piece s o q next
+        pub turn-open : DidTakeTurn lay f b j piece s o q next
         turn-open =
             let g = k .flowing .good in
             record {
@@ -338,73 +337,3 @@ module _ (lay : Bool) (f b : ℕ) (j : Job) (piece : List ℕ) (s : Flow) (o : L
             }
 
 pub ruleset turning = (turn-partable, turn-in, turn-in-kept, turn-headable, turn-head-kept, turn-head, turn-ready, turn-open-kept, turn-open, needs)
-
--- ---- the loop
-
-pub record Packing (lay : Bool) (f b : ℕ) (j : Job) (piece : List ℕ) (s : Flow) (o q : List ℕ) (r : Flow) : Type 0 where
-  pub goes : FlowGoes lay f b j piece s o q r
-  pub packable : r .on ≡ true → Packable lay f b j piece r q
-  pub settled : r .pen .short ≡ false → Settled r
-  pub over : r .on ≡ false → r .pen .short ≡ false → r .from ≡ length piece
-  pub out : r .on ≡ false → r .pen .short ≡ false → r .inside ≡ false → 0 < r .left
-
-pub packing-none : (lay : Bool) (f b : ℕ) (j : Job) (piece : List ℕ) (s : Flow) (o : List ℕ) → Packable lay f b j piece s o
-    → s .on ≡ true → Packing lay f b j piece s o o s
-packing-none lay f b j piece s o k h =
-    record {
-      goes =
-          record {
-            sound = k .flowing .sound;
-            kept = refl;
-            untouched = λ _. refl;
-            good = λ _. k .flowing .good;
-            total = refl;
-            same = λ zs xs next size room. refl;
-          };
-      packable = λ _. k;
-      settled = λ _. k .settled;
-      over = λ e. absurd (false≢true (sym e ∙ h));
-      out = λ e. absurd (false≢true (sym e ∙ h));
-    }
-
-module _ (lay : Bool) (f b : ℕ) (j : Job) (piece : List ℕ) (s : Flow) (o q : List ℕ) (r : Flow)
-    (x : Packing lay f b j piece s o q r) where
-  pub packing-packable : r .on ≡ true → Packable lay f b j piece r q
-  packing-packable h = x .packable h
-
-  pub packing-more : (z : List ℕ) (v : Flow) → r .on ≡ true → Turns lay f b j piece r q z v → Packing lay f b j piece s o z v
-  packing-more z v h y =
-      record {
-        goes = goes-goes lay f b j piece s o q r z v (x .goes) (y .goes);
-        packable =
-            λ e.
-            record {
-              flowing = flowing-on lay f b j piece r q z v (x .packable h .flowing) (y .goes) (y .given e);
-              settled = y .settled (y .given e);
-            };
-        settled = y .settled;
-        over = y .over;
-        out = y .out;
-      }
-
-  pub packing-all : r .on ≡ false → Packed lay f b j piece s o q r
-  packing-all h = record { goes = x .goes; settled = x .settled; over = x .over h; out = x .out h }
-
-  pub packing-kept : length q ≡ length o
-  packing-kept = x .goes .kept
-
--- what falls with each turn
-unfoldable pub turnsLeft : ℕ → ℕ → ℕ → Flow → ℕ
-turnsLeft f b n s = ifB (s .on) (suc (turnsIn f b n s)) 0
-
-pub turns-fall : (lay : Bool) (f b : ℕ) (j : Job) (piece : List ℕ) (s : Flow) (o q : List ℕ) (r : Flow) → s .on ≡ true
-    → Turns lay f b j piece s o q r
-    → turnsLeft f b (length piece) r < turnsLeft f b (length piece) s
-unfolding turnsLeft
-turns-fall lay f b j piece s o q r h y =
-    let n : ifB (s .on) (suc (turnsIn f b (length piece) s)) 0 ≡ suc (turnsIn f b (length piece) s) = if-true _ _ _ h in
-    by-test (r .on)
-    (λ e. let m : ifB (r .on) (suc (turnsIn f b (length piece) r)) 0 ≡ suc (turnsIn f b (length piece) r) = if-true _ _ _ e in let a = y .falls e in omega arith)
-    (λ e. let m : ifB (r .on) (suc (turnsIn f b (length piece) r)) 0 ≡ 0 = if-false _ _ _ e in omega arith)
-
-pub ruleset packing = (packing-none, packing-packable, packing-more, packing-all, packing-kept, turns-fall, needs)

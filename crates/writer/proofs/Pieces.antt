@@ -2,14 +2,14 @@
 use mathlib.Core.Path.{_≡_, refl, sym, ap, _∙_, subst}
 use mathlib.Core.Bool.{Bool, true, false}
 use mathlib.Core.List.{List, _++_}
-use Prim.Native.Nat.{ℕ, _+_, _-_, _≤_}
+use Prim.Native.Nat.{ℕ, _+_, _≤_}
 use native.Mathlib.Omega.{arith}
 use lib.ListN.{length, drop, length-append, drop-of-length-le}
 use Rattle.writing.specs.code.Room.{RoomEach}
 use Rattle.writing.specs.Lay.{Sequel}
 use Rattle.writer.specs.declared.pack.Flow.{Flow}
 use Rattle.writer.specs.code.Pass.{Job, PassEnd, EndsWithin, Sound}
-use Rattle.writer.specs.code.Packs.{flowed, GoodFlow, Settled, Packable, Packed}
+use Rattle.writer.specs.code.Packs.{flowed, GoodFlow, Settled, CanPack, DidPack}
 
 -- a flow at the beginning of the next piece
 abbrev pub reset : Flow → Flow
@@ -26,7 +26,7 @@ pub record Following (f b : ℕ) (j : Job) (zs : List ℕ) (s : Flow) (o : List 
 pub record PiecesLeft (lay : Bool) (f b : ℕ) (j : Job) (zs : List ℕ) (s : Flow) (o : List ℕ) : Type 0 where
   pub sound : Sound j (s .pen)
   pub given : s .pen .short ≡ false
-  pub size : s .left ≡ length zs
+  pub «record_length» : s .left ≡ length zs
   pub from : s .from ≡ 0
   pub good : GoodFlow f b 0 s
   pub settled : Settled s
@@ -37,7 +37,7 @@ module _ (lay : Bool) (f b : ℕ) (j : Job) (piece zs : List ℕ) (s : Flow) (o 
   all : drop (s .from) piece ++ zs ≡ piece ++ zs
   all = ap (λ (n : ℕ). drop n piece ++ zs) (w .from)
 
-  pub pieces-in : Packable lay f b j piece s o
+  pub pieces-in : CanPack lay f b j piece s o
   pieces-in =
       let long : length (piece ++ zs) ≡ length piece + length zs = length-append piece zs in
       record {
@@ -49,7 +49,7 @@ module _ (lay : Bool) (f b : ℕ) (j : Job) (piece zs : List ℕ) (s : Flow) (o 
                   record {
                     most = w .good .most;
                     from = omega (arith, w .from);
-                    here = omega (arith, w .from, w .size);
+                    here = omega (arith, w .from, w .«record_length»);
                     enough = w .good .enough;
                     on = w .good .on;
                     seg = w .good .seg;
@@ -64,7 +64,7 @@ module _ (lay : Bool) (f b : ℕ) (j : Job) (piece zs : List ℕ) (s : Flow) (o 
                     bytes = zs;
                     later = a .later;
                     next = a .next;
-                    size = omega (arith, w .from, w .size);
+                    «record_length» = omega (arith, w .from, w .«record_length»);
                     room = a .room;
                     fits =
                         subst (λ (x : List ℕ). EndsWithin (flowed true f b j s o x (a .later) (a .next)) (length o)) (sym all)
@@ -74,7 +74,7 @@ module _ (lay : Bool) (f b : ℕ) (j : Job) (piece zs : List ℕ) (s : Flow) (o 
         settled = w .settled;
       }
 
-  module _ (q : List ℕ) (r : Flow) (x : Packed lay f b j piece s o q r) (h : r .pen .short ≡ false) where
+  module _ (q : List ℕ) (r : Flow) (x : DidPack lay f b j piece s o q r) (h : r .pen .short ≡ false) where
     rest : drop (r .from) piece ++ zs ≡ zs
     rest = let e : length piece ≤ r .from = omega (arith, x .over h) in ap (λ (l : List ℕ). l ++ zs) (drop-of-length-le piece e)
 
@@ -84,7 +84,7 @@ module _ (lay : Bool) (f b : ℕ) (j : Job) (piece zs : List ℕ) (s : Flow) (o 
     pieces-same xs next room =
         let long : length (piece ++ zs) ≡ length piece + length zs = length-append piece zs in
         ap (λ (l : List ℕ). flowed lay f b j r q l xs next) (sym rest)
-        ∙ x .goes .same zs xs next (omega (arith, w .from, w .size)) room
+        ∙ x .goes .same zs xs next (omega (arith, w .from, w .«record_length»)) room
         ∙ ap (λ (l : List ℕ). flowed lay f b j s o l xs next) all
 
     pub pieces-out : PiecesLeft lay f b j zs (reset r) q
@@ -94,7 +94,7 @@ module _ (lay : Bool) (f b : ℕ) (j : Job) (piece zs : List ℕ) (s : Flow) (o 
         record {
           sound = x .goes .sound;
           given = h;
-          size = omega (arith, x .goes .total, x .over h, w .from, w .size);
+          «record_length» = omega (arith, x .goes .total, x .over h, w .from, w .«record_length»);
           from = refl;
           good =
               record {

@@ -28,7 +28,7 @@ use Rattle.content.proofs.Records.{handed-passes}
 use Rattle.content.proofs.Numbered.{measured-nothing, measured-whole, measured-split, measured-end-nothing, measured-end-whole, measured-end-split, whole-within}
 use Rattle.writer.specs.declared.source.Cursor.{Cursor}
 use Rattle.writer.specs.declared.source.Found.{Found}
-use Rattle.writer.specs.code.Source.{walkOf, movedTo, lengthsAt, recordsOf, endAt, stopOf, GoodCursor, nothing, splitBytes, SplitHere, foundBytes, Finds}
+use Rattle.writer.specs.code.Source.{walkOf, movedTo, lengthsAt, recordsOf, endAt, stopOf, GoodCursor, nothing, splitBytes, SplitHere, foundBytes, DidFind}
 
 -- ---- what is left, by the source
 
@@ -75,7 +75,7 @@ pub ruleset stops = (stop-fits, stop-image, stop-sheet, needs)
 -- ---- a record found
 
 module _ (lengths bytes : List ℕ) (c : Cursor) (g : GoodCursor lengths bytes c) where
-  none-found : recordsOf lengths bytes c ≡ [] → stopOf c ≡ endAt lengths bytes c → Finds lengths bytes c nothing
+  none-found : recordsOf lengths bytes c ≡ [] → stopOf c ≡ endAt lengths bytes c → DidFind lengths bytes c nothing
   none-found n o =
       record {
         none = λ _. n;
@@ -91,7 +91,7 @@ module _ (lengths bytes : List ℕ) (c : Cursor) (g : GoodCursor lengths bytes c
       (o : recordsOf lengths bytes c ≡ foundBytes bytes c r ∷ recordsOf lengths bytes (movedTo c (r .at) (r .left)))
       (e : endAt lengths bytes (movedTo c (r .at) (r .left)) ≡ endAt lengths bytes c) where
     some-found : ((r .kind ≡ 2 → ⊥) → r .from + r .len ≤ length bytes) → (r .kind ≡ 2 → SplitHere bytes c (r .len))
-        → Finds lengths bytes c r
+        → DidFind lengths bytes c r
     some-found i s =
         record {
           none = λ z. absurd (k z);
@@ -138,12 +138,12 @@ unfolding part
 cut-part at n bytes = refl
 
 module _ (lengths bytes : List ℕ) (c : Cursor) (g : GoodCursor lengths bytes c) (s : c .image ≡ false) where
-  pub listed-none : (r : Found) → c .left ≡ 0 → r ≡ nothing → Finds lengths bytes c r
+  pub listed-none : (r : Found) → c .left ≡ 0 → r ≡ nothing → DidFind lengths bytes c r
   unfolding lengthsAt part cutBy sum
   listed-none r z q =
       let none : lengthsAt lengths c ≡ [] = ap (λ (n : ℕ). take n (drop (c .stop - c .left) lengths)) z in
       let end : c .at ≡ c .at + sum (lengthsAt lengths c) = omega (arith, ap sum none) in
-      subst (Finds lengths bytes c) (sym q)
+      subst (DidFind lengths bytes c) (sym q)
       (none-found lengths bytes c g (sheet-records lengths bytes c s ∙ ap (λ (ns : List ℕ). cutBy ns (drop (c .at) bytes)) none)
       (sheet-stop c s ∙ end ∙ sym (sheet-end lengths bytes c s)))
 
@@ -185,7 +185,7 @@ module _ (lengths bytes : List ℕ) (c : Cursor) (g : GoodCursor lengths bytes c
       pub listed-fits : length bytes < 18446744073709551616 → Fits w64 (c .at + n)
       listed-fits h = let i = inside in omega arith
 
-      pub listed-one : Finds lengths bytes c r
+      pub listed-one : DidFind lengths bytes c r
       unfolding cutBy
       listed-one =
           some-found lengths bytes c g r (λ k. let x : _≡_ {A = ℕ} 1 0 = k in absurd (omega arith)) (λ _. omega arith)
@@ -219,7 +219,7 @@ same-file s w m e =
     (same-by s w (recordAt s w)
     (λ r v q.
     let p = handed-passes s w r v q in
-    λ i. record { format = sym (p .format) i; size = sym (p .size) i; offset = sym (p .offset) i; at = v .at; left = v .left }))
+    λ i. record { format = sym (p .format) i; «record_length» = sym (p .«record_length») i; offset = sym (p .offset) i; at = v .at; left = v .left }))
 
 -- ---- the next record of an image
 
@@ -228,9 +228,9 @@ module _ (lengths bytes : List ℕ) (c : Cursor) (g : GoodCursor lengths bytes c
   measured-is : m ≡ measuredBy (recordAt bytes (walkOf c))
   measured-is = e ∙ ap (λ (v : Walk). measuredBy (recordAt bytes v)) k
 
-  pub far-none : (r : Found) → m ≡ None → r ≡ nothing → Finds lengths bytes c r
+  pub far-none : (r : Found) → m ≡ None → r ≡ nothing → DidFind lengths bytes c r
   far-none r q z =
-      subst (Finds lengths bytes c) (sym z)
+      subst (DidFind lengths bytes c) (sym z)
       (none-found lengths bytes c g (image-records lengths bytes c s ∙ measured-nothing bytes (walkOf c) m measured-is q)
       (image-stop c s ∙ sym (measured-end-nothing bytes (walkOf c) m measured-is q) ∙ sym (image-end lengths bytes c s)))
 
@@ -255,11 +255,11 @@ module _ (lengths bytes : List ℕ) (c : Cursor) (g : GoodCursor lengths bytes c
 
     found-on : (r .kind ≡ 0 → ⊥) → recordsAt bytes (walkOf c) ≡ x ∷ recordsAt bytes v → endOf bytes (walkOf c) ≡ endOf bytes v
         → ((r .kind ≡ 2 → ⊥) → r .from + r .len ≤ length bytes) → (r .kind ≡ 2 → SplitHere bytes c (r .len))
-        → Finds lengths bytes c r
+        → DidFind lengths bytes c r
     found-on z o p i h = some-found lengths bytes c g r z (λ n. absurd (false≢true (sym n ∙ s))) (records-on o) (ends-on p) i h
 
   pub far-whole : (from len : ℕ) (v : Walk) → m ≡ Whole from len v
-      → Finds lengths bytes c (record { from = from; len = len; at = v .at; left = v .left; kind = 1 })
+      → DidFind lengths bytes c (record { from = from; len = len; at = v .at; left = v .left; kind = 1 })
   far-whole from len v q =
       found-on (record { from = from; len = len; at = v .at; left = v .left; kind = 1 }) (part from len bytes) v
       (same-file bytes (walkOf c) (Whole from len v) (sym q ∙ measured-is))
@@ -269,7 +269,7 @@ module _ (lengths bytes : List ℕ) (c : Cursor) (g : GoodCursor lengths bytes c
       (λ _. whole-within bytes (walkOf c) from len v m measured-is q) (λ z. let n : _≡_ {A = ℕ} 1 2 = z in absurd (omega arith))
 
   pub far-split : (len : ℕ) (v : Walk) → m ≡ Split len v
-      → Finds lengths bytes c (record { from = 0; len = len; at = v .at; left = v .left; kind = 2 })
+      → DidFind lengths bytes c (record { from = 0; len = len; at = v .at; left = v .left; kind = 2 })
   far-split len v q =
       found-on (record { from = 0; len = len; at = v .at; left = v .left; kind = 2 }) (recordBytes (recordAt bytes (walkOf c))) v
       (same-file bytes (walkOf c) (Split len v) (sym q ∙ measured-is))
@@ -283,7 +283,7 @@ pub ruleset far = (far-none, far-whole, far-split, needs)
 pub read-whole : (lengths bytes : List ℕ) (c : Cursor) (w v : Walk) (k word : ℕ) → GoodCursor lengths bytes c → c .image ≡ true
     → w ≡ walkOf c → v ≡ atBlock bytes w
     → k ≡ wholeAt bytes v → (k ≡ 0 → ⊥) → word ≡ wordOf (v .format)
-    → Finds lengths bytes c (record { from = v .at + word; len = k - word; at = v .at + k; left = v .left - k; kind = 1 })
+    → DidFind lengths bytes c (record { from = v .at + word; len = k - word; at = v .at + k; left = v .left - k; kind = 1 })
 read-whole lengths bytes c w v k word g s e h m z q =
     far-whole lengths bytes c g s w e (Whole (v .at + word) (k - word) (moved v (v .at + k) (v .left - k)))
     (whole-measured bytes w v _ k word h m z q refl)

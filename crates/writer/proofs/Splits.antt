@@ -32,13 +32,13 @@ use Rattle.writer.specs.declared.pack.Flow.{Flow}
 use Rattle.writer.specs.declared.source.Cursor.{Cursor}
 use Rattle.writer.specs.declared.split.Segment.{Segment}
 use Rattle.writer.specs.code.Source.{walkOf, splitBytes, SplitHere}
-use Rattle.writer.specs.code.Segments.{behindOf, HasRest, Segmented}
+use Rattle.writer.specs.code.Segments.{behindOf, HasRest, DidSegment}
 use Rattle.writer.specs.code.Pass.{Job, PassEnd, EndsWithin, between, penned}
-use Rattle.writer.specs.code.Packs.{flowed, Packable, Packed}
-use Rattle.writer.specs.code.Records.{Splittable, Recorded}
+use Rattle.writer.specs.code.Packs.{flowed, CanPack, DidPack}
+use Rattle.writer.specs.code.Records.{CanSplit, DidPutRecord}
 use Rattle.writer.proofs.Steps.{flowed-out}
 use Rattle.writer.proofs.Pieces.{reset, PiecesLeft, pieces-in, pieces-same, pieces-out}
-use Rattle.writer.proofs.Records.{flow-over, flow-short}
+use Rattle.writer.proofs.RecordBlocks.{flow-over, flow-short}
 
 -- ---- the segments
 
@@ -59,14 +59,14 @@ abbrev segment : ℕ → ℕ → Walk → Segment
 segment from len v = record { from = from; len = len; at = v .at; left = v .left }
 
 -- the walk behind a segment of the file of w is that of its numbers
-module _ (bytes : List ℕ) (c : Cursor) (w : Walk) (from len : ℕ) (v : Walk) (k : w .format ≡ c .format) (l : w .size ≡ c .size)
+module _ (bytes : List ℕ) (c : Cursor) (w : Walk) (from len : ℕ) (v : Walk) (k : w .format ≡ c .format) (l : w .«record_length» ≡ c .«record_length»)
     (m : w .offset ≡ c .offset) (b : UnitBehind bytes w from len v) where
   same-walk : v ≡ behindOf c (segment from len v)
   same-walk =
-      λ i. record { format = (b .format ∙ k) i; size = (b .size ∙ l) i; offset = (b .offset ∙ m) i; at = v .at; left = v .left }
+      λ i. record { format = (b .format ∙ k) i; «record_length» = (b .«record_length» ∙ l) i; offset = (b .offset ∙ m) i; at = v .at; left = v .left }
 
   -- it is the last one, or the record goes on
-  segmented-last : (x : List ℕ) → x ≡ part from len bytes → Segmented bytes c x (segment from len v)
+  segmented-last : (x : List ℕ) → x ≡ part from len bytes → DidSegment bytes c x (segment from len v)
   segmented-last x e =
       record {
         rest = [];
@@ -77,8 +77,9 @@ module _ (bytes : List ℕ) (c : Cursor) (w : Walk) (from len : ℕ) (v : Walk) 
         same = λ h. absurd (omega arith);
       }
 
-  segmented-more : (x : List ℕ) → x ≡ part from len bytes ++ bytesBehind bytes v → isEnded (restAt bytes (v .size) v) ≡ true
-      → Segmented bytes c x (segment from len v)
+  segmented-more : (x : List ℕ) → x ≡ part from len bytes ++ bytesBehind bytes v
+      → isEnded (restAt bytes (v .«record_length») v) ≡ true
+      → DidSegment bytes c x (segment from len v)
   segmented-more x e h =
       record {
         rest = bytesBehind bytes v;
@@ -94,11 +95,11 @@ module _ (bytes : List ℕ) (c : Cursor) (n : ℕ) (h : SplitHere bytes c n) (w 
   segment-first : t ≡ firstSegment bytes (walkOf c)
   segment-first = e ∙ ap (firstSegment bytes) k
 
-  pub first-none : (g : Segment) → t ≡ Nothing → Segmented bytes c (splitBytes bytes c) g
+  pub first-none : (g : Segment) → t ≡ Nothing → DidSegment bytes c (splitBytes bytes c) g
   first-none g q = absurd (first-some bytes (walkOf c) n (h .behind) (Split n (h .behind)) t (h .is) refl segment-first q)
 
   pub first-one : (i from len : ℕ) (v : Walk) → t ≡ One i from len v
-      → Segmented bytes c (splitBytes bytes c) (record { from = from; len = len; at = v .at; left = v .left })
+      → DidSegment bytes c (splitBytes bytes c) (record { from = from; len = len; at = v .at; left = v .left })
   unfolding splitBytes
   first-one i from len v q =
       let p : First bytes (walkOf c) from len v = first-split bytes (walkOf c) n (h .behind) (Split n (h .behind)) i from len v t (h .is) refl segment-first q in
@@ -109,7 +110,7 @@ pub ruleset firsts = (first-none, first-one, needs)
 
 module _ (bytes : List ℕ) (c : Cursor) (g : Segment) (h : HasRest bytes (behindOf c g)) (t : Taken)
     (e : t ≡ nextSegment bytes (behindOf c g)) where
-  pub next-none : (r : Segment) → t ≡ Nothing → Segmented bytes c (bytesBehind bytes (behindOf c g)) r
+  pub next-none : (r : Segment) → t ≡ Nothing → DidSegment bytes c (bytesBehind bytes (behindOf c g)) r
   next-none r q = absurd (next-some bytes (behindOf c g) t (h .inside) (h .ended) e q)
 
   pub next-none-on : (r : Segment) → t ≡ Nothing → g .at < r .at
@@ -122,7 +123,7 @@ module _ (bytes : List ℕ) (c : Cursor) (g : Segment) (h : HasRest bytes (behin
     behind : UnitBehind bytes (behindOf c g) from len v
     behind = next-is bytes (behindOf c g) i from len v (sym e ∙ q)
 
-    pub next-one : Segmented bytes c (bytesBehind bytes (behindOf c g))
+    pub next-one : DidSegment bytes c (bytesBehind bytes (behindOf c g))
         (record { from = from; len = len; at = v .at; left = v .left })
     next-one =
         by-test (eqb i 3) (λ z. segmented-last bytes c (behindOf c g) from len v refl refl refl behind _
@@ -142,7 +143,7 @@ pub ruleset nexts = (next-none, next-none-on, next-one, next-one-on, needs)
 pub record Splits (lay : Bool) (f b : ℕ) (j : Job) (bytes : List ℕ) (c : Cursor) (p : Pen) (o : List ℕ) (g : Segment) (s : Flow)
     (q : List ℕ) : Type 0 where
   pub left : List ℕ
-  pub segment : Segmented bytes c left g
+  pub segment : DidSegment bytes c left g
   pub splitting : PiecesLeft lay f b j left s q
   pub on : s .on ≡ true
   pub kept : length q ≡ length o
@@ -151,7 +152,7 @@ pub record Splits (lay : Bool) (f b : ℕ) (j : Job) (bytes : List ℕ) (c : Cur
       → flowed lay f b j s q left xs next ≡ penned lay f b j p o (between (going 0 (splitBytes bytes c) xs)) next
 
 module _ (lay : Bool) (f b : ℕ) (j : Job) (bytes : List ℕ) (c : Cursor) (n : ℕ) (p : Pen) (o : List ℕ)
-    (k : Splittable lay f b j bytes c n p o) where
+    (k : CanSplit lay f b j bytes c n p o) where
   pub splits-here : SplitHere bytes c n
   splits-here = k .split
 
@@ -167,7 +168,7 @@ module _ (lay : Bool) (f b : ℕ) (j : Job) (bytes : List ℕ) (c : Cursor) (n :
       ≡ penned lay f b j p o (between (going 0 (splitBytes bytes c) xs)) next
   flowed-first lay xs next = flowed-out lay f b j first o (splitBytes bytes c) xs next refl
 
-  pub splits-none : (g : Segment) → Segmented bytes c (splitBytes bytes c) g → Splits lay f b j bytes c p o g first o
+  pub splits-none : (g : Segment) → DidSegment bytes c (splitBytes bytes c) g → Splits lay f b j bytes c p o g first o
   splits-none g h =
       record {
         left = splitBytes bytes c;
@@ -176,7 +177,7 @@ module _ (lay : Bool) (f b : ℕ) (j : Job) (bytes : List ℕ) (c : Cursor) (n :
             record {
               sound = k .sound;
               given = k .given;
-              size = size;
+              «record_length» = size;
               from = refl;
               good =
                   record {
@@ -234,10 +235,10 @@ module _ (lay : Bool) (f b : ℕ) (j : Job) (bytes : List ℕ) (c : Cursor) (p :
   splitting : PiecesLeft lay f b j (piece ++ rest) s q
   splitting = subst (λ (l : List ℕ). PiecesLeft lay f b j l s q) all (x .splitting)
 
-  pub splits-packable : Packable lay f b j piece s q
+  pub splits-packable : CanPack lay f b j piece s q
   splits-packable = pieces-in lay f b j piece rest s q splitting
 
-  module _ (z : List ℕ) (t : Flow) (y : Packed lay f b j piece s q z t) where
+  module _ (z : List ℕ) (t : Flow) (y : DidPack lay f b j piece s q z t) where
     pub splits-kept-on : length z ≡ length o
     splits-kept-on = y .goes .kept ∙ x .kept
 
@@ -245,7 +246,7 @@ module _ (lay : Bool) (f b : ℕ) (j : Job) (bytes : List ℕ) (c : Cursor) (p :
     untouched l = y .goes .untouched l ∙ x .untouched l
 
     -- a reel is lacking
-    pub splits-short : t .pen .short ≡ true → Recorded lay f b j (splitBytes bytes c) p o z (t .pen)
+    pub splits-short : t .pen .short ≡ true → DidPutRecord lay f b j (splitBytes bytes c) p o z (t .pen)
     splits-short h =
         let long : length (piece ++ rest) ≡ length piece + length rest = length-append piece rest in
         record {
@@ -255,7 +256,7 @@ module _ (lay : Bool) (f b : ℕ) (j : Job) (bytes : List ℕ) (c : Cursor) (p :
           same =
               λ xs next room.
               flow-short lay f b j t z (drop (t .from) piece ++ rest) xs next h
-              ∙ y .goes .same rest xs next (omega (arith, splitting .from, splitting .size)) room
+              ∙ y .goes .same rest xs next (omega (arith, splitting .from, splitting .«record_length»)) room
               ∙ ap (λ (m : ℕ). flowed lay f b j s q (drop m piece ++ rest) xs next) (splitting .from)
               ∙ ap (λ (l : List ℕ). flowed lay f b j s q l xs next) (sym all)
               ∙ x .same xs next room;
@@ -273,9 +274,9 @@ module _ (lay : Bool) (f b : ℕ) (j : Job) (bytes : List ℕ) (c : Cursor) (p :
           ∙ x .same xs next room
 
       -- the record is packed
-      pub splits-last : t .left ≡ 0 → Recorded lay f b j (splitBytes bytes c) p o z (t .pen)
+      pub splits-last : t .left ≡ 0 → DidPutRecord lay f b j (splitBytes bytes c) p o z (t .pen)
       splits-last e =
-          let none : [] ≡ rest = no-bytes rest (omega (arith, after .size)) in
+          let none : [] ≡ rest = no-bytes rest (omega (arith, after .«record_length»)) in
           record {
             sound = y .goes .sound;
             kept = splits-kept-on;
@@ -293,12 +294,12 @@ module _ (lay : Bool) (f b : ℕ) (j : Job) (bytes : List ℕ) (c : Cursor) (p :
 
       module _ (e : t .left ≡ 0 → ⊥) where
         some : 0 < length rest
-        some = let m : t .left ≡ length rest = after .size in omega arith
+        some = let m : t .left ≡ length rest = after .«record_length» in omega arith
 
         pub splits-goes : HasRest bytes (behindOf c g)
         splits-goes = x .segment .goes some
 
-        pub splits-more : (r : Segment) → Segmented bytes c (bytesBehind bytes (behindOf c g)) r
+        pub splits-more : (r : Segment) → DidSegment bytes c (bytesBehind bytes (behindOf c g)) r
             → Splits lay f b j bytes c p o r (reset t) z
         splits-more r k =
             let is : rest ≡ bytesBehind bytes (behindOf c g) = x .segment .same some in
@@ -312,7 +313,7 @@ module _ (lay : Bool) (f b : ℕ) (j : Job) (bytes : List ℕ) (c : Cursor) (p :
               same = λ xs next room. ap (λ (l : List ℕ). flowed lay f b j (reset t) z l xs next) (sym is) ∙ same-on xs next room;
             }
 
-        pub splits-fall : (r : Segment) → Segmented bytes c (bytesBehind bytes (behindOf c g)) r → g .at < r .at
+        pub splits-fall : (r : Segment) → DidSegment bytes c (bytesBehind bytes (behindOf c g)) r → g .at < r .at
             → length bytes - r .at < length bytes - g .at
         splits-fall r k l = omega (arith, k .inside)
 

@@ -18,8 +18,8 @@ use Rattle.writing.proofs.Packing.{segment-enters}
 use Rattle.writer.specs.declared.pen.Pen.{Pen}
 use Rattle.writer.specs.declared.pack.Flow.{Flow}
 use Rattle.writer.specs.code.Pass.{Job, inkAt, PassEnd, ends, EndsWithin, UnitDue, between, within, fillDue, leftDue, penned}
-use Rattle.writer.specs.code.Pens.{Closable, Closes}
-use Rattle.writer.specs.code.Packs.{more, dueOf, flowed, Flowing, FlowGoes, FlowsOn, manyOf, spelled, Partable, Spelled, Settled}
+use Rattle.writer.specs.code.Pens.{CanClose, DidClose}
+use Rattle.writer.specs.code.Packs.{more, dueOf, flowed, Flowing, FlowGoes, DidPutPart, manyOf, spelled, CanSpell, DidSpell, Settled}
 use Rattle.writer.proofs.Passes.{ink-none, ink-length}
 use Rattle.writer.proofs.Dues.{some-fill, some-left, broken-fill, broken-left}
 use Rattle.writer.proofs.Blocks.{penned-unit, more-sound}
@@ -51,13 +51,13 @@ flowing-on lay f b j piece s o q r w x h =
           let e : flowed true f b j r q (drop (r .from) piece ++ a .bytes) (a .later) (a .next) ≡ flowed true f b j s o (drop (s .from) piece ++ a .bytes) (a .later) (a .next)
           = subst (λ (t : Bool). flowed t f b j r q (drop (r .from) piece ++ a .bytes) (a .later) (a .next)
           ≡ flowed t f b j s o (drop (s .from) piece ++ a .bytes) (a .later) (a .next)) l
-          (x .same (a .bytes) (a .later) (a .next) (a .size) (a .room)) in
+          (x .same (a .bytes) (a .later) (a .next) (a .«record_length») (a .room)) in
           let g : EndsWithin (flowed true f b j r q (drop (r .from) piece ++ a .bytes) (a .later) (a .next)) (length o) = subst (λ (u : PassEnd). EndsWithin u (length o)) (sym e) (a .fits) in
           record {
             bytes = a .bytes;
             later = a .later;
             next = a .next;
-            size = x .total ∙ a .size;
+            «record_length» = x .total ∙ a .«record_length»;
             room = a .room;
             fits =
                 subst (EndsWithin (flowed true f b j r q (drop (r .from) piece ++ a .bytes) (a .later) (a .next)))
@@ -118,7 +118,7 @@ module _ (lay : Bool) (s : Flow) (o : List ℕ) (inside : s .inside ≡ true) wh
   ended-in : (s .seg ≡ 0 → ⊥) → Ended lay s o o s
   ended-in h = record { kept = refl; from = refl; on = refl; short = refl; settled = λ _ e. absurd (h e); out = λ e. absurd (false≢true (sym e ∙ inside)); goes = goes-none }
 
-  module _ (none : s .seg ≡ 0) (some : 0 < s .left) (q : List ℕ) (p : Pen) (c : Closes lay (s .pen) o q p) where
+  module _ (none : s .seg ≡ 0) (some : 0 < s .left) (q : List ℕ) (p : Pen) (c : DidClose lay (s .pen) o q p) where
     part-same : (f b : ℕ) (j : Job) (x : List ℕ) (xs : List (List ℕ)) (next : Sequel) → length x ≡ s .left
         → flowed lay f b j (parted s p) q x xs next ≡ flowed lay f b j s o x xs next
     unfolding penned
@@ -215,14 +215,14 @@ spelled-same lay f b j p o piece from k m zs xs next h s i e l r =
     drop-front : drop m (drop from piece ++ zs) ≡ drop (from + m) piece ++ zs
     drop-front = drop-append-le m (drop from piece) zs few ∙ ap (λ (l : List ℕ). l ++ zs) (drop-drop m from piece)
 
-module _ (lay : Bool) (piece : List ℕ) (s : Flow) (o : List ℕ) (y : Partable lay (length piece) s (length o)) where
+module _ (lay : Bool) (piece : List ℕ) (s : Flow) (o : List ℕ) (y : CanSpell lay (length piece) s (length o)) where
   abbrev m : ℕ
   m = manyOf (length piece) s
 
   bytes-length : length (part (s .from) m piece) ≡ m
   bytes-length = length-part (s .from) m piece (omega (arith, y .from))
 
-  module _ (q : List ℕ) (t : Flow) (x : Spelled lay piece s o q t) where
+  module _ (q : List ℕ) (t : Flow) (x : DidSpell lay piece s o q t) where
     pub spelled-kept : length q ≡ length o
     spelled-kept =
         ap length (x .laid) ∙ ink-length lay o (s .pen .at + 3 + s .pen .used) (part (s .from) m piece) (λ l. let r = y .room l in omega (arith, bytes-length))
@@ -230,9 +230,9 @@ module _ (lay : Bool) (piece : List ℕ) (s : Flow) (o : List ℕ) (y : Partable
     spelled-inside : t .inside ≡ true
     spelled-inside = ap (λ (u : Flow). u .inside) (x .is)
 
-    pub part-closable : Closable lay (t .pen) (length q)
+    pub part-closable : CanClose lay (t .pen) (length q)
     part-closable =
-        subst (λ (v : Flow). Closable lay (v .pen) (length q)) (sym (x .is))
+        subst (λ (v : Flow). CanClose lay (v .pen) (length q)) (sym (x .is))
         (record { used = omega (arith, y .fits); place = y .place; room = λ l _. let r = y .room l in omega (arith, spelled-kept) })
 
     spelled-goes : (f b : ℕ) (j : Job) → Flowing lay f b j piece s o → FlowGoes lay f b j piece s o q t
@@ -272,7 +272,7 @@ module _ (lay : Bool) (piece : List ℕ) (s : Flow) (o : List ℕ) (y : Partable
     short-not : t .pen .short ≡ false
     short-not = ap (λ (u : Flow). u .pen .short) (x .is)
 
-    part-steps : (z : List ℕ) (r : Flow) → Ended lay t q z r → FlowsOn lay piece s o z r
+    part-steps : (z : List ℕ) (r : Flow) → Ended lay t q z r → DidPutPart lay piece s o z r
     part-steps z r v =
         let from : r .from ≡ s .from + m = v .from ∙ ap (λ (u : Flow). u .from) (x .is) in
         record {
@@ -288,17 +288,17 @@ module _ (lay : Bool) (piece : List ℕ) (s : Flow) (o : List ℕ) (y : Partable
               (v .goes f b j piece (flowing-on lay f b j piece s o q t w (spelled-goes f b j w) short-not));
         }
 
-    pub part-over : t .left ≤ 0 → FlowsOn lay piece s o q t
+    pub part-over : t .left ≤ 0 → DidPutPart lay piece s o q t
     part-over h = part-steps q t (ended-over lay t q spelled-inside h)
 
-    pub part-in : (t .seg ≡ 0 → ⊥) → FlowsOn lay piece s o q t
+    pub part-in : (t .seg ≡ 0 → ⊥) → DidPutPart lay piece s o q t
     part-in h = part-steps q t (ended-in lay t q spelled-inside h)
 
-    module _ (z : List ℕ) (p : Pen) (c : Closes lay (t .pen) q z p) where
+    module _ (z : List ℕ) (p : Pen) (c : DidClose lay (t .pen) q z p) where
       pub part-kept : length z ≡ length o
       part-kept = c .kept ∙ spelled-kept
 
-      pub part-closed : t .seg ≡ 0 → 0 < t .left → FlowsOn lay piece s o z (parted t p)
+      pub part-closed : t .seg ≡ 0 → 0 < t .left → DidPutPart lay piece s o z (parted t p)
       part-closed none some = part-steps z (parted t p) (ended-part lay t q spelled-inside none some z p c)
 
 pub ruleset parting = (part-closable, spelled-kept, part-over, part-in, part-kept, part-closed, needs)

@@ -9,24 +9,23 @@ use mir.Val.{Fits as FitsIn}
 use mir.Syntax.{w64}
 use lib.Dec.{ltb}
 use lib.ListN.{length, take, drop}
-use Rattle.base.specs.Part.{part, putAt, putIn}
+use Rattle.base.specs.Part.{part, putIn}
 use Rattle.base.specs.Digits.{digits}
-use Rattle.base.proofs.Parts.{length-part, length-put, part-within}
-use Rattle.image.proofs.Words.{kept-in}
+use Rattle.base.proofs.Parts.{length-part, part-within}
+use Rattle.base.proofs.Copies.{kept-in}
 use Rattle.block.specs.Unit.{wordOf}
 use Rattle.writing.specs.Pack.{controlWord}
 use Rattle.block.specs.Room.{wordWith, taken, indicatorOf}
 use Rattle.writing.proofs.Packing.{entered}
-use Rattle.writing.proofs.Units.{length-control}
 use Rattle.writer.specs.declared.pen.Pen.{Pen}
 use Rattle.writer.specs.declared.pack.Flow.{Flow}
 use Rattle.writer.specs.code.Pass.{inkAt}
-use Rattle.writer.specs.code.Packs.{more, headed, Headable, Headed, manyOf, Partable, Spelled}
+use Rattle.writer.specs.code.Packs.{more, headed, CanPutHead, DidPutHead, manyOf, CanSpell, DidSpell}
 use Rattle.writer.proofs.Written.{ink-put, ink-put-in, ink-not, word-fits, word-said}
 
 -- ---- a unit is begun
 
-module _ (lay : Bool) (f b : ℕ) (s : Flow) (size : ℕ) (y : Headable lay f b s size) where
+module _ (lay : Bool) (f b : ℕ) (s : Flow) (size : ℕ) (y : CanPutHead lay f b s size) where
   unit : (wordOf f + taken f b (s .pen .used) (s .left) + s .pen .used ≤ b) × (taken f b (s .pen .used) (s .left) ≤ s .left)
   unit = let e = entered f b (s .pen .used) (s .left) (y .enters) in (omega (arith, e .within), e .most)
 
@@ -56,7 +55,7 @@ module _ (lay : Bool) (f b : ℕ) (s : Flow) (size : ℕ) (y : Headable lay f b 
 
     pub head-laid : (i : ℕ) (d o q : List ℕ) → size ≡ length o → i ≡ 48 + indicatorOf (s .begun) k (s .left) → lay ≡ true
         → d ≡ digits 4 (k + w)
-        → q ≡ putIn o (s .pen .at + 3 + s .pen .used) (wordWith f i d) → Headed lay f b s o q headed-by
+        → q ≡ putIn o (s .pen .at + 3 + s .pen .used) (wordWith f i d) → DidPutHead lay f b s o q headed-by
     head-laid i d o q z g l v x =
         let t : ℕ = indicatorOf (s .begun) k (s .left) in
         let c : controlWord f t k ≡ controlWord f (indicatorOf (s .begun) (taken f b (s .pen .used) (s .left)) (s .left)) (taken f b (s .pen .used) (s .left))
@@ -71,7 +70,7 @@ module _ (lay : Bool) (f b : ℕ) (s : Flow) (size : ℕ) (y : Headable lay f b 
               ∙ ap (inkAt lay o (s .pen .at + 3 + s .pen .used)) c;
         }
 
-    pub head-measured : (o : List ℕ) → lay ≡ false → Headed lay f b s o o headed-by
+    pub head-measured : (o : List ℕ) → lay ≡ false → DidPutHead lay f b s o o headed-by
     head-measured o l = record { is = head-is; laid = ink-not lay o (s .pen .at + 3 + s .pen .used) _ l }
 
 pub ruleset heading =
@@ -79,7 +78,7 @@ pub ruleset heading =
 
 -- ---- bytes of the open unit
 
-module _ (lay : Bool) (n : ℕ) (s : Flow) (size : ℕ) (y : Partable lay n s size) where
+module _ (lay : Bool) (n : ℕ) (s : Flow) (size : ℕ) (y : CanSpell lay n s size) where
   pub spell-from : s .from ≤ n
   spell-from = y .from
 
@@ -102,7 +101,7 @@ module _ (lay : Bool) (n : ℕ) (s : Flow) (size : ℕ) (y : Partable lay n s si
     pub spell-more : s .pen .used + m ≤ 99999
     spell-more = omega (arith, y .fits)
 
-module _ (lay : Bool) (piece : List ℕ) (s : Flow) (o : List ℕ) (y : Partable lay (length piece) s (length o)) where
+module _ (lay : Bool) (piece : List ℕ) (s : Flow) (o : List ℕ) (y : CanSpell lay (length piece) s (length o)) where
   module _ (m : ℕ) (e : m ≡ min (s .seg) (length piece - s .from)) where
     abbrev bytes : List ℕ
     bytes = take (s .from + m - s .from) (drop (s .from) piece)
@@ -127,7 +126,7 @@ module _ (lay : Bool) (piece : List ℕ) (s : Flow) (o : List ℕ) (y : Partable
                 (s .from + m) (length piece);
           }
 
-      spell-is : (q : List ℕ) → q ≡ inkAt lay o (s .pen .at + 3 + s .pen .used) bytes → Spelled lay piece s o q spelled-by
+      spell-is : (q : List ℕ) → q ≡ inkAt lay o (s .pen .at + 3 + s .pen .used) bytes → DidSpell lay piece s o q spelled-by
       spell-is q l =
           let n : r ≡ more (s .pen) (manyOf (length piece) s) = g ∙ ap (more (s .pen)) e in
           record {
@@ -148,11 +147,8 @@ module _ (lay : Bool) (piece : List ℕ) (s : Flow) (o : List ℕ) (y : Partable
           }
 
       pub spell-laid : (q : List ℕ) → lay ≡ true → q ≡ putIn o (s .pen .at + 3 + s .pen .used) bytes
-          → Spelled lay piece s o q spelled-by
+          → DidSpell lay piece s o q spelled-by
       spell-laid q l h = spell-is q (ink-put-in lay o (s .pen .at + 3 + s .pen .used) bytes q spell-room l h)
 
-      pub spell-measured : lay ≡ false → Spelled lay piece s o o spelled-by
+      pub spell-measured : lay ≡ false → DidSpell lay piece s o o spelled-by
       spell-measured l = spell-is o (ink-not lay o (s .pen .at + 3 + s .pen .used) bytes l)
-
-    pub spell-kept : (q : List ℕ) → lay ≡ true → q ≡ putIn o (s .pen .at + 3 + s .pen .used) bytes → length q ≡ length o
-    spell-kept q l h = kept-in o (s .pen .at + 3 + s .pen .used) bytes q h

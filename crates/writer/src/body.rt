@@ -3,9 +3,9 @@ ghost use mathlib.Core.Path.{_≡_};
 ghost use Rattle.block.specs.Unit.{wordOf};
 ghost use Rattle.writer.specs.code.Pass.{jobOf};
 ghost use Rattle.writer.specs.code.Source.{movedTo, foundBytes};
-ghost use Rattle.writer.specs.code.Records.{Recorded};
+ghost use Rattle.writer.specs.code.Records.{DidPutRecord};
 ghost use Rattle.writer.specs.code.Pens.{mostOf};
-ghost use Rattle.writer.specs.code.Bodies.{Takable, Bodied, BodyPut};
+ghost use Rattle.writer.specs.code.Bodies.{CanTake, CanPutRecords, DidPutRecords};
 use crate::pen::Pen;
 use crate::record::most_of;
 use crate::record::put_slow;
@@ -36,7 +36,7 @@ fn moved_to(c: Cursor, at: usize, left: usize) -> Cursor
         left,
         stop: c.stop,
         offset: c.offset,
-        size: c.size,
+        record_length: c.record_length,
         format: c.format,
         image: c.image,
     }
@@ -59,8 +59,8 @@ fn put_record(
 ) -> Pen
     requires { ⌜ w ≡ wordOf f ⌝ }
     requires { ⌜ most ≡ mostOf f ⌝ }
-    requires { ⌜ Takable lay f b (jobOf (now labels) (now rooms)) (now bytes) c r p (now out) ⌝ }
-    ensures { λ v. ⌜ Recorded lay f b (jobOf (now (labels .entry)) (now (rooms .entry))) (foundBytes (now (bytes .entry)) c r) p (now (out .entry)) (now (out .exit)) v ⌝ }
+    requires { ⌜ CanTake lay f b (jobOf (now labels) (now rooms)) (now bytes) c r p (now out) ⌝ }
+    ensures { λ v. ⌜ DidPutRecord lay f b (jobOf (now (labels .entry)) (now (rooms .entry))) (foundBytes (now (bytes .entry)) c r) p (now (out .entry)) (now (out .exit)) v ⌝ }
 {
     if r.kind == SPLIT {
         return put_split(f, b, bytes, c, r.len, labels, rooms, p, out, lay);
@@ -86,8 +86,8 @@ pub(crate) fn put_records(
     out: &mut [u8],
     lay: bool,
 ) -> Body
-    requires { ⌜ Bodied lay f b (jobOf (now labels) (now rooms)) (now lengths) (now bytes) first p (now out) ⌝ }
-    ensures { λ r. ⌜ BodyPut lay f b (jobOf (now (labels .entry)) (now (rooms .entry))) (now (lengths .entry)) (now (bytes .entry)) first p (now (out .entry)) (now (out .exit)) r ⌝ }
+    requires { ⌜ CanPutRecords lay f b (jobOf (now labels) (now rooms)) (now lengths) (now bytes) first p (now out) ⌝ }
+    ensures { λ r. ⌜ DidPutRecords lay f b (jobOf (now (labels .entry)) (now (rooms .entry))) (now (lengths .entry)) (now (bytes .entry)) first p (now (out .entry)) (now (out .exit)) r ⌝ }
 {
     let w = word_of(f as u32);
     let most = most_of(f);

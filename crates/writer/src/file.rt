@@ -5,7 +5,7 @@ ghost use lib.ListN.{length};
 ghost use Rattle.reading.specs.Legal.{blockLengthFrom};
 ghost use Rattle.sections.specs.Section.{entryIn, sequenceIn, setIn};
 ghost use Rattle.writer.specs.code.Pass.{jobOf};
-ghost use Rattle.writer.specs.code.Files.{Beginnable, Begins, Tailable, Tailed, FileReady, FilePut};
+ghost use Rattle.writer.specs.code.Files.{CanBegin, DidBegin, CanPutEnd, DidPutEnd, CanPutFile, DidPutFile};
 use crate::body::Body;
 use crate::body::put_records;
 use crate::pen::Pen;
@@ -15,6 +15,8 @@ use base::part_of;
 use base::put_in;
 use charset::Number;
 use charset::number_in;
+use label::BLOCK_LENGTH_IN;
+use label::BLOCK_LENGTH_WIDTH;
 use label::ENTRY;
 use sections::FILE_END;
 use sections::HEADERS;
@@ -25,8 +27,8 @@ use sheet::format_in;
 
 // Begins a file on the reel of a pen.
 fn begin_file(labels: &Labels, p: Pen, out: &mut [u8], lay: bool) -> Pen
-    requires { ⌜ Beginnable lay p (length (now out)) ⌝ }
-    ensures { λ r. ⌜ Begins lay (setIn (now (labels .entry))) (entryIn (now (labels .entry))) (sequenceIn (now (labels .entry))) p (now (out .entry)) (now (out .exit)) r ⌝ }
+    requires { ⌜ CanBegin lay p (length (now out)) ⌝ }
+    ensures { λ r. ⌜ DidBegin lay (setIn (now (labels .entry))) (entryIn (now (labels .entry))) (sequenceIn (now (labels .entry))) p (now (out .entry)) (now (out .exit)) r ⌝ }
 {
     let r = Pen {
         at: p.at + HEADERS,
@@ -46,8 +48,8 @@ fn begin_file(labels: &Labels, p: Pen, out: &mut [u8], lay: bool) -> Pen
 
 // Ends a file whose records are packed, unless a reel is lacking: the open block is closed, and the trailer labels follow.
 fn put_end(labels: &Labels, x: Body, out: &mut [u8], lay: bool) -> Body
-    requires { ⌜ Tailable lay x (length (now out)) ⌝ }
-    ensures { λ r. ⌜ Tailed lay (setIn (now (labels .entry))) (entryIn (now (labels .entry))) (sequenceIn (now (labels .entry))) x (now (out .entry)) (now (out .exit)) r ⌝ }
+    requires { ⌜ CanPutEnd lay x (length (now out)) ⌝ }
+    ensures { λ r. ⌜ DidPutEnd lay (setIn (now (labels .entry))) (entryIn (now (labels .entry))) (sequenceIn (now (labels .entry))) x (now (out .entry)) (now (out .exit)) r ⌝ }
 {
     let p = x.pen;
     if p.short {
@@ -75,7 +77,7 @@ fn put_end(labels: &Labels, x: Body, out: &mut [u8], lay: bool) -> Body
 fn block_length_in(entry: &[u8]) -> usize
     ensures { λ r. ⌜ r ≡ blockLengthFrom (now (entry .entry)) ⌝ }
 {
-    let n = number_in(part_of(entry, 36, 5));
+    let n = number_in(part_of(entry, BLOCK_LENGTH_IN, BLOCK_LENGTH_WIDTH));
     match n {
         Number::Value(v) => v as usize,
         Number::Wrong => 0,
@@ -94,8 +96,8 @@ pub(crate) fn put_file(
     out: &mut [u8],
     lay: bool,
 ) -> Body
-    requires { ⌜ FileReady lay (jobOf (now labels) (now rooms)) (now lengths) (now bytes) c p (now out) ⌝ }
-    ensures { λ r. ⌜ FilePut lay (jobOf (now (labels .entry)) (now (rooms .entry))) (now (lengths .entry)) (now (bytes .entry)) c p (now (out .entry)) (now (out .exit)) r ⌝ }
+    requires { ⌜ CanPutFile lay (jobOf (now labels) (now rooms)) (now lengths) (now bytes) c p (now out) ⌝ }
+    ensures { λ r. ⌜ DidPutFile lay (jobOf (now (labels .entry)) (now (rooms .entry))) (now (lengths .entry)) (now (bytes .entry)) c p (now (out .entry)) (now (out .exit)) r ⌝ }
 {
     let entry = part_of(labels, 0, ENTRY);
     let f = format_in(entry);

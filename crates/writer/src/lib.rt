@@ -15,7 +15,7 @@ ghost use Rattle.volume.specs.Run.{imageVerdict};
 ghost use Rattle.sheet.specs.Flat.{reelsNumber};
 ghost use Rattle.writing.specs.Write.{flat, storedLaid, writeSheet, write as writing};
 ghost use Rattle.writing.specs.Rewrite.{sheetFrom, rewrite as rewriting};
-ghost use Rattle.writer.specs.code.Sets.{originOf, taskOf, Writable, setLaid, sheetAt, Ordered};
+ghost use Rattle.writer.specs.code.Sets.{originOf, taskOf, CanWrite, setLaid, sheetAt, CanOrder};
 use base::part_of;
 use content::FileAt;
 use content::NextFile;
@@ -42,7 +42,7 @@ use volume::check;
 const OVER_LONG: usize = 16777216;
 
 // Writes a set on reels with rooms, its files from the first on. A first pass finds its reels and its length before the first
-// byte is written; the second writes, and asks for no room.
+// byte is written; the second writes what was measured.
 fn write_set(
     files: &[u8],
     counts: &[u64],
@@ -54,7 +54,7 @@ fn write_set(
     rooms: &[u64],
     out: &mut [u8],
 ) -> Written
-    requires { ⌜ Writable (taskOf image (now files) (now counts) (now lengths) (now bytes) labels (now rooms)) start ⌝ }
+    requires { ⌜ CanWrite (taskOf image (now files) (now counts) (now lengths) (now bytes) labels (now rooms)) start ⌝ }
     ensures { λ r. ⌜ Answers (storedLaid (setLaid (taskOf image (now (files .entry)) (now (counts .entry)) (now (lengths .entry)) (now (bytes .entry)) labels (now (rooms .entry))) start) (now (out .entry))) r (now (out .exit)) ⌝ }
 {
     let m = lay_set(
@@ -107,7 +107,7 @@ fn write_quota(
     names: &[u8],
     out: &mut [u8],
 ) -> Written
-    requires { ⌜ Ordered (originOf image (now files) (now counts)) (now set) (now lengths) (now bytes) start quota (now names) ⌝ }
+    requires { ⌜ CanOrder (originOf image (now files) (now counts)) (now set) (now lengths) (now bytes) start quota (now names) ⌝ }
     ensures { λ r. ⌜ Answers (writeSheet (sheetAt (originOf image (now (files .entry)) (now (counts .entry))) (now (set .entry)) (now (lengths .entry)) (now (bytes .entry)) start quota (now (names .entry))) (now (out .entry))) r (now (out .exit)) ⌝ }
 {
     let blank = [0u8; 149];
@@ -148,7 +148,7 @@ pub fn write(
     }
     let walk = Walk {
         format: 0,
-        size: 0,
+        record_length: 0,
         offset: 0,
         at: 0,
         left: 0,

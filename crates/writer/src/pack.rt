@@ -4,7 +4,7 @@ ghost use mathlib.Core.Bool.{true};
 ghost use Prim.Native.Nat.{_+_, _≤_};
 ghost use lib.ListN.{length};
 ghost use Rattle.writer.specs.code.Pass.{jobOf};
-ghost use Rattle.writer.specs.code.Packs.{entersOn, more, FlowsOn, Headable, Headed, Partable, Spelled, Turns, Packable, Packed};
+ghost use Rattle.writer.specs.code.Packs.{entersOn, more, DidPutPart, CanPutHead, DidPutHead, CanSpell, DidSpell, DidTakeTurn, CanPack, DidPack};
 use crate::pen::Pen;
 use crate::pen::WORD;
 use crate::pen::close;
@@ -60,8 +60,8 @@ pub(crate) fn more(p: Pen, n: usize) -> Pen
 
 // Begins a unit of the record, which enters the open block: its control word.
 fn put_head(f: u8, b: usize, s: Flow, out: &mut [u8], lay: bool) -> Flow
-    requires { ⌜ Headable lay f b s (length (now out)) ⌝ }
-    ensures { λ r. ⌜ Headed lay f b s (now (out .entry)) (now (out .exit)) r ⌝ }
+    requires { ⌜ CanPutHead lay f b s (length (now out)) ⌝ }
+    ensures { λ r. ⌜ DidPutHead lay f b s (now (out .entry)) (now (out .exit)) r ⌝ }
 {
     let p = s.pen;
     let k = taken(f, b, p.used, s.left);
@@ -86,8 +86,8 @@ fn put_head(f: u8, b: usize, s: Flow, out: &mut [u8], lay: bool) -> Flow
 
 // Writes the bytes of the piece that belong to the open unit.
 fn spell(piece: &[u8], s: Flow, out: &mut [u8], lay: bool) -> Flow
-    requires { ⌜ Partable lay (length (now piece)) s (length (now out)) ⌝ }
-    ensures { λ r. ⌜ Spelled lay (now (piece .entry)) s (now (out .entry)) (now (out .exit)) r ⌝ }
+    requires { ⌜ CanSpell lay (length (now piece)) s (length (now out)) ⌝ }
+    ensures { λ r. ⌜ DidSpell lay (now (piece .entry)) s (now (out .entry)) (now (out .exit)) r ⌝ }
 {
     let p = s.pen;
     let from = s.from;
@@ -111,8 +111,8 @@ fn spell(piece: &[u8], s: Flow, out: &mut [u8], lay: bool) -> Flow
 
 // Writes the bytes of the piece that belong to the open unit; where the unit is over and the record goes on, the block is closed.
 fn put_part(piece: &[u8], s: Flow, out: &mut [u8], lay: bool) -> Flow
-    requires { ⌜ Partable lay (length (now piece)) s (length (now out)) ⌝ }
-    ensures { λ r. ⌜ FlowsOn lay (now (piece .entry)) s (now (out .entry)) (now (out .exit)) r ⌝ }
+    requires { ⌜ CanSpell lay (length (now piece)) s (length (now out)) ⌝ }
+    ensures { λ r. ⌜ DidPutPart lay (now (piece .entry)) s (now (out .entry)) (now (out .exit)) r ⌝ }
 {
     let t = spell(piece, s, out, lay);
     if t.seg == 0 {
@@ -144,8 +144,8 @@ fn take_turn(
     out: &mut [u8],
     lay: bool,
 ) -> Flow
-    requires { ⌜ Packable lay f b (jobOf (now labels) (now rooms)) (now piece) s (now out) ⌝ }
-    ensures { λ r. ⌜ Turns lay f b (jobOf (now (labels .entry)) (now (rooms .entry))) (now (piece .entry)) s (now (out .entry)) (now (out .exit)) r ⌝ }
+    requires { ⌜ CanPack lay f b (jobOf (now labels) (now rooms)) (now piece) s (now out) ⌝ }
+    ensures { λ r. ⌜ DidTakeTurn lay f b (jobOf (now (labels .entry)) (now (rooms .entry))) (now (piece .entry)) s (now (out .entry)) (now (out .exit)) r ⌝ }
 {
     if s.inside {
         return put_part(piece, s, out, lay);
@@ -177,9 +177,9 @@ pub(crate) fn put_pieces(
     out: &mut [u8],
     lay: bool,
 ) -> Flow
-    requires { ⌜ Packable lay f b (jobOf (now labels) (now rooms)) (now piece) first (now out) ⌝ }
+    requires { ⌜ CanPack lay f b (jobOf (now labels) (now rooms)) (now piece) first (now out) ⌝ }
     requires { ⌜ first .on ≡ true ⌝ }
-    ensures { λ r. ⌜ Packed lay f b (jobOf (now (labels .entry)) (now (rooms .entry))) (now (piece .entry)) first (now (out .entry)) (now (out .exit)) r ⌝ }
+    ensures { λ r. ⌜ DidPack lay f b (jobOf (now (labels .entry)) (now (rooms .entry))) (now (piece .entry)) first (now (out .entry)) (now (out .exit)) r ⌝ }
 {
     let mut s = first;
     while s.on {

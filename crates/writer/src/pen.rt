@@ -5,7 +5,7 @@ ghost use mathlib.Core.Bool.{false};
 ghost use Prim.Native.Nat.{_≤_, _<_};
 ghost use lib.ListN.{length};
 ghost use Rattle.writer.specs.code.Pass.{jobOf};
-ghost use Rattle.writer.specs.code.Pens.{Ready, Closable, Closes, Changes, Opens, opened};
+ghost use Rattle.writer.specs.code.Pens.{CanOpen, CanClose, DidClose, DidChange, DidOpen, opened};
 use base::part_of;
 use base::put_in;
 use image::put_length;
@@ -34,8 +34,8 @@ pub struct Pen {
 
 // Closes the open block, if one is open.
 pub(crate) fn close(p: Pen, out: &mut [u8], lay: bool) -> Pen
-    requires { ⌜ Closable lay p (length (now out)) ⌝ }
-    ensures { λ r. ⌜ Closes lay p (now (out .entry)) (now (out .exit)) r ⌝ }
+    requires { ⌜ CanClose lay p (length (now out)) ⌝ }
+    ensures { λ r. ⌜ DidClose lay p (now (out .entry)) (now (out .exit)) r ⌝ }
 {
     if p.on {
         let r = Pen {
@@ -78,8 +78,8 @@ pub(crate) fn opened(p: Pen) -> Pen
 fn change(labels: &Labels, rooms: &[u64], p: Pen, out: &mut [u8], lay: bool) -> Pen
     requires { ⌜ p .on ≡ false ⌝ }
     requires { ⌜ p .room ≡ 0 ⌝ }
-    requires { ⌜ Ready lay (jobOf (now labels) (now rooms)) p (now out) ⌝ }
-    ensures { λ r. ⌜ Changes lay (jobOf (now (labels .entry)) (now (rooms .entry))) p (now (out .entry)) (now (out .exit)) r ⌝ }
+    requires { ⌜ CanOpen lay (jobOf (now labels) (now rooms)) p (now out) ⌝ }
+    ensures { λ r. ⌜ DidChange lay (jobOf (now (labels .entry)) (now (rooms .entry))) p (now (out .entry)) (now (out .exit)) r ⌝ }
 {
     let next = p.next;
     if rooms.len() <= next {
@@ -114,8 +114,8 @@ fn change(labels: &Labels, rooms: &[u64], p: Pen, out: &mut [u8], lay: bool) -> 
 
 // Closes the open block and opens the next, on the next reel where this one is full.
 pub(crate) fn next_block(labels: &Labels, rooms: &[u64], p: Pen, out: &mut [u8], lay: bool) -> Pen
-    requires { ⌜ Ready lay (jobOf (now labels) (now rooms)) p (now out) ⌝ }
-    ensures { λ r. ⌜ Opens lay (jobOf (now (labels .entry)) (now (rooms .entry))) p (now (out .entry)) (now (out .exit)) r ⌝ }
+    requires { ⌜ CanOpen lay (jobOf (now labels) (now rooms)) p (now out) ⌝ }
+    ensures { λ r. ⌜ DidOpen lay (jobOf (now (labels .entry)) (now (rooms .entry))) p (now (out .entry)) (now (out .exit)) r ⌝ }
 {
     let c = close(p, out, lay);
     if c.room != 0 {

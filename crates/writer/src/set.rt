@@ -6,8 +6,8 @@ ghost use Prim.Native.Nat.{_+_, _≤_, _<_};
 ghost use lib.ListN.{length, getD};
 ghost use Rattle.base.specs.Part.{part, putAt};
 ghost use Rattle.sections.specs.Section.{imageHead};
-ghost use Rattle.writer.specs.code.Pass.{inkAt};
-ghost use Rattle.writer.specs.code.Sets.{Countable, cursorAt, Enterable, entryAt, LabelsEntered, behindFile, taskOf, Closing, Closed, firstPen, Sheeted, setLaid, SetReady};
+ghost use Rattle.writer.specs.code.Pass.{inkAt, namesIn};
+ghost use Rattle.writer.specs.code.Sets.{CanCount, cursorAt, CanEnter, entryAt, DidEnter, behindFile, taskOf, CanEndSet, DidEndSet, firstPen, DidLaySet, setLaid, CanLaySet};
 use crate::file::put_file;
 use crate::pen::Pen;
 use crate::source::Cursor;
@@ -16,7 +16,16 @@ use base::put_in;
 use content::FileAt;
 use content::NextFile;
 use content::file_behind;
+use label::DATED_WIDTH;
 use label::ENTRY;
+use label::FORMAT_IN;
+use label::FORMATTED_WIDTH;
+use label::GENERATION;
+use label::GENERATION_IN;
+use label::IDENTIFIER;
+use label::IDENTIFIER_IN;
+use label::IDENTIFIER_WIDTH;
+use label::RECORD_FORMAT;
 use sections::HEAD;
 use sections::Labels;
 use sections::NAME;
@@ -53,7 +62,7 @@ pub(crate) fn with_part(labels: Labels, at: usize, s: &[u8]) -> Labels
 
 // The cursor at the first record of the file at a place.
 fn cursor_at(counts: &[u64], lengths: &[u64], image: bool, g: Place) -> Cursor
-    requires { ⌜ Countable image (now counts) (length (now lengths)) g ⌝ }
+    requires { ⌜ CanCount image (now counts) (length (now lengths)) g ⌝ }
     ensures { λ r. ⌜ r ≡ cursorAt image (now (counts .entry)) g ⌝ }
 {
     if image {
@@ -64,7 +73,7 @@ fn cursor_at(counts: &[u64], lengths: &[u64], image: bool, g: Place) -> Cursor
             left: w.left,
             stop: 0,
             offset: w.offset,
-            size: w.size,
+            record_length: w.record_length,
             format: w.format,
             image: true,
         };
@@ -76,7 +85,7 @@ fn cursor_at(counts: &[u64], lengths: &[u64], image: bool, g: Place) -> Cursor
         left: count,
         stop: g.first + count,
         offset: 0,
-        size: 0,
+        record_length: 0,
         format: 0,
         image: false,
     }
@@ -84,8 +93,8 @@ fn cursor_at(counts: &[u64], lengths: &[u64], image: bool, g: Place) -> Cursor
 
 // The label parts with the number and the entry of the file at a place: of an image, the fields of its first HDR1 and HDR2.
 fn entered(labels: Labels, files: &[u8], bytes: &[u8], image: bool, g: Place) -> Labels
-    requires { ⌜ Enterable image (length (now files)) (length (now bytes)) g ⌝ }
-    ensures { λ r. ⌜ LabelsEntered labels (entryAt image (now (files .entry)) (now (bytes .entry)) g) (g .nth + 1) r ⌝ }
+    requires { ⌜ CanEnter image (length (now files)) (length (now bytes)) g ⌝ }
+    ensures { λ r. ⌜ DidEnter labels (entryAt image (now (files .entry)) (now (bytes .entry)) g) (g .nth + 1) r ⌝ }
 {
     let i = g.nth;
     let mut numbered = labels;
@@ -94,9 +103,12 @@ fn entered(labels: Labels, files: &[u8], bytes: &[u8], image: bool, g: Place) ->
         let f = g.file;
         let first = part_of(bytes, f.hdr1, LABEL);
         let second = part_of(bytes, f.hdr2, LABEL);
-        let named = with_part(numbered, 0, part_of(first, 4, 17));
-        let dated = with_part(named, 17, part_of(first, 35, 18));
-        return with_part(dated, 35, part_of(second, 4, 11));
+        let name = part_of(first, IDENTIFIER, IDENTIFIER_WIDTH);
+        let dates = part_of(first, GENERATION, DATED_WIDTH);
+        let lengths = part_of(second, RECORD_FORMAT, FORMATTED_WIDTH);
+        let named = with_part(numbered, IDENTIFIER_IN, name);
+        let dated = with_part(named, GENERATION_IN, dates);
+        return with_part(dated, FORMAT_IN, lengths);
     }
     with_part(numbered, 0, part_of(files, ENTRY * i, ENTRY))
 }
@@ -152,8 +164,8 @@ fn behind(
 
 // Ends the last reel, unless a reel is lacking.
 fn end_set(p: Pen, out: &mut [u8], lay: bool) -> Pen
-    requires { ⌜ Closing lay p (length (now out)) ⌝ }
-    ensures { λ r. ⌜ Closed lay p (now (out .entry)) (now (out .exit)) r ⌝ }
+    requires { ⌜ CanEndSet lay p (length (now out)) ⌝ }
+    ensures { λ r. ⌜ DidEndSet lay p (now (out .entry)) (now (out .exit)) r ⌝ }
 {
     if p.short {
         return p;
@@ -179,7 +191,7 @@ fn begin_set(labels: Labels, rooms: &[u64], out: &mut [u8], lay: bool) -> Pen
     requires { ⌜ 1 ≤ length (now rooms) ⌝ }
     requires { ⌜ (lay ≡ true → 88 ≤ length (now out)) ⌝ }
     ensures { λ r. ⌜ r ≡ firstPen (getD (now (rooms .entry)) 0 0) ⌝ }
-    ensures { λ r. ⌜ now (out .exit) ≡ inkAt lay (now (out .entry)) 0 (imageHead (part 53 6 labels)) ⌝ }
+    ensures { λ r. ⌜ now (out .exit) ≡ inkAt lay (now (out .entry)) 0 (imageHead (namesIn 1 labels)) ⌝ }
 {
     let r = Pen {
         at: HEAD,
@@ -210,8 +222,8 @@ pub(crate) fn lay_set(
     out: &mut [u8],
     lay: bool,
 ) -> Pen
-    requires { ⌜ SetReady lay (taskOf image (now files) (now counts) (now lengths) (now bytes) labels (now rooms)) start (now out) ⌝ }
-    ensures { λ r. ⌜ Sheeted lay (setLaid (taskOf image (now (files .entry)) (now (counts .entry)) (now (lengths .entry)) (now (bytes .entry)) labels (now (rooms .entry))) start) (now (out .entry)) (now (out .exit)) r ⌝ }
+    requires { ⌜ CanLaySet lay (taskOf image (now files) (now counts) (now lengths) (now bytes) labels (now rooms)) start (now out) ⌝ }
+    ensures { λ r. ⌜ DidLaySet lay (setLaid (taskOf image (now (files .entry)) (now (counts .entry)) (now (lengths .entry)) (now (bytes .entry)) labels (now (rooms .entry))) start) (now (out .entry)) (now (out .exit)) r ⌝ }
 {
     let mut pen = begin_set(labels, rooms, out, lay);
     let mut g = start;

@@ -2,7 +2,7 @@
 // stands. It knows how each of them holds a record, and nothing of blocks that are written.
 ghost use mathlib.Core.Path.{_≡_};
 ghost use mathlib.Core.Bool.{true};
-ghost use Rattle.writer.specs.code.Source.{walkOf, GoodCursor, stopOf, endAt, nothing, Finds};
+ghost use Rattle.writer.specs.code.Source.{walkOf, GoodCursor, stopOf, endAt, nothing, DidFind};
 use block::word_of;
 use content::Measured;
 use content::Walk;
@@ -25,7 +25,7 @@ pub struct Cursor {
     pub left: usize,
     pub stop: usize,
     pub offset: usize,
-    pub size: u32,
+    pub record_length: u32,
     pub format: u32,
     pub image: bool,
 }
@@ -46,7 +46,7 @@ pub(crate) fn walk_of(c: Cursor) -> Walk
 {
     Walk {
         format: c.format,
-        size: c.size,
+        record_length: c.record_length,
         offset: c.offset,
         at: c.at,
         left: c.left,
@@ -70,7 +70,7 @@ fn nothing() -> Found
 fn next_far(lengths: &[u64], bytes: &[u8], c: Cursor) -> Found
     requires { ⌜ GoodCursor (now lengths) (now bytes) c ⌝ }
     requires { ⌜ c .image ≡ true ⌝ }
-    ensures { λ r. ⌜ Finds (now (lengths .entry)) (now (bytes .entry)) c r ⌝ }
+    ensures { λ r. ⌜ DidFind (now (lengths .entry)) (now (bytes .entry)) c r ⌝ }
 {
     match measure_far(bytes, walk_of(c)) {
         Measured::Nothing => nothing(),
@@ -95,10 +95,10 @@ fn next_far(lengths: &[u64], bytes: &[u8], c: Cursor) -> Found
 fn next_read(lengths: &[u64], bytes: &[u8], c: Cursor) -> Found
     requires { ⌜ GoodCursor (now lengths) (now bytes) c ⌝ }
     requires { ⌜ c .image ≡ true ⌝ }
-    ensures { λ r. ⌜ Finds (now (lengths .entry)) (now (bytes .entry)) c r ⌝ }
+    ensures { λ r. ⌜ DidFind (now (lengths .entry)) (now (bytes .entry)) c r ⌝ }
 {
     let v = at_block(bytes, walk_of(c));
-    let k = whole_at(bytes, v.format, v.size, v.at, v.left);
+    let k = whole_at(bytes, v.format, v.record_length, v.at, v.left);
     if k == 0 {
         return next_far(lengths, bytes, c);
     }
@@ -115,7 +115,7 @@ fn next_read(lengths: &[u64], bytes: &[u8], c: Cursor) -> Found
 // The next record of a file: of an image, or of a sheet, whose lengths say where it ends.
 pub(crate) fn next(lengths: &[u64], bytes: &[u8], c: Cursor) -> Found
     requires { ⌜ GoodCursor (now lengths) (now bytes) c ⌝ }
-    ensures { λ r. ⌜ Finds (now (lengths .entry)) (now (bytes .entry)) c r ⌝ }
+    ensures { λ r. ⌜ DidFind (now (lengths .entry)) (now (bytes .entry)) c r ⌝ }
 {
     if c.image {
         return next_read(lengths, bytes, c);

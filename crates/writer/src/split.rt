@@ -2,9 +2,9 @@
 ghost use Prim.Native.Nat.{_<_};
 ghost use Rattle.content.specs.code.Joining.{bytesBehind};
 ghost use Rattle.writer.specs.code.Pass.{jobOf};
-ghost use Rattle.writer.specs.code.Records.{Splittable, Recorded};
+ghost use Rattle.writer.specs.code.Records.{CanSplit, DidPutRecord};
 ghost use Rattle.writer.specs.code.Source.{splitBytes, SplitHere};
-ghost use Rattle.writer.specs.code.Segments.{behindOf, HasRest, Segmented};
+ghost use Rattle.writer.specs.code.Segments.{behindOf, HasRest, DidSegment};
 use crate::pack::Flow;
 use crate::pack::put_pieces;
 use crate::pen::Pen;
@@ -27,7 +27,7 @@ pub struct Segment {
 // The first segment of a record of n bytes.
 fn first_of(bytes: &[u8], c: Cursor, n: usize) -> Segment
     requires { ⌜ SplitHere (now bytes) c n ⌝ }
-    ensures { λ r. ⌜ Segmented (now (bytes .entry)) c (splitBytes (now (bytes .entry)) c) r ⌝ }
+    ensures { λ r. ⌜ DidSegment (now (bytes .entry)) c (splitBytes (now (bytes .entry)) c) r ⌝ }
 {
     match first_segment(bytes, walk_of(c)) {
         Taken::Nothing => Segment {
@@ -48,12 +48,12 @@ fn first_of(bytes: &[u8], c: Cursor, n: usize) -> Segment
 // The segment behind another, where the record goes on.
 fn next_of(bytes: &[u8], c: Cursor, g: Segment) -> Segment
     requires { ⌜ HasRest (now bytes) (behindOf c g) ⌝ }
-    ensures { λ r. ⌜ Segmented (now (bytes .entry)) c (bytesBehind (now (bytes .entry)) (behindOf c g)) r ⌝ }
+    ensures { λ r. ⌜ DidSegment (now (bytes .entry)) c (bytesBehind (now (bytes .entry)) (behindOf c g)) r ⌝ }
     ensures { λ r. ⌜ g .at < r .at ⌝ }
 {
     let w = Walk {
         format: c.format,
-        size: c.size,
+        record_length: c.record_length,
         offset: c.offset,
         at: g.at,
         left: g.left,
@@ -82,8 +82,8 @@ pub(crate) fn put_split(
     out: &mut [u8],
     lay: bool,
 ) -> Pen
-    requires { ⌜ Splittable lay f b (jobOf (now labels) (now rooms)) (now bytes) c n p (now out) ⌝ }
-    ensures { λ r. ⌜ Recorded lay f b (jobOf (now (labels .entry)) (now (rooms .entry))) (splitBytes (now (bytes .entry)) c) p (now (out .entry)) (now (out .exit)) r ⌝ }
+    requires { ⌜ CanSplit lay f b (jobOf (now labels) (now rooms)) (now bytes) c n p (now out) ⌝ }
+    ensures { λ r. ⌜ DidPutRecord lay f b (jobOf (now (labels .entry)) (now (rooms .entry))) (splitBytes (now (bytes .entry)) c) p (now (out .entry)) (now (out .exit)) r ⌝ }
 {
     let mut g = first_of(bytes, c, n);
     let mut s = Flow {

@@ -36,7 +36,7 @@ use Rattle.volume.specs.State.{State}
 use Rattle.volume.specs.Fault.{says, valueOf, lower, crossed, isAmong, volumeFault, newFilePlace, laterPlace, fileFault, hdr1Fault, hdr2Fault, trailer1Fault, openFault, fileEndFault, trailer2Fault, outcomeIn, blockFault, contextFault, itemFault}
 use Rattle.volume.specs.Step.{begins, resumes, holds, isDue, kindIn, bytesIn, volumesAfter, filesAfter, continuesAfter, hdr1After, hdr2After, countAfter, pendingAfter, stateAfter, segmentsOf, segmentsIn, eventsOf, go, judged, ordered, step}
 use Rattle.reading.specs.Legal.{formatFrom, blockLengthFrom, recordLengthFrom}
-use Rattle.writing.proofs.Packed.{Block}
+use Rattle.writing.proofs.PackedFiles.{Block}
 use Rattle.writing.proofs.Labels.{GoodFirst, GoodSecond, header-sound, header-kind, volume-end-sound, volume-end-kind, file-end-sound, file-end-kind, section-back, sequence-back, count-back, set-back, trailer-agrees, section-agrees, second-agrees, second-section-agrees, format-back, block-back, record-back, offset-back, second-header-sound, second-header-kind, second-volume-end-sound, second-volume-end-kind, second-file-end-sound, second-file-end-kind}
 use Rattle.label.proofs.Read.{volume-back, kind-volume}
 

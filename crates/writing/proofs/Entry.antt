@@ -28,7 +28,7 @@ use Rattle.volume.specs.Fault.{valueOf}
 use Rattle.volume.specs.Meaning.{fieldsFrom}
 use Rattle.reading.specs.Legal.{formatFrom, blockLengthFrom, recordLengthFrom, isSound, legalEntry}
 use Rattle.writing.proofs.Units.{Format, isF, isD, isS, both}
-use Rattle.writing.proofs.Packed.{Suited}
+use Rattle.writing.proofs.PackedFiles.{Suited}
 use Rattle.writing.proofs.Labels.{GoodFirst, GoodSecond, good-first, good-second, byte-of, first-identifier, first-generation, first-version, first-created, first-expires, second-format, second-block, second-record}
 
 -- ---- legality

@@ -2,8 +2,8 @@
 -- equal their header, and what is read of them. A label differs from the one that the order sheet is judged by in few fields, and
 -- of each of these its row is asked. Assumes nothing.
 use mathlib.Core.Path.{_≡_, refl, sym, ap, _∙_}
-use mathlib.Core.Bool.{Bool, true, false, false≢true}
-use mathlib.Core.List.{List, [], _∷_}
+use mathlib.Core.Bool.{true, false≢true}
+use mathlib.Core.List.{List}
 use Prim.Native.Nat.{ℕ, _+_, _<_}
 use native.Mathlib.Omega.{arith}
 use lib.ListN.{length, drop, getD}
@@ -24,7 +24,7 @@ use Rattle.label.specs.Table.{free, zeros, digits as digitsRule, perSection, pe
 use Rattle.label.specs.Field.{good, isPositive, isFormat, isRecordLength, hasRecordLength, formatOf, blockLengthOf, recordLengthOf, offsetOf, setOf, sectionOf, sequenceOf, countOf}
 use Rattle.label.specs.Judged.{goodAt, wrongIn, unequalIn, accessOf, accessAt, labelFault}
 use Rattle.label.specs.Made.{fitted, laid, madeFirst, madeSecond, identifierIn, generationIn, versionIn, createdIn, expiresIn, formatIn, blockLengthIn, recordLengthIn}
-use Rattle.label.proofs.Laid.{fielded, fitted-all}
+use Rattle.label.proofs.Laid.{fitted-all}
 use Rattle.label.proofs.Every.{Hold, all-hold, sound, sound-fields}
 use Rattle.label.proofs.Fine.{Suit, isPlain, filled-fine, fine-filled, suit-with, suit-other, alike-with, filled-alike}
 use Rattle.label.proofs.Read.{firstFields, secondFields, first-field, second-field, access-first, kind-first, kind-second}

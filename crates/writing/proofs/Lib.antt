@@ -1,9 +1,11 @@
 pub mod Packing
 pub mod Units
 pub mod Packed
+pub mod PackedFiles
 pub mod Labels
 pub mod Entry
 pub mod Acts
 pub mod Laying
+pub mod LaidFiles
 pub mod RoundTrip
 pub mod Rewriting

@@ -36,7 +36,8 @@ use Rattle.writing.proofs.Units.{both}
 use Rattle.label.proofs.Read.{length-volume}
 use Rattle.writing.proofs.Entry.{legal-first}
 use Rattle.writing.proofs.Acts.{at, act-volume}
-use Rattle.writing.proofs.Laying.{read-label, ReadToEnd, IsLaid, ends-put, namesOf, Rooms, Usable, usable-next, ReelsRead, Files, legal-file, one-set, file-ends, files-end}
+use Rattle.writing.proofs.Laying.{read-label, ReadToEnd, IsLaid, ends-put}
+use Rattle.writing.proofs.LaidFiles.{namesOf, Rooms, Usable, usable-next, ReelsRead, Files, legal-file, one-set, file-ends, files-end}
 
 -- ---- what a legal sheet says
 

@@ -14,7 +14,7 @@ use Rattle.block.specs.Unit.{segment, lengthOf}
 use Rattle.content.specs.Whole.{wholeIn, atBlock, standsAt}
 
 abbrev pub wholeAt : List ℕ → Walk → ℕ
-wholeAt s w = wholeIn s (standsAt (w .format) (w .size) (w .at) (w .left))
+wholeAt s w = wholeIn s (standsAt (w .format) (w .«record_length») (w .at) (w .left))
 
 -- the bytes, with its control word, of the segment at the head of what is left of the current block of an S file, with `before`
 -- bytes left of the block before it; 0 where there is none, or something is left there
@@ -29,7 +29,7 @@ turnIn s before digit most w =
 
 -- the same where that segment, whose indicator is the digit 1, begins a record of at most R bytes
 unfoldable pub begunIn : List ℕ → Walk → ℕ
-begunIn s w = ifB (eqb (w .size) 0) 0 (turnIn s 0 49 (w .size) w)
+begunIn s w = ifB (eqb (w .«record_length») 0) 0 (turnIn s 0 49 (w .«record_length») w)
 
 -- k is that number, and not 0
 pub record BegunAt (s : List ℕ) (w : Walk) (k : ℕ) : Type 0 where
@@ -40,7 +40,7 @@ pub record BegunAt (s : List ℕ) (w : Walk) (k : ℕ) : Type 0 where
 pub record TwoAt (s : List ℕ) (w : Walk) (k : ℕ) (h : Walk) (j : ℕ) : Type 0 where
   pub begun : BegunAt s w k
   pub head : h ≡ atBlock s (moved w (w .at + k) (w .left - k))
-  pub is : j ≡ turnIn s (w .left - k) 51 (w .size - (k - 5)) (standsAt (h .format) 0 (h .at) (h .left))
+  pub is : j ≡ turnIn s (w .left - k) 51 (w .«record_length» - (k - 5)) (standsAt (h .format) 0 (h .at) (h .left))
   pub some : j ≡ 0 → ⊥
 
 -- a record that is one unit, as the unit

@@ -29,12 +29,12 @@ restBytes fails = []
 
 -- the bytes of a record behind a walk; any room that it needs is less than the record length
 unfoldable pub bytesBehind : List ℕ → Walk → List ℕ
-bytesBehind s w = restBytes (restAt s (w .size) w)
+bytesBehind s w = restBytes (restAt s (w .«record_length») w)
 
 -- a record goes on behind w, and its bytes go into a buffer of m bytes from place `at` on
 pub record RestFits (s : List ℕ) (w : Walk) (at m : ℕ) : Type 0 where
   pub inside : Inside s w
-  pub ended : isEnded (restAt s (w .size) w) ≡ true
+  pub ended : isEnded (restAt s (w .«record_length») w) ≡ true
   pub fits : at + length (bytesBehind s w) ≤ m
 
 unfoldable pub recordBytes : Record → List ℕ

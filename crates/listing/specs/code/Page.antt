@@ -7,5 +7,5 @@ abbrev pub endless : ℕ
 endless = 9223372036854775808
 
 -- buffer o with bs written at place a became p, and r is the place behind
-abbrev pub PageWrote : List ℕ → ℕ → List ℕ → List ℕ → ℕ → Type 0
-PageWrote o a bs p r = WroteUpTo endless o a bs p r
+abbrev pub DidPutPage : List ℕ → ℕ → List ℕ → List ℕ → ℕ → Type 0
+DidPutPage o a bs p r = WroteUpTo endless o a bs p r

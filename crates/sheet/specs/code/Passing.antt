@@ -14,7 +14,7 @@ use Rattle.sheet.specs.Flat.{inParts, filesFrom}
 use Rattle.sheet.specs.declared.file.Passed.{Passed}
 
 -- the answer b on records of lengths ls that stand from a place on; where it is yes, the place behind them
-pub record RecordsPassed (b : Bool) (ls : List ℕ) (from : ℕ) (r : Passed) : Type 0 where
+pub record DidPassRecords (b : Bool) (ls : List ℕ) (from : ℕ) (r : Passed) : Type 0 where
   pub answer : r .legal ≡ b
   pub place : r .legal ≡ true → r .at ≡ from + sum ls
 

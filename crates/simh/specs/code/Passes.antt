@@ -25,7 +25,7 @@ abbrev pub itemsIn : List ℕ → List ℕ → List Item
 itemsIn tape lengths = endToEnd (reelsIn tape lengths)
 
 -- one file whose first item is number n
-pub record Scanned (n : ℕ) (s : List ℕ) (r : Scan) : Type 0 where
+pub record DidScan (n : ℕ) (s : List ℕ) (r : Scan) : Type 0 where
   pub wrong : r .torn ≡ true → reelVerdict n (decode s) ≡ torn (r .item)
   pub right : r .torn ≡ false → reelVerdict n (decode s) ≡ verdict 0 0 0
   pub all : r .torn ≡ false → r .item ≡ n + length (decode s)
@@ -34,7 +34,7 @@ pub record Scanned (n : ℕ) (s : List ℕ) (r : Scan) : Type 0 where
   pub less : r .len ≤ length s
 
 -- all files, on which the answer is v
-pub record TapeMeasured (v : Verdict) (tape lengths : List ℕ) (r : Measure) : Type 0 where
+pub record DidMeasure (v : Verdict) (tape lengths : List ℕ) (r : Measure) : Type 0 where
   pub said : r .verdict ≡ v
   pub bytes : r .verdict .number ≡ 0 → r .len ≡ length (imageBytes (itemsIn tape lengths))
 
@@ -60,7 +60,7 @@ lengthsFrom n (reelEnd ∷ xs) = (n + 4) ∷ lengthsFrom 0 xs
 lengthsFrom n (broken ∷ xs) = []
 
 -- an image, on which the answer is v
-pub record ImageSized (v : Verdict) (s : List ℕ) (r : Size) : Type 0 where
+pub record DidSize (v : Verdict) (s : List ℕ) (r : Size) : Type 0 where
   pub said : r .verdict ≡ v
   pub bytes : r .verdict .number ≡ 0 → r .len ≡ length (encode (items s))
   pub reels : r .verdict .number ≡ 0 → r .files ≡ length (lengthsFrom 0 (items s))

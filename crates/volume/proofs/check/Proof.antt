@@ -1,4 +1,4 @@
-use Rattle.volume.proofs.Walks.{verdicts}
+use Rattle.volume.proofs.WholeWalks.{verdicts}
 use Rattle.volume.proofs.check.Statement.{statement}
 use Rattle.volume.proofs.check.Tie as tie
 

@@ -32,7 +32,7 @@ body s count pending =
 pub record Given (h : Lengths) (second : List ℕ) : Type 0 where
   pub format : h .format ≡ formatOf second
   pub block : h .block ≡ valueOf (blockLengthOf second)
-  pub size : h .size ≡ valueOf (recordLengthOf second)
+  pub «record_length» : h .«record_length» ≡ valueOf (recordLengthOf second)
   pub offset : h .offset ≡ valueOf (offsetOf second)
 
 abbrev pub between : ℕ → ℕ → ℕ → ℕ → Between
@@ -50,7 +50,7 @@ pub record PlaceInside (s : List ℕ) (at item count : ℕ) : Type 0 where
   pub blocks : count ≤ item
 
 -- whatever else the state holds, reading on from the second place gives the verdict that reading on from the first one gives
-pub record Skipped (s : List ℕ) (h : Lengths) (a b : Between) : Type 0 where
+pub record DidSkip (s : List ℕ) (h : Lengths) (a b : Between) : Type 0 where
   pub same : (t : State) → Given h (t .hdr2) → toldBetween s t a ≡ toldBetween s t b
   pub onward : a .at ≤ b .at
   pub passed : a .item ≤ b .item

@@ -1,5 +1,5 @@
--- The walk of the code over an image: what is left from a spot, behind the volume labels at some places, and what a turn of the
--- walk owes.
+-- The walk of the code over an image: what is left from a spot, behind the volumes whose names stand at some places, and what
+-- a turn of the walk owes.
 use mathlib.Core.Path.{_≡_}
 use mathlib.Core.Bool.{Bool, true, false}
 use mathlib.Core.List.{List, [], _∷_, _++_}
@@ -39,7 +39,8 @@ toldStep s volumes x behind r =
 
 -- the same where it is of kind k and contents l
 unfoldable pub toldBy : List ℕ → List ℕ → Spot → Kind → List ℕ → ℕ → Verdict
-toldBy s volumes x k l behind = toldStep s volumes x behind (ordered (contents s volumes (x .state)) k l (dueAfter (x .state .phase) k))
+toldBy s volumes x k l behind =
+    toldStep s volumes x behind (ordered (contents s volumes (x .state)) k l (dueAfter (x .state .phase) k))
 
 -- and where it is due, with phase p behind it
 unfoldable pub toldDue : List ℕ → List ℕ → Spot → Phase → Kind → List ℕ → ℕ → Verdict
@@ -65,9 +66,9 @@ toldEnd s volumes x f =
     ifB (eqb (f .number) 0) (verdict 0 0 0)
     (framedElse s (x .at) (x .item) (x .state .phase) (length volumes) (verdict (f .number) (x .item) (f .byte)))
 
--- the places of the volume labels behind a turn
+-- the places of the volumes' names behind a turn
 unfoldable pub placesAfter : List ℕ → Turn → List ℕ
-placesAfter volumes r = ifB (r .named) (volumes ++ (r .label ∷ [])) volumes
+placesAfter volumes r = ifB (r .named) (volumes ++ (r .name ∷ [])) volumes
 
 -- the verdict that a turn leads to: that from its spot on, or that of the end there
 unfoldable pub toldAfter : List ℕ → List ℕ → Turn → Verdict
@@ -101,9 +102,9 @@ pub record LabelSized (k : Kind) (len : ℕ) : Type 0 where
 
 -- a reading behind an item of kind k at `start`, whatever volume labels were read before it, and its counts, each of at most one
 -- more
-pub record ReadingBehind (s : List ℕ) (x : Reading) (p : Phase) (k : Kind) (start len : ℕ) (r : Reading) : Type 0 where
+pub record DidRead (s : List ℕ) (x : Reading) (p : Phase) (k : Kind) (start len : ℕ) (r : Reading) : Type 0 where
   pub same : (volumes : List ℕ)
-      → contents s (ifB (isKind k (vol 1)) (volumes ++ (start ∷ [])) volumes) r
+      → contents s (ifB (isKind k (vol 1)) (volumes ++ ((start + 4) ∷ [])) volumes) r
       ≡ stateAfter (contents s volumes x) p k (part start len s)
   pub files : r .files ≤ x .files + 1
   pub blocks : r .count ≤ x .count + 1
@@ -111,20 +112,26 @@ pub record ReadingBehind (s : List ℕ) (x : Reading) (p : Phase) (k : Kind) (st
 -- a turn that ends the walk with a fault, and one that goes on
 abbrev pub lastTurn : Spot → ℕ → ℕ → Turn
 lastTurn x number byte =
-    record { spot = x; fault = record { number = number; byte = byte }; label = 0; on = false; named = false }
+    record { spot = x; fault = record { number = number; byte = byte }; name = 0; on = false; named = false }
 
 abbrev pub onTurn : ℕ → ℕ → Reading → Bool → ℕ → Turn
-onTurn at item state named label =
-    record { spot = record { at = at; state = state; item = item }; fault = record { number = 0; byte = 0 }; label = label; on = true; named = named }
+onTurn at item state named name =
+    record {
+      spot = record { at = at; state = state; item = item };
+      fault = record { number = 0; byte = 0 };
+      name = name;
+      on = true;
+      named = named;
+    }
 
 -- a turn that goes on behind a block of n bytes and of kind k, with phase p
-pub record Onward (s : List ℕ) (x : Spot) (p : Phase) (k : Kind) (n : ℕ) (r : Turn) : Type 0 where
+pub record DidGoOn (s : List ℕ) (x : Spot) (p : Phase) (k : Kind) (n : ℕ) (r : Turn) : Type 0 where
   pub on : r .on ≡ true
   pub at : r .spot .at ≡ x .at + 3 + n
   pub item : r .spot .item ≡ x .item + 1
   pub named : r .named ≡ isKind k (vol 1)
-  pub label : r .label ≡ x .at + 3
-  pub behind : ReadingBehind s (x .state) p k (x .at + 3) n (r .spot .state)
+  pub name : r .name ≡ x .at + 3 + 4
+  pub behind : DidRead s (x .state) p k (x .at + 3) n (r .spot .state)
 
 -- a block of n bytes stands at a spot
 pub record BlockHere (s : List ℕ) (x : Spot) (n : ℕ) : Type 0 where
@@ -176,25 +183,25 @@ pub record BareHere (s : List ℕ) (x : Spot) (family : ℕ) : Type 0 where
   pub bare : (t : State) (p : Phase) → Bare t p (kind family 0)
 
 -- a turn from `at` on owes the verdict v; where it goes on, it went on by a byte or more; and it passes no 17th volume label
-pub record Owes (s volumes : List ℕ) (at : ℕ) (v : Verdict) (r : Turn) : Type 0 where
+pub record DidTurn (s volumes : List ℕ) (at : ℕ) (v : Verdict) (r : Turn) : Type 0 where
   pub same : toldAfter s volumes r ≡ v
   pub onward : r .on ≡ true → at < r .spot .at
   pub bounded : Bounded s (r .spot .at) (r .spot .item) (r .spot .state)
   pub few : length volumes ≤ mostReels → length (placesAfter volumes r) ≤ mostReels
 
 -- a spot further on from which the verdict is the same, whatever volume labels were read
-pub record Past (s : List ℕ) (x y : Spot) : Type 0 where
+pub record DidPass (s : List ℕ) (x y : Spot) : Type 0 where
   pub same : (volumes : List ℕ) → toldAt s volumes y ≡ toldAt s volumes x
   pub onward : x .at ≤ y .at
   pub bounded : Bounded s (y .at) (y .item) (y .state)
 
 -- a spot from which the verdict is that from the first item on
-pub record FirstSpot (s volumes : List ℕ) (x : Spot) : Type 0 where
+pub record DidStart (s volumes : List ℕ) (x : Spot) : Type 0 where
   pub same : toldAt s volumes x ≡ toldFrom 0 start (items s)
   pub bounded : Bounded s (x .at) (x .item) (x .state)
 
 -- the same behind the first `reels` of sixteen places
 pub record Walked (s volumes : List ℕ) (reels : ℕ) (x : Spot) : Type 0 where
-  pub begun : FirstSpot s (take reels volumes) x
+  pub begun : DidStart s (take reels volumes) x
   pub few : reels ≤ mostReels
   pub kept : length volumes ≡ mostReels

@@ -1,4 +1,4 @@
-use Rattle.writer.proofs.Answering.{rewrites}
+use Rattle.writer.proofs.Quotas.{rewrites}
 use Rattle.writer.proofs.rewrite.Statement.{statement}
 use Rattle.writer.proofs.rewrite.Tie as tie
 

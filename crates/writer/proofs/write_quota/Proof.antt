@@ -1,6 +1,6 @@
 use mathlib.Core.Path.{refl}
 use Rattle.base.proofs.Parts.{counted}
-use Rattle.writer.proofs.Answering.{quotas, quota-within, parts-writable, parts-answers}
+use Rattle.writer.proofs.Quotas.{quotas, quota-within, parts-writable, parts-answers}
 use Rattle.writer.proofs.write_quota.Statement.{statement}
 use Rattle.writer.proofs.write_quota.Tie as tie
 

@@ -17,7 +17,7 @@ use Rattle.writer.specs.code.Source.{recordsOf, endAt, GoodCursor, Split
 use Rattle.writer.specs.code.Records.{RoomBehind}
 
 -- the record that was found at a cursor can be packed
-pub record Takable (lay : Bool) (f b : ℕ) (j : Job) (bytes : List ℕ) (c : Cursor) (r : Found) (p : Pen)
+pub record CanTake (lay : Bool) (f b : ℕ) (j : Job) (bytes : List ℕ) (c : Cursor) (r : Found) (p : Pen)
     (o : List ℕ) : Type 0 where
   pub sound : Sound j p
   pub given : p .short ≡ false
@@ -33,7 +33,7 @@ pub record Followed (f b : ℕ) (j : Job) (xs : List (List ℕ)) (p : Pen) (o : 
   pub fits : EndsWithin (penned true f b j p o (between (startOf xs)) next) (length o)
 
 -- all records from a cursor on can be packed
-pub record Bodied (lay : Bool) (f b : ℕ) (j : Job) (lengths bytes : List ℕ) (c : Cursor) (p : Pen) (o : List ℕ) : Type 0 where
+pub record CanPutRecords (lay : Bool) (f b : ℕ) (j : Job) (lengths bytes : List ℕ) (c : Cursor) (p : Pen) (o : List ℕ) : Type 0 where
   pub sound : Sound j p
   pub given : p .short ≡ false
   pub most : b ≤ 99999
@@ -42,7 +42,7 @@ pub record Bodied (lay : Bool) (f b : ℕ) (j : Job) (lengths bytes : List ℕ) 
   pub ahead : lay ≡ true → Followed f b j (recordsOf lengths bytes c) p o
 
 -- they were packed, up to the open block, which is not closed; or a reel is lacking
-pub record BodyPut (lay : Bool) (f b : ℕ) (j : Job) (lengths bytes : List ℕ) (c : Cursor) (p : Pen) (o q : List ℕ)
+pub record DidPutRecords (lay : Bool) (f b : ℕ) (j : Job) (lengths bytes : List ℕ) (c : Cursor) (p : Pen) (o q : List ℕ)
     (r : Body) : Type 0 where
   pub sound : Sound j (r .pen)
   pub kept : length q ≡ length o

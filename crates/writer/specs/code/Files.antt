@@ -14,12 +14,12 @@ use Rattle.writer.specs.declared.pen.Pen.{Pen}
 use Rattle.writer.specs.declared.source.Cursor.{Cursor}
 use Rattle.writer.specs.declared.body.Body.{Body}
 use Rattle.writer.specs.code.Pass.{Job, job, reelsAt, inkAt, PassEnd, behind, laidFrom, EndsWithin, BetweenFiles, Sound, between, penned}
-use Rattle.writer.specs.code.Pens.{Closable}
+use Rattle.writer.specs.code.Pens.{CanClose}
 use Rattle.writer.specs.code.Source.{recordsOf, endAt, GoodCursor}
 
 -- ---- the beginning
 
-pub record Beginnable (lay : Bool) (p : Pen) (size : ℕ) : Type 0 where
+pub record CanBegin (lay : Bool) (p : Pen) (size : ℕ) : Type 0 where
   pub place : p .at ≤ 1000000000000000
   pub room : lay ≡ true → p .at + 169 ≤ size
 
@@ -27,19 +27,19 @@ pub record Beginnable (lay : Bool) (p : Pen) (size : ℕ) : Type 0 where
 abbrev pub begun : Pen → Pen
 begun p = record { at = p .at + 169; used = 0; room = p .room; next = p .next; section = 1; count = 0; on = false; short = false }
 
-pub record Begins (lay : Bool) (set e : List ℕ) (sequence : ℕ) (p : Pen) (o q : List ℕ) (r : Pen) : Type 0 where
+pub record DidBegin (lay : Bool) (set e : List ℕ) (sequence : ℕ) (p : Pen) (o q : List ℕ) (r : Pen) : Type 0 where
   pub is : r ≡ begun p
   pub laid : q ≡ inkAt lay o (p .at) (encode (headers set e 1 sequence))
   pub kept : length q ≡ length o
 
 -- ---- the end
 
-pub record Endable (lay : Bool) (p : Pen) (size : ℕ) : Type 0 where
-  pub closable : Closable lay p size
+pub record CanEnd (lay : Bool) (p : Pen) (size : ℕ) : Type 0 where
+  pub closable : CanClose lay p size
   pub room : lay ≡ true → behind (p .on) (p .at) (p .used) + 172 ≤ size
 
 -- pen r is p behind the trailer labels of the file
-pub record Ends (lay : Bool) (set e : List ℕ) (sequence : ℕ) (p : Pen) (o q : List ℕ) (r : Pen) : Type 0 where
+pub record DidEnd (lay : Bool) (set e : List ℕ) (sequence : ℕ) (p : Pen) (o q : List ℕ) (r : Pen) : Type 0 where
   pub sound : (rooms names : List ℕ) → Sound (job set e sequence rooms names) p → sequence ≤ 64
       → BetweenFiles rooms names sequence r
   pub kept : length q ≡ length o
@@ -51,14 +51,14 @@ pub record Ends (lay : Bool) (set e : List ℕ) (sequence : ℕ) (p : Pen) (o q 
       ≡ penned lay f b (job set e sequence rooms names) p o (between finished) next
 
 -- the same behind the body of a file, unless a reel is lacking
-pub record Tailable (lay : Bool) (x : Body) (size : ℕ) : Type 0 where
-  pub endable : x .pen .short ≡ false → Endable lay (x .pen) size
+pub record CanPutEnd (lay : Bool) (x : Body) (size : ℕ) : Type 0 where
+  pub endable : x .pen .short ≡ false → CanEnd lay (x .pen) size
 
-pub record Tailed (lay : Bool) (set e : List ℕ) (sequence : ℕ) (x : Body) (o q : List ℕ) (r : Body) : Type 0 where
+pub record DidPutEnd (lay : Bool) (set e : List ℕ) (sequence : ℕ) (x : Body) (o q : List ℕ) (r : Body) : Type 0 where
   pub kept : length q ≡ length o
   pub end : r .end ≡ x .end
   pub lacks : x .pen .short ≡ true → (q ≡ o) × (r .pen ≡ x .pen)
-  pub given : x .pen .short ≡ false → Ends lay set e sequence (x .pen) o q (r .pen)
+  pub given : x .pen .short ≡ false → DidEnd lay set e sequence (x .pen) o q (r .pen)
 
 -- ---- the whole file
 
@@ -83,7 +83,7 @@ pub record RoomForFile (j : Job) (xs : List (List ℕ)) (p : Pen) (o : List ℕ)
   pub fits : EndsWithin (filedFrom true j p o xs next) (length o)
 
 -- a file can be laid, of which n are before it
-pub record FileReady (lay : Bool) (j : Job) (lengths bytes : List ℕ) (c : Cursor) (p : Pen) (o : List ℕ) : Type 0 where
+pub record CanPutFile (lay : Bool) (j : Job) (lengths bytes : List ℕ) (c : Cursor) (p : Pen) (o : List ℕ) : Type 0 where
   pub before : ℕ
   pub turn : before + 1 ≡ j .sequence
   pub few : j .sequence ≤ 64
@@ -95,7 +95,7 @@ pub record FileReady (lay : Bool) (j : Job) (lengths bytes : List ℕ) (c : Curs
   pub ahead : lay ≡ true → RoomForFile j (recordsOf lengths bytes c) p o
 
 -- it was laid; or a reel is lacking
-pub record FilePut (lay : Bool) (j : Job) (lengths bytes : List ℕ) (c : Cursor) (p : Pen) (o q : List ℕ) (r : Body) : Type 0 where
+pub record DidPutFile (lay : Bool) (j : Job) (lengths bytes : List ℕ) (c : Cursor) (p : Pen) (o q : List ℕ) (r : Body) : Type 0 where
   pub sound : r .pen .short ≡ false → BetweenFiles (j .rooms) (j .names) (j .sequence) (r .pen)
   pub kept : length q ≡ length o
   pub untouched : lay ≡ false → q ≡ o

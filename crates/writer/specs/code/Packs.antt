@@ -28,7 +28,7 @@ pub record Wanted (f b : ℕ) (j : Job) (n : ℕ) (p : Pen) (o : List ℕ) : Typ
   pub first : List ℕ
   pub later : List (List ℕ)
   pub next : Sequel
-  pub size : length first ≡ n
+  pub «record_length» : length first ≡ n
   pub room : RoomEach f b later
   pub fits : EndsWithin (penned true f b j p o (between (going begun first later)) next) (length o)
 
@@ -85,7 +85,7 @@ pub record Coming (f b : ℕ) (j : Job) (piece : List ℕ) (s : Flow) (o : List 
   pub bytes : List ℕ
   pub later : List (List ℕ)
   pub next : Sequel
-  pub size : s .left + s .from ≡ length piece + length bytes
+  pub «record_length» : s .left + s .from ≡ length piece + length bytes
   pub room : RoomEach f b later
   pub fits : EndsWithin (flowed true f b j s o (drop (s .from) piece ++ bytes) later next) (length o)
 
@@ -106,7 +106,7 @@ pub record FlowGoes (lay : Bool) (f b : ℕ) (j : Job) (piece : List ℕ) (s : F
       → flowed lay f b j r q (drop (r .from) piece ++ zs) xs next ≡ flowed lay f b j s o (drop (s .from) piece ++ zs) xs next
 
 -- a step whose code does not know the file: it goes, for whatever file
-pub record FlowsOn (lay : Bool) (piece : List ℕ) (s : Flow) (o q : List ℕ) (r : Flow) : Type 0 where
+pub record DidPutPart (lay : Bool) (piece : List ℕ) (s : Flow) (o q : List ℕ) (r : Flow) : Type 0 where
   pub kept : length q ≡ length o
   pub from : r .from ≡ s .from + min (s .seg) (length piece - s .from)
   pub told : r .on ≡ ltb (r .from) (length piece)
@@ -129,13 +129,13 @@ headed f b s =
       on = true;
     }
 
-pub record Headable (lay : Bool) (f b : ℕ) (s : Flow) (size : ℕ) : Type 0 where
+pub record CanPutHead (lay : Bool) (f b : ℕ) (s : Flow) (size : ℕ) : Type 0 where
   pub enters : enters f b (s .pen .used) (s .left) ≡ true
   pub most : b ≤ 99999
   pub place : s .pen .at ≤ 1000000000000000
   pub room : lay ≡ true → s .pen .at + 3 + s .pen .used + wordOf f ≤ size
 
-pub record Headed (lay : Bool) (f b : ℕ) (s : Flow) (o q : List ℕ) (r : Flow) : Type 0 where
+pub record DidPutHead (lay : Bool) (f b : ℕ) (s : Flow) (o q : List ℕ) (r : Flow) : Type 0 where
   pub is : r ≡ headed f b s
   pub laid : q ≡ inkAt lay o (s .pen .at + 3 + s .pen .used)
       (controlWord f (indicatorOf (s .begun) (taken f b (s .pen .used) (s .left)) (s .left)) (taken f b (s .pen .used) (s .left)))
@@ -158,7 +158,7 @@ spelled n s =
     }
 
 -- a flow within a unit, in a piece of n bytes
-pub record Partable (lay : Bool) (n : ℕ) (s : Flow) (size : ℕ) : Type 0 where
+pub record CanSpell (lay : Bool) (n : ℕ) (s : Flow) (size : ℕ) : Type 0 where
   pub inside : s .inside ≡ true
   pub given : s .pen .short ≡ false
   pub on : s .pen .on ≡ true
@@ -169,7 +169,7 @@ pub record Partable (lay : Bool) (n : ℕ) (s : Flow) (size : ℕ) : Type 0 wher
   pub place : s .pen .at ≤ 1000000000000000
   pub room : lay ≡ true → s .pen .at + 3 + s .pen .used + manyOf n s ≤ size
 
-pub record Spelled (lay : Bool) (piece : List ℕ) (s : Flow) (o q : List ℕ) (r : Flow) : Type 0 where
+pub record DidSpell (lay : Bool) (piece : List ℕ) (s : Flow) (o q : List ℕ) (r : Flow) : Type 0 where
   pub is : r ≡ spelled (length piece) s
   pub laid : q ≡ inkAt lay o (s .pen .at + 3 + s .pen .used) (part (s .from) (manyOf (length piece) s) piece)
 
@@ -179,7 +179,7 @@ unfoldable pub turnsIn : ℕ → ℕ → ℕ → Flow → ℕ
 turnsIn f b n s = 3 * (n - s .from) + ifB (s .inside) 0 (ifB (entersOn f b (s .pen .on) (s .pen .used) (s .left)) 1 2)
 
 -- a turn; the piece is over where r is off
-pub record Turns (lay : Bool) (f b : ℕ) (j : Job) (piece : List ℕ) (s : Flow) (o q : List ℕ) (r : Flow) : Type 0 where
+pub record DidTakeTurn (lay : Bool) (f b : ℕ) (j : Job) (piece : List ℕ) (s : Flow) (o q : List ℕ) (r : Flow) : Type 0 where
   pub goes : FlowGoes lay f b j piece s o q r
   pub given : r .on ≡ true → r .pen .short ≡ false
   pub settled : r .pen .short ≡ false → Settled r
@@ -187,12 +187,12 @@ pub record Turns (lay : Bool) (f b : ℕ) (j : Job) (piece : List ℕ) (s : Flow
   pub over : r .on ≡ false → r .pen .short ≡ false → r .from ≡ length piece
   pub out : r .on ≡ false → r .pen .short ≡ false → r .inside ≡ false → 0 < r .left
 
-pub record Packable (lay : Bool) (f b : ℕ) (j : Job) (piece : List ℕ) (s : Flow) (o : List ℕ) : Type 0 where
+pub record CanPack (lay : Bool) (f b : ℕ) (j : Job) (piece : List ℕ) (s : Flow) (o : List ℕ) : Type 0 where
   pub flowing : Flowing lay f b j piece s o
   pub settled : Settled s
 
 -- all of the piece is packed, or a reel is lacking
-pub record Packed (lay : Bool) (f b : ℕ) (j : Job) (piece : List ℕ) (s : Flow) (o q : List ℕ) (r : Flow) : Type 0 where
+pub record DidPack (lay : Bool) (f b : ℕ) (j : Job) (piece : List ℕ) (s : Flow) (o q : List ℕ) (r : Flow) : Type 0 where
   pub goes : FlowGoes lay f b j piece s o q r
   pub settled : r .pen .short ≡ false → Settled r
   pub over : r .pen .short ≡ false → r .from ≡ length piece

@@ -1,6 +1,9 @@
 -- How a pass of the writer ends: what the buffer then holds, and where the image ends in it; or that a reel is lacking. A pass
 -- that lays writes as it goes on, one that measures only counts. What is left to be written from a pen on is told by the
 -- definitions of packing and laying; what follows the file is a continuation, as there.
+--
+-- In this folder, and wherever code has definitions of its own, `CanX` is what a function asks for, and `DidX` what it owes its
+-- definition when it is done.
 use mathlib.Core.Path.{_≡_}
 use mathlib.Core.Bool.{Bool, true, false}
 use mathlib.Core.List.{List, [], _∷_, _++_}

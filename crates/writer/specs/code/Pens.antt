@@ -23,19 +23,19 @@ pub record RoomForBlock (j : Job) (p : Pen) (o : List ℕ) : Type 0 where
   pub fits : EndsWithin (ends true j p o [] (first ∷ later) next) (length o)
 
 -- a pen that may begin a block, if there is a reel for it
-pub record Ready (lay : Bool) (j : Job) (p : Pen) (o : List ℕ) : Type 0 where
+pub record CanOpen (lay : Bool) (j : Job) (p : Pen) (o : List ℕ) : Type 0 where
   pub sound : Sound j p
   pub given : p .short ≡ false
   pub ahead : lay ≡ true → RoomForBlock j p o
 
 -- a pen whose block can be closed, in a buffer of that size
-pub record Closable (lay : Bool) (p : Pen) (size : ℕ) : Type 0 where
+pub record CanClose (lay : Bool) (p : Pen) (size : ℕ) : Type 0 where
   pub used : p .used ≤ 99999
   pub place : p .at ≤ 1000000000000000
   pub room : lay ≡ true → p .on ≡ true → p .at + 3 + p .used ≤ size
 
 -- pen r is p with its block closed
-pub record Closes (lay : Bool) (p : Pen) (o q : List ℕ) (r : Pen) : Type 0 where
+pub record DidClose (lay : Bool) (p : Pen) (o q : List ℕ) (r : Pen) : Type 0 where
   pub sound : (j : Job) → Sound j p → Sound j r
   pub kept : length q ≡ length o
   pub untouched : lay ≡ false → q ≡ o
@@ -47,7 +47,7 @@ pub record Closes (lay : Bool) (p : Pen) (o q : List ℕ) (r : Pen) : Type 0 whe
   pub same : (j : Job) (bs : List (List ℕ)) (next : Sequel) → ends lay j r q [] bs next ≡ ends lay j p o [] bs next
 
 -- pen r, between blocks, is p on the next reel; or no name is left
-pub record Changes (lay : Bool) (j : Job) (p : Pen) (o q : List ℕ) (r : Pen) : Type 0 where
+pub record DidChange (lay : Bool) (j : Job) (p : Pen) (o q : List ℕ) (r : Pen) : Type 0 where
   pub sound : Sound j r
   pub kept : length q ≡ length o
   pub untouched : lay ≡ false → q ≡ o
@@ -56,7 +56,7 @@ pub record Changes (lay : Bool) (j : Job) (p : Pen) (o q : List ℕ) (r : Pen) :
   pub same : (y : List ℕ) (ys : List (List ℕ)) (next : Sequel) → ends lay j r q [] (y ∷ ys) next ≡ ends lay j p o [] (y ∷ ys) next
 
 -- pen r is p with a new block open, in which nothing is written yet; or no name is left
-pub record Opens (lay : Bool) (j : Job) (p : Pen) (o q : List ℕ) (r : Pen) : Type 0 where
+pub record DidOpen (lay : Bool) (j : Job) (p : Pen) (o q : List ℕ) (r : Pen) : Type 0 where
   pub sound : Sound j r
   pub kept : length q ≡ length o
   pub untouched : lay ≡ false → q ≡ o

@@ -34,14 +34,14 @@ pub record GoesNext (f b : ℕ) (isOn : Bool) (u left n : ℕ) : Type 0 where
   pub whole : taken f b 0 n ≡ n
 
 -- a whole record can be written
-pub record Wholable (lay : Bool) (f : ℕ) (bytes : List ℕ) (from n : ℕ) (p : Pen) (size : ℕ) : Type 0 where
+pub record CanPutWhole (lay : Bool) (f : ℕ) (bytes : List ℕ) (from n : ℕ) (p : Pen) (size : ℕ) : Type 0 where
   pub inside : from + n ≤ length bytes
   pub small : n ≤ mostOf f
   pub fits : p .used + (wordOf f + n) ≤ 99999
   pub place : p .at ≤ 1000000000000000
   pub room : lay ≡ true → p .at + 3 + p .used + (wordOf f + n) ≤ size
 
-pub record Wholed (lay : Bool) (f : ℕ) (bytes : List ℕ) (from n : ℕ) (p : Pen) (o q : List ℕ) (r : Pen) : Type 0 where
+pub record DidPutWhole (lay : Bool) (f : ℕ) (bytes : List ℕ) (from n : ℕ) (p : Pen) (o q : List ℕ) (r : Pen) : Type 0 where
   pub is : r ≡ more p (wordOf f + n)
   pub laid : q ≡ inkAt lay o (p .at + 3 + p .used) (controlWord f 0 n ++ part from n bytes)
 
@@ -52,7 +52,7 @@ pub record RoomBehind (f b : ℕ) (j : Job) (x : List ℕ) (p : Pen) (o : List �
   pub room : RoomEach f b later
   pub fits : EndsWithin (penned true f b j p o (between (going 0 x later)) next) (length o)
 
-pub record Recordable (lay : Bool) (f b : ℕ) (j : Job) (bytes : List ℕ) (from n : ℕ) (p : Pen) (o : List ℕ) : Type 0 where
+pub record CanPutRecord (lay : Bool) (f b : ℕ) (j : Job) (bytes : List ℕ) (from n : ℕ) (p : Pen) (o : List ℕ) : Type 0 where
   pub sound : Sound j p
   pub given : p .short ≡ false
   pub most : b ≤ 99999
@@ -61,7 +61,7 @@ pub record Recordable (lay : Bool) (f b : ℕ) (j : Job) (bytes : List ℕ) (fro
   pub ahead : lay ≡ true → RoomBehind f b j (part from n bytes) p o
 
 -- a record was packed; or a reel is lacking
-pub record Recorded (lay : Bool) (f b : ℕ) (j : Job) (x : List ℕ) (p : Pen) (o q : List ℕ) (r : Pen) : Type 0 where
+pub record DidPutRecord (lay : Bool) (f b : ℕ) (j : Job) (x : List ℕ) (p : Pen) (o q : List ℕ) (r : Pen) : Type 0 where
   pub sound : Sound j r
   pub kept : length q ≡ length o
   pub untouched : lay ≡ false → q ≡ o
@@ -69,7 +69,7 @@ pub record Recorded (lay : Bool) (f b : ℕ) (j : Job) (x : List ℕ) (p : Pen) 
       → penned lay f b j r q (between (startOf xs)) next ≡ penned lay f b j p o (between (going 0 x xs)) next
 
 -- a record of n bytes of some file
-pub record Somewhere (lay : Bool) (f b n : ℕ) (p : Pen) (o : List ℕ) : Type 0 where
+pub record CanQuickBlock (lay : Bool) (f b n : ℕ) (p : Pen) (o : List ℕ) : Type 0 where
   pub file : Job
   pub can : Wanting lay f b file n p o
 
@@ -80,7 +80,7 @@ pub record EntersWhole (lay : Bool) (f b : ℕ) (j : Job) (n : ℕ) (p : Pen) (o
   pub whole : taken f b (r .used) n ≡ n
 
 -- the block for a record that goes whole into the open block or into the next of this reel; else nothing was done
-pub record QuickBlock (lay : Bool) (f b n : ℕ) (p : Pen) (o q : List ℕ) (r : Quick) : Type 0 where
+pub record DidQuickBlock (lay : Bool) (f b n : ℕ) (p : Pen) (o q : List ℕ) (r : Quick) : Type 0 where
   pub kept : length q ≡ length o
   pub small : r .ok ≡ true → n ≤ mostOf f
   pub yes : r .ok ≡ true → (j : Job) → Wanting lay f b j n p o → EntersWhole lay f b j n p o q (r .pen)
@@ -89,7 +89,7 @@ pub record QuickBlock (lay : Bool) (f b n : ℕ) (p : Pen) (o q : List ℕ) (r :
 -- ---- a record in several segments
 
 -- a record of an image of n bytes, which stands at a cursor in several segments, can be packed
-pub record Splittable (lay : Bool) (f b : ℕ) (j : Job) (bytes : List ℕ) (c : Cursor) (n : ℕ) (p : Pen) (o : List ℕ) : Type 0 where
+pub record CanSplit (lay : Bool) (f b : ℕ) (j : Job) (bytes : List ℕ) (c : Cursor) (n : ℕ) (p : Pen) (o : List ℕ) : Type 0 where
   pub sound : Sound j p
   pub given : p .short ≡ false
   pub most : b ≤ 99999

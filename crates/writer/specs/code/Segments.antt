@@ -20,10 +20,10 @@ behindOf c g = walkOf (movedTo c (g .at) (g .left))
 -- a record goes on behind a walk, to its end
 pub record HasRest (bytes : List ℕ) (w : Walk) : Type 0 where
   pub inside : Inside bytes w
-  pub ended : isEnded (restAt bytes (w .size) w) ≡ true
+  pub ended : isEnded (restAt bytes (w .«record_length») w) ≡ true
 
 -- x is a segment and the rest of its record; where that has bytes, the record goes on with them
-pub record Segmented (bytes : List ℕ) (c : Cursor) (x : List ℕ) (g : Segment) : Type 0 where
+pub record DidSegment (bytes : List ℕ) (c : Cursor) (x : List ℕ) (g : Segment) : Type 0 where
   pub rest : List ℕ
   pub is : x ≡ part (g .from) (g .len) bytes ++ rest
   pub within : g .from + g .len ≤ length bytes

@@ -2,7 +2,7 @@
 -- at a place, and the loop over them knows nothing else.
 use mathlib.Core.Path.{_≡_}
 use mathlib.Core.Bool.{Bool, true, false}
-use mathlib.Core.List.{List, [], _∷_, _++_}
+use mathlib.Core.List.{List, [], _∷_}
 use Prim.Native.Nat.{ℕ, suc, _+_, _*_, _≤_, _<_}
 use lib.Dec.{ltb}
 use lib.ListN.{length, drop, getD}
@@ -43,7 +43,8 @@ totalOf read bytes = length (content bytes .files)
 -- the files from a place on
 unfoldable pub filesAt : Origin → List ℕ → List ℕ → Place → List File
 filesAt (listed files counts) lengths bytes g =
-    filesFrom (inParts entryLength (drop (entryLength * g .nth) files)) (drop (g .nth) counts) (drop (g .first) lengths) (drop (g .byte) bytes)
+    filesFrom (inParts entryLength (drop (entryLength * g .nth) files))
+    (drop (g .nth) counts) (drop (g .first) lengths) (drop (g .byte) bytes)
 filesAt read lengths bytes g = drop (g .nth) (content bytes .files)
 
 -- a place among the files of a sheet, where what is left adds up
@@ -69,36 +70,37 @@ pub record PlacedAmong (from : Origin) (set lengths bytes : List ℕ) (g : Place
 
 -- the cursor at the first record of a sheet's file, whose lengths end at `stop`, and of an image's
 abbrev pub listedAt : ℕ → ℕ → ℕ → Cursor
-listedAt byte count stop = record { at = byte; left = count; stop = stop; offset = 0; size = 0; format = 0; image = false }
+listedAt byte count stop = record { at = byte; left = count; stop = stop; offset = 0; «record_length» = 0; format = 0; image = false }
 
 abbrev pub walkAt : Walk → Cursor
-walkAt w = record { at = w .at; left = w .left; stop = 0; offset = w .offset; size = w .size; format = w .format; image = true }
+walkAt w = record { at = w .at; left = w .left; stop = 0; offset = w .offset; «record_length» = w .«record_length»; format = w .format; image = true }
 
 -- the cursor at the first record of the file at a place; of a sheet it ends within its n lengths
 unfoldable pub cursorAt : Bool → List ℕ → Place → Cursor
 cursorAt image counts g =
     ifB image (walkAt (g .file .walk)) (listedAt (g .byte) (getD counts (g .nth) 0) (g .first + getD counts (g .nth) 0))
 
-pub record Countable (image : Bool) (counts : List ℕ) (n : ℕ) (g : Place) : Type 0 where
+pub record CanCount (image : Bool) (counts : List ℕ) (n : ℕ) (g : Place) : Type 0 where
   pub nth : image ≡ false → g .nth < length counts
   pub stop : image ≡ false → g .first + getD counts (g .nth) 0 ≤ n
 
 -- the entry of the file at a place, which stands within so many bytes
 unfoldable pub entryAt : Bool → List ℕ → List ℕ → Place → List ℕ
 entryAt image files bytes g =
-    ifB image (fieldsFrom (part (g .file .hdr1) 80 bytes) (part (g .file .hdr2) 80 bytes)) (part (entryLength * g .nth) entryLength files)
+    ifB image (fieldsFrom (part (g .file .hdr1) 80 bytes) (part (g .file .hdr2) 80 bytes))
+    (part (entryLength * g .nth) entryLength files)
 
-pub record Enterable (image : Bool) (entries size : ℕ) (g : Place) : Type 0 where
+pub record CanEnter (image : Bool) (entries size : ℕ) (g : Place) : Type 0 where
   pub few : g .nth < 64
   pub listed : image ≡ false → entryLength * g .nth + entryLength ≤ entries
   pub first : image ≡ true → g .file .hdr1 + 80 ≤ size
   pub second : image ≡ true → g .file .hdr2 + 80 ≤ size
 
 -- label parts with that entry and number, and otherwise as before
-pub record LabelsEntered (labels e : List ℕ) (n : ℕ) (r : List ℕ) : Type 0 where
+pub record DidEnter (labels e : List ℕ) (n : ℕ) (r : List ℕ) : Type 0 where
   pub entry : entryIn r ≡ e
   pub sequence : sequenceIn r ≡ n
-  pub others : drop 47 r ≡ drop 47 labels
+  pub others : drop (entryLength + 1) r ≡ drop (entryLength + 1) labels
 
 -- the place behind a file, with the next of an image, and whether there is one to be laid
 abbrev pub passed : Place → ℕ → ℕ → FileAt → Bool → Place
@@ -149,7 +151,7 @@ pub record Filing : Type 0 where
   pub pen : Pen
 
 -- files were laid from place g and pen p on, up to where x stands; or a reel is lacking
-pub record Filed (lay : Bool) (t : Task) (g : Place) (p : Pen) (o q : List ℕ) (x : Filing) : Type 0 where
+pub record DidFile (lay : Bool) (t : Task) (g : Place) (p : Pen) (o q : List ℕ) (x : Filing) : Type 0 where
   pub placed : x .pen .short ≡ false → PlacedIn t (x .place)
   pub sound : x .pen .short ≡ false → BetweenFiles (t .rooms) (t .names) (x .place .nth) (x .pen)
   pub kept : length q ≡ length o
@@ -160,7 +162,7 @@ pub record Filed (lay : Bool) (t : Task) (g : Place) (p : Pen) (o q : List ℕ) 
   pub same : laidFrom lay (x .pen) q (layAt t (x .place) (x .pen)) ≡ laidFrom lay p o (layAt t g p)
 
 -- from where a file can be laid
-pub record Fileable (lay : Bool) (t : Task) (g : Place) (p : Pen) (o : List ℕ) : Type 0 where
+pub record CanFile (lay : Bool) (t : Task) (g : Place) (p : Pen) (o : List ℕ) : Type 0 where
   pub placed : PlacedIn t g
   pub more : g .nth < totalOf (t .from) (t .bytes)
   pub sound : BetweenFiles (t .rooms) (t .names) (g .nth) p
@@ -168,23 +170,23 @@ pub record Fileable (lay : Bool) (t : Task) (g : Place) (p : Pen) (o : List ℕ)
   pub fits : lay ≡ true → EndsWithin (laidFrom true p o (layAt t g p)) (length o)
 
 -- one file was laid
-pub record OneFiled (lay : Bool) (t : Task) (g : Place) (p : Pen) (o q : List ℕ) (x : Filing) : Type 0 where
-  pub filed : Filed lay t g p o q x
+pub record DidFileOne (lay : Bool) (t : Task) (g : Place) (p : Pen) (o q : List ℕ) (x : Filing) : Type 0 where
+  pub filed : DidFile lay t g p o q x
   pub next : x .place .nth ≡ g .nth + 1
 
 -- all files were laid, or a reel is lacking
-pub record AllFiled (lay : Bool) (t : Task) (g : Place) (p : Pen) (o q : List ℕ) (x : Filing) : Type 0 where
-  pub filed : Filed lay t g p o q x
+pub record DidFileAll (lay : Bool) (t : Task) (g : Place) (p : Pen) (o q : List ℕ) (x : Filing) : Type 0 where
+  pub filed : DidFile lay t g p o q x
   pub off : x .place .on ≡ false
 
 -- ---- the set
 
 -- behind the last file the last reel is ended, unless a reel is lacking
-pub record Closing (lay : Bool) (p : Pen) (size : ℕ) : Type 0 where
+pub record CanEndSet (lay : Bool) (p : Pen) (size : ℕ) : Type 0 where
   pub place : p .short ≡ false → p .at ≤ 1000000000000000
   pub room : lay ≡ true → p .short ≡ false → p .at + 6 ≤ size
 
-pub record Closed (lay : Bool) (p : Pen) (o q : List ℕ) (r : Pen) : Type 0 where
+pub record DidEndSet (lay : Bool) (p : Pen) (o q : List ℕ) (r : Pen) : Type 0 where
   pub kept : length q ≡ length o
   pub untouched : lay ≡ false → q ≡ o
   pub same : laidFrom lay r q (laid []) ≡ laidFrom lay p o (laid (mark ∷ reelEnd ∷ []))
@@ -194,7 +196,7 @@ abbrev pub firstPen : ℕ → Pen
 firstPen room = record { at = 88; used = 0; room = room; next = 1; section = 1; count = 0; on = false; short = false }
 
 -- the pass from the very beginning on: l is laid at the front of the buffer; or a reel is lacking
-pub record Sheeted (lay : Bool) (l : Laid) (o q : List ℕ) (r : Pen) : Type 0 where
+pub record DidLaySet (lay : Bool) (l : Laid) (o q : List ℕ) (r : Pen) : Type 0 where
   pub untouched : lay ≡ false → q ≡ o
   pub kept : length q ≡ length o
   pub same : laidFrom lay r q (laid []) ≡ imageFrom lay o l
@@ -204,7 +206,7 @@ unfoldable pub meaningAt : Task → Place → Meaning
 meaningAt t g = record { set = t .set; files = filesAt (t .from) (t .lengths) (t .bytes) g }
 
 -- what the writer asks of the files from the first on, and of the reels
-pub record Writable (t : Task) (g : Place) : Type 0 where
+pub record CanWrite (t : Task) (g : Place) : Type 0 where
   pub placed : PlacedIn t g
   pub first : g .nth ≡ 0
   pub on : g .on ≡ true
@@ -217,8 +219,8 @@ unfoldable pub setLaid : Task → Place → Laid
 setLaid t g = layOn (meaningAt t g) (reelsAt (t .rooms) (t .names) 0)
 
 -- the same, and where the pass lays, it ends within the buffer
-pub record SetReady (lay : Bool) (t : Task) (g : Place) (o : List ℕ) : Type 0 where
-  pub writable : Writable t g
+pub record CanLaySet (lay : Bool) (t : Task) (g : Place) (o : List ℕ) : Type 0 where
+  pub writable : CanWrite t g
   pub fits : lay ≡ true → EndsWithin (imageFrom true o (setLaid t g)) (length o)
 
 -- ---- a quota
@@ -229,7 +231,7 @@ sheetAt from set lengths bytes g quota names =
     record { meaning = record { set = set; files = filesAt from lengths bytes g }; quota = quota; names = inParts 6 names }
 
 -- what the writer asks of the files from the first on, the quota and the names
-pub record Ordered (from : Origin) (set lengths bytes : List ℕ) (g : Place) (quota : ℕ) (names : List ℕ) : Type 0 where
+pub record CanOrder (from : Origin) (set lengths bytes : List ℕ) (g : Place) (quota : ℕ) (names : List ℕ) : Type 0 where
   pub placed : PlacedAmong from set lengths bytes g
   pub first : g .nth ≡ 0
   pub on : g .on ≡ true

@@ -22,12 +22,12 @@ use Rattle.writer.specs.declared.source.Found.{Found}
 
 -- the walk of an image's cursor
 abbrev pub walkOf : Cursor → Walk
-walkOf c = record { format = c .format; size = c .size; offset = c .offset; at = c .at; left = c .left }
+walkOf c = record { format = c .format; «record_length» = c .«record_length»; offset = c .offset; at = c .at; left = c .left }
 
 -- a cursor further on in its file
 abbrev pub movedTo : Cursor → ℕ → ℕ → Cursor
 movedTo c at left =
-    record { at = at; left = left; stop = c .stop; offset = c .offset; size = c .size; format = c .format; image = c .image }
+    record { at = at; left = left; stop = c .stop; offset = c .offset; «record_length» = c .«record_length»; format = c .format; image = c .image }
 
 -- the lengths of the records that are left on a sheet
 unfoldable pub lengthsAt : List ℕ → Cursor → List ℕ
@@ -69,7 +69,7 @@ unfoldable pub foundBytes : List ℕ → Cursor → Found → List ℕ
 foundBytes bytes c r = ifB (eqb (r .kind) 2) (splitBytes bytes c) (part (r .from) (r .len) bytes)
 
 -- the next record was found, or there is none
-pub record Finds (lengths bytes : List ℕ) (c : Cursor) (r : Found) : Type 0 where
+pub record DidFind (lengths bytes : List ℕ) (c : Cursor) (r : Found) : Type 0 where
   pub none : r .kind ≡ 0 → recordsOf lengths bytes c ≡ []
   pub over : r .kind ≡ 0 → stopOf c ≡ endAt lengths bytes c
   pub one : (r .kind ≡ 0 → ⊥)

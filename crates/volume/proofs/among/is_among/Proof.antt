@@ -6,22 +6,22 @@ use Rattle.volume.proofs.among.is_among.Statement.{statement}
 use Rattle.volume.proofs.among.is_among.Tie as tie
 
 abbrev Inv-loop : tie.InvT-loop
-Inv-loop image places v i₀ i = Searched image v places i
+Inv-loop bytes places v i₀ i = Searched bytes v places i
 
 abbrev μ-loop : tie.MeasureT-loop
-μ-loop image places v i₀ i = length places - i
+μ-loop bytes places v i₀ i = length places - i
 
 loop-holds : tie.Need-loop-holds Inv-loop μ-loop
 loop-holds c = search pieces
 
-mul-is-volume-at : tie.Need-mul-is-volume-at Inv-loop μ-loop
-mul-is-volume-at c = search needs
+mul-is-name-at : tie.Need-mul-is-name-at Inv-loop μ-loop
+mul-is-name-at c = search needs
 
-shared-slice-read-is-volume-at : tie.Need-shared-slice-read-is-volume-at Inv-loop μ-loop
-shared-slice-read-is-volume-at c = search needs
+shared-slice-read-is-name-at : tie.Need-shared-slice-read-is-name-at Inv-loop μ-loop
+shared-slice-read-is-name-at c = search needs
 
-is-volume-at-requires : tie.Need-is-volume-at-requires Inv-loop μ-loop
-is-volume-at-requires c κs = search needs
+is-name-at-requires : tie.Need-is-name-at-requires Inv-loop μ-loop
+is-name-at-requires c κs = search needs
 
 returns : tie.Need-returns Inv-loop μ-loop
 returns c = search pieces
@@ -45,9 +45,9 @@ is-among-spec =
     Inv-loop
     μ-loop
     loop-holds
-    mul-is-volume-at
-    shared-slice-read-is-volume-at
-    is-volume-at-requires
+    mul-is-name-at
+    shared-slice-read-is-name-at
+    is-name-at-requires
     returns
     add-i
     loop-less

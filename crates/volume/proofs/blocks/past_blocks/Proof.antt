@@ -1,13 +1,13 @@
 use Prim.Native.Nat.{_-_}
 use lib.ListN.{length}
-use Rattle.volume.specs.code.Body.{between, Skipped}
+use Rattle.volume.specs.code.Body.{between, DidSkip}
 use Rattle.volume.proofs.Bodies.{skips}
 use Rattle.volume.proofs.blocks.past_blocks.Statement.{statement}
 use Rattle.volume.proofs.blocks.past_blocks.Tie as tie
 
 abbrev Inv-loop : tie.InvT-loop
 Inv-loop image h at₀ item₀ count₀ pending₀ at item count pending =
-    Skipped image h (between at₀ item₀ count₀ pending₀) (between at item count pending)
+    DidSkip image h (between at₀ item₀ count₀ pending₀) (between at item count pending)
 
 abbrev μ-loop : tie.MeasureT-loop
 μ-loop image h at₀ item₀ count₀ pending₀ at item count pending = length image - at

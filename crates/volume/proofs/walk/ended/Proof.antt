@@ -1,5 +1,5 @@
 use Rattle.base.specs.Answer.{verdict}
-use Rattle.volume.proofs.Walks.{walks}
+use Rattle.volume.proofs.WholeWalks.{walks}
 use Rattle.volume.proofs.walk.ended.Statement.{statement}
 use Rattle.volume.proofs.walk.ended.Tie as tie
 

@@ -1,4 +1,4 @@
-use Rattle.volume.proofs.Walks.{walks}
+use Rattle.volume.proofs.WholeWalks.{walks}
 use Rattle.volume.proofs.walk.first_spot.Statement.{statement}
 use Rattle.volume.proofs.walk.first_spot.Tie as tie
 

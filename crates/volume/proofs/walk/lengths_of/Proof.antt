@@ -31,7 +31,7 @@ cast-t10 : tie.Need-cast-t10
 cast-t10 c = search needs
 
 returns : tie.Need-returns
-returns c = record { format = search; block = search composed; size = search composed; offset = search composed }
+returns c = record { format = search; block = search composed; «record_length» = search composed; offset = search composed }
 
 pub lengths-of-spec : {M : Type 1} → statement M
 lengths-of-spec =

@@ -1,4 +1,4 @@
-use Rattle.volume.proofs.Walks.{turns}
+use Rattle.volume.proofs.WalkItems.{turns}
 use Rattle.volume.proofs.walk.order_turn.Statement.{statement}
 use Rattle.volume.proofs.walk.order_turn.Tie as tie
 

@@ -1,4 +1,4 @@
-use Rattle.volume.proofs.Walks.{pasts}
+use Rattle.volume.proofs.WholeWalks.{pasts}
 use Rattle.volume.proofs.walk.past_data.Statement.{statement}
 use Rattle.volume.proofs.walk.past_data.Tie as tie
 

@@ -2,7 +2,7 @@ use Rattle.base.proofs.Parts.{counted}
 use Prim.Native.Nat.{_-_}
 use lib.ListN.{length}
 use Rattle.volume.specs.code.Walk.{Walked}
-use Rattle.volume.proofs.Walks.{walks}
+use Rattle.volume.proofs.WholeWalks.{walks}
 use Rattle.volume.proofs.walk.walk.Statement.{statement}
 use Rattle.volume.proofs.walk.walk.Tie as tie
 

@@ -1,5 +1,5 @@
 use borrow.Author.Needs.{needs}
-use Rattle.writer.proofs.Files.{filing, file-tailable, file-put}
+use Rattle.writer.proofs.WholeFiles.{filing, file-tailable, file-put}
 use Rattle.writer.proofs.file.put_file.Statement.{statement}
 use Rattle.writer.proofs.file.put_file.Tie as tie
 

@@ -1,4 +1,4 @@
-use Rattle.writer.proofs.Packs.{packing, Packing, turnsLeft}
+use Rattle.writer.proofs.PackLoops.{packing, Packing, turnsLeft}
 use lib.ListN.{length}
 use Rattle.writer.specs.code.Pass.{jobOf}
 use Rattle.writer.proofs.pack.put_pieces.Statement.{statement}

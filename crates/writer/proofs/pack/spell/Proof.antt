@@ -1,5 +1,6 @@
+use Rattle.base.proofs.Copies.{kept-in}
 use borrow.Author.Needs.{needs}
-use Rattle.writer.proofs.Units.{spell-from, spell-less, spell-seg, spell-more, spell-at-fits, spell-fits, spell-kept, spell-laid, spell-measured}
+use Rattle.writer.proofs.Units.{spell-from, spell-less, spell-seg, spell-more, spell-at-fits, spell-fits, spell-laid, spell-measured}
 use Rattle.writer.proofs.pack.spell.Statement.{statement}
 use Rattle.writer.proofs.pack.spell.Tie as tie
 
@@ -47,8 +48,7 @@ put-in-requires : tie.Need-put-in-requires
 put-in-requires c κs = search needs
 
 same-length : tie.Need-same-length
-same-length c =
-    spell-kept _ _ _ _ (c .before .before .before .before .before .before .before .before .before .before .before .before .before .before .before .pre) _ (c .before .before .before .before .before .before .before .before .before .before .before .smaller .ensures) _ (c .before .before .before .before .before .before .before .if1 .taken) (c .before .before .put-in .ensures)
+same-length c = kept-in _ _ _ _ (c .before .before .put-in .ensures)
 
 returns : tie.Need-returns
 returns c =

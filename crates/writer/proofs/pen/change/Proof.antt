@@ -1,4 +1,4 @@
-use Rattle.writer.proofs.Pens.{changing}
+use Rattle.writer.proofs.ReelChanges.{changing}
 use Rattle.writer.proofs.pen.change.Statement.{statement}
 use Rattle.writer.proofs.pen.change.Tie as tie
 

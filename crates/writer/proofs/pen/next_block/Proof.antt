@@ -1,4 +1,4 @@
-use Rattle.writer.proofs.Pens.{opening, closable, closed-shut, closed-ready, here-kept, opens-here, next-kept, next-short, next-room, next-few, opens-next}
+use Rattle.writer.proofs.NextBlocks.{opening, closable, closed-shut, closed-ready, here-kept, opens-here, next-kept, next-short, next-room, next-few, opens-next}
 use Rattle.writer.proofs.pen.next_block.Statement.{statement}
 use Rattle.writer.proofs.pen.next_block.Tie as tie
 

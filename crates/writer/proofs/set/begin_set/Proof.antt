@@ -1,4 +1,4 @@
-use Rattle.writer.proofs.Filing.{setBegins}
+use Rattle.writer.proofs.Sets.{setBegins}
 use Rattle.writer.proofs.set.begin_set.Statement.{statement}
 use Rattle.writer.proofs.set.begin_set.Tie as tie
 

@@ -1,4 +1,4 @@
-use Rattle.writer.proofs.Filing.{closings}
+use Rattle.writer.proofs.Sets.{closings}
 use Rattle.writer.proofs.set.end_set.Statement.{statement}
 use Rattle.writer.proofs.set.end_set.Tie as tie
 

@@ -1,5 +1,6 @@
 use Rattle.writer.specs.code.Sets.{originOf, taskOf}
-use Rattle.writer.proofs.Filing.{sets, filesOn, Along, along-closing, along-sheeted, begun-along, along-all-kept}
+use Rattle.writer.proofs.Filing.{filesOn, Along}
+use Rattle.writer.proofs.Sets.{sets, along-closing, along-sheeted, begun-along, along-all-kept}
 use Rattle.writer.proofs.Origins.{turn-small, turn-countable, turn-enterable, turn-ready, turn-more, turn-falls}
 use Rattle.writer.proofs.set.lay_set.Statement.{statement}
 use Rattle.writer.proofs.set.lay_set.Tie as tie

@@ -1,7 +1,7 @@
-use Rattle.sheet.proofs.Composed.{composed}
+use Rattle.volume.proofs.Composed.{composed}
 use borrow.Author.Needs.{needs}
-use Rattle.sheet.proofs.reels.is_name_at.Statement.{statement}
-use Rattle.sheet.proofs.reels.is_name_at.Tie as tie
+use Rattle.volume.proofs.among.is_name_at.Statement.{statement}
+use Rattle.volume.proofs.among.is_name_at.Tie as tie
 
 part-of-requires : tie.Need-part-of-requires
 part-of-requires c κs = search needs
