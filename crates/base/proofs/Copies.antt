@@ -305,14 +305,17 @@ pub ruleset chunks =
 -- ---- a write that has room, or is not made
 
 module _ (o : List ℕ) (a : ℕ) (bs : List ℕ) (fits : Bool) (e : fits ≡ leb (a + length bs) (length o)) where
+  -- without room nothing is written
   pub put-over : fits ≡ false → o ≡ putIn o a bs
   unfolding putIn
   put-over h = sym (if-false _ _ _ (sym e ∙ h))
 
+  -- with room, what is written is the write
   pub put-right : fits ≡ true → (p : List ℕ) → p ≡ putAt o a bs → p ≡ putIn o a bs
   unfolding putIn
   put-right h p q = q ∙ sym (if-true _ _ _ (sym e ∙ h))
 
+  -- and there was room
   pub room-left : fits ≡ true → a + length bs ≤ length o
   room-left h = leb-true (a + length bs) (length o) (sym e ∙ h)
 

@@ -97,6 +97,7 @@ module _ (o : List ℕ) (at : ℕ) where
 pub ruleset fives = (five-first, five-fits, five-behind, needs)
 
 module _ (f c : ℕ) (o : List ℕ) (at : ℕ) (d : List ℕ) where
+  -- a unit of an F file has none
   pub word-fixed : f ≡ 70 → o ≡ putIn o at (wordWith f c d)
   unfolding wordWith putIn
   word-fixed e =

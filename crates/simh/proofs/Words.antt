@@ -13,11 +13,10 @@ use Rattle.base.proofs.Ifs.{if-true, if-false, if-case, and-left, and-right, if
 use Rattle.base.specs.Part.{part, putAt, allAre, putIn}
 use Rattle.base.proofs.Parts.{part-drop, length-put, put-none, put-put}
 use Rattle.image.specs.Item.{block, three, bytesOf as imageItem}
-use Rattle.image.proofs.Words.{length-word-put}
 use Rattle.image.specs.declared.Shape.{Shape}
 use Rattle.image.specs.declared.Shape.the-variants.{Broken}
 use Rattle.base.proofs.Put.{put-first}
-use Rattle.base.proofs.Copies.{put-in, kept-in}
+use Rattle.base.proofs.Copies.{put-in}
 use Rattle.simh.specs.Tape.{word, second, spanOf, isWhole, ledBy, shape, four, pad, bytesOf}
 
 -- ---- reading
@@ -128,9 +127,6 @@ four-put o at n h =
     ∙ put-none _ _)
 
 pub ruleset words = (four-put, needs)
-
--- a length word of an image
-pub ruleset threes = (length-word-put, kept-in, needs)
 
 pub length-pad : (n : ℕ) → length (pad n) ≡ n % 2
 unfolding pad

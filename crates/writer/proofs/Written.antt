@@ -141,11 +141,8 @@ module _ (f i n : ℕ) (o : List ℕ) (at w : ℕ) (word : w ≡ wordOf f) (byte
       unit-kept z l = ap length (l ∙ put-in q (at + w) s unit-room) ∙ put-length q (at + w) s unit-room ∙ kept
 
 -- the control word of a whole record
-pub said-none : (f : ℕ) (o : List ℕ) (at : ℕ) (d : List ℕ) → f ≡ 70 → o ≡ putIn o at (wordWith f 48 d)
-said-none f o at d e = word-fixed f 48 o at d e
-
 pub said-word : (f : ℕ) (o : List ℕ) (at n : ℕ) (d q : List ℕ) → d ≡ digits 4 (min n 9999) → q ≡ putIn o at (wordWith f 48 d)
     → q ≡ putIn o at (wordWith f 48 (digits 4 (min n 9999)))
 said-word f o at n d q e x = x ∙ ap (λ (l : List ℕ). putIn o at (wordWith f 48 l)) e
 
-pub ruleset saids = (said-none, said-word, kept-in, needs)
+pub ruleset saids = (word-fixed, said-word, kept-in, needs)
