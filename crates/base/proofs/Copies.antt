@@ -34,11 +34,11 @@ copying_none old at s h =
 pub copying_more : (old : List ℕ) (at : ℕ) (s out : List ℕ) (i : ℕ) → Copying old at s out i → i < length s
     → Copying old at s (set out (at + i) (get_or s i 0)) (i + 1)
 copying_more old at s out i c h =
-    let room : at + i < length out = omega (arith, c.ranges, c.size) in
+    let room : at + i < length out = omega (arith, c.fits, c.size) in
     let next : drop i s ≡ get_or s i 0 ∷ drop (i + 1) s = drop-cons s i 0 h ∙ ap (λ (k : ℕ). get_or s i 0 ∷ drop k s) (sym (add-one i)) in
     let place : at + (i + 1) ≡ at + i + 1 = omega arith in
     record {
-      fits = c.ranges;
+      fits = c.fits;
       size = length-set out (at + i) (get_or s i 0) ∙ c.size;
       within = omega arith;
       left =
@@ -232,11 +232,11 @@ chunked_again o at s p i c =
     let wide : length (take i s) ≡ i = length-take-le i s c.within in
     record {
       least = c.least;
-      fits = omega (arith, c.ranges, c.size);
+      fits = omega (arith, c.fits, c.size);
       within = c.within;
       is =
           c.is
-          ∙ sym (put_again o at (take i s) (take i s) (omega arith) (omega (arith, c.ranges, c.within)))
+          ∙ sym (put_again o at (take i s) (take i s) (omega arith) (omega (arith, c.fits, c.within)))
           ∙ ap (λ (l : List ℕ). put_at l at (take i s)) (sym c.is);
       size = refl;
     }
@@ -245,16 +245,16 @@ pub chunked_over : (o : List ℕ) (at : ℕ) (s p : List ℕ) (i : ℕ) (q : Lis
     → q ≡ put_at o at s
 chunked_over o at s p i q c e =
     let wide : length (take i s) ≡ i = length-take-le i s c.within in
-    e ∙ ap (λ (l : List ℕ). put_at l at s) c.is ∙ put_again o at (take i s) s (omega (arith, c.within)) c.ranges
+    e ∙ ap (λ (l : List ℕ). put_at l at s) c.is ∙ put_again o at (take i s) s (omega (arith, c.within)) c.fits
 
 pub ruleset wholes = (chunked_again, chunked_over, rules)
 
 module _ (old : List ℕ) (at : ℕ) (s out : List ℕ) (i : ℕ) (c : Chunked old at s out i) where
   pub chunk_room : i < length s - 64 → at + i + 64 ≤ length out
-  chunk_room h = omega (arith, c.ranges, c.size)
+  chunk_room h = omega (arith, c.fits, c.size)
 
   pub chunk_behind : at + (length s - 64) + 64 ≤ length out
-  chunk_behind = omega (arith, c.ranges, c.size, c.least)
+  chunk_behind = omega (arith, c.fits, c.size, c.least)
 
   pub chunk_last : length s - 64 + 64 ≤ length s
   chunk_last = omega (arith, c.least)
@@ -268,16 +268,16 @@ module _ (old : List ℕ) (at : ℕ) (s out : List ℕ) (i : ℕ) (c : Chunked o
         let room : i + 64 ≤ length s = omega arith in
         record {
           least = c.least;
-          fits = c.ranges;
+          fits = c.fits;
           within = room;
           is =
               e
               ∙ ap₂ (λ (l : List ℕ) (n : ℕ). put_at l n (take 64 (drop i s))) c.is place
-              ∙ put_put old at (take i s) (take 64 (drop i s)) (omega (arith, c.ranges))
+              ∙ put_put old at (take i s) (take 64 (drop i s)) (omega (arith, c.fits))
               ∙ ap (put_at old at) (sym (take-add i 64 s));
           size =
               ap length e ∙ length_put out (at + i) (take 64 (drop i s))
-              (omega (arith, c.ranges, c.size, length-take-le 64 (drop i s) (simp length-drop (omega arith)))) ∙ c.size;
+              (omega (arith, c.fits, c.size, length-take-le 64 (drop i s) (simp length-drop (omega arith)))) ∙ c.size;
         }
 
   pub chunked_all : (p : List ℕ) → length s - 64 ≤ i → p ≡ put_at out (at + (length s - 64)) (part (length s - 64) 64 s)
@@ -288,7 +288,7 @@ module _ (old : List ℕ) (at : ℕ) (s out : List ℕ) (i : ℕ) (c : Chunked o
       e
       ∙ ap₂ (λ (l t : List ℕ). put_at l (at + (length s - 64)) t) c.is
       (take_all 64 (drop (length s - 64) s) (omega (arith, c.least)))
-      ∙ put_meet old s at i (length s - 64) h c.within c.ranges
+      ∙ put_meet old s at i (length s - 64) h c.within c.fits
 
   pub chunked_kept : length out ≡ length old
   chunked_kept = c.size

@@ -1,5 +1,5 @@
 -- The conditional by which definitions choose, and its laws.
--- `if_b` is shut: a proof opens it by the two laws `if-true` and `if-false`, at the test that the code made, and by no other way.
+-- `if_b` is shut: a proof opens it by the two laws `if_true` and `if_false`, at the test that the code made, and by no other way.
 -- Assumes nothing.
 use Rattle.std.specs.Prelude.{Bool, true, false}
 

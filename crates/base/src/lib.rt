@@ -1,5 +1,8 @@
 // What every layer answers with, the two questions that every layer asks of byte strings, whether numbers that a caller gave add
 // up, and how bytes get into a lent buffer. It knows no rule of a label, a block or an image.
+
+#![tactic(auto)]
+
 mod copy; // copy.rt: bytes into a lent buffer
 
 ghost use Rattle.std.specs.Prelude.{◌≡◌, ◌<◌, eqb};
@@ -16,7 +19,7 @@ pub const VARIABLE: u8 = b'D';
 pub const SEGMENTED: u8 = b'S';
 
 // A fault of one item: the number given back, 0 for none, and the first byte position of the wrong field, or 0.
-#[derive(Drop)]
+#[derive(Clone, Copy)]
 pub struct Fault {
     pub number: u32,
     pub byte: u32,
@@ -24,7 +27,7 @@ pub struct Fault {
 
 // The answer on an image: the number given back, 0 for done, the item and the byte position in its label.
 #[repr(C)]
-#[derive(Drop)]
+#[derive(Clone, Copy)]
 pub struct Verdict {
     pub number: u32,
     pub item: u32,

@@ -1,5 +1,5 @@
--- The room in a block that is being filled. Document 01, "Meaning, and the one way to write it": an format_f or format_d unit goes into the open
--- block if it fits. In format_s, with r bytes left: a record without bytes needs r of 5 or more, any other 6 or more; a segment takes the
+-- The room in a block that is being filled. Document 01, "Meaning, and the one way to write it": an F or D unit goes into the open
+-- block if it fits. In S, with r bytes left: a record without bytes needs r of 5 or more, any other 6 or more; a segment takes the
 -- smallest of what remains, r less 5, and 9,994.
 use Rattle.std.specs.Prelude.{Bool, List, [], ◌∷◌, ℕ, ◌+◌, ◌-◌, min, eqb, leb}
 use Rattle.base.specs.If.{if_b}

@@ -1,5 +1,8 @@
-// One data block: its units for the formats format_f, format_d and format_s, and the turns of segments. It knows no label.
+// One data block: its units for the formats F, D and S, and the turns of segments. It knows no label.
 // `record_length` is the record length R. It has 32 bits, so that what is pending, which goes by R, fits a usize whatever is handed in.
+
+#![tactic(auto)]
+
 mod room; // room.rt: the room in a block that is being filled
 mod word; // word.rt: the control word of a unit
 
@@ -27,21 +30,21 @@ pub const PAD: u8 = b'^';
 const CHUNK: usize = 128;
 
 // The unit at the head of some bytes: its indicator, the bytes of its control word, the bytes of its record or segment; or None.
-#[derive(Drop)]
+#[derive(Clone, Copy)]
 pub enum Unit {
     Of(u32, usize, usize),
     None,
 }
 
 // The answer on a block: 0, 7 or 8, and what is pending behind it: 0, or one more than the bytes of the open record.
-#[derive(Drop)]
+#[derive(Clone, Copy)]
 pub struct Outcome {
     pub number: u32,
     pub pending: usize,
 }
 
 // What a block holds: the records that end in it, and its bytes: of records, of control words, of padding and of the offset.
-#[derive(Drop)]
+#[derive(Clone, Copy)]
 pub struct Held {
     pub records: usize,
     pub bytes: usize,
@@ -366,7 +369,7 @@ fn variable_cuts(record_length: u32, s: &[u8], from: usize) -> bool
     variable_rest(record_length, s, from + n)
 }
 
-// Whether a block of a format_d file can be cut. A short block is most often one record, which needs no loop and so no call of one.
+// Whether a block of a D file can be cut. A short block is most often one record, which needs no loop and so no call of one.
 pub fn is_variable_block(block: usize, record_length: u32, offset: usize, s: &[u8]) -> bool
     ensures { result ≡ is_cut (units format_d block record_length offset s.now) }
 {
@@ -504,7 +507,7 @@ fn segments_outcome(
     }
 }
 
-// The answer on a block of an format_s file. A short block is most often one segment, which needs no loop and so no call of one.
+// The answer on a block of an S file. A short block is most often one segment, which needs no loop and so no call of one.
 pub fn segmented_outcome(
     block: usize,
     record_length: u32,
@@ -534,7 +537,7 @@ pub fn segmented_outcome(
     }
 }
 
-// The same, without that way out: an format_s block, where it is not walked past, is one that is refused.
+// The same, without that way out: an S block, where it is not walked past, is one that is refused.
 fn segments_block(
     block: usize,
     record_length: u32,

@@ -1,4 +1,7 @@
 // Characters, numbers and dates: what a label's field may hold. It knows no label.
+
+#![tactic(auto)]
+
 ghost use Rattle.std.specs.Prelude.{◌≡◌};
 ghost use Rattle.base.specs.Digits.{is_digit, all_digits};
 ghost use Rattle.charset.specs.Class.{between, is_a, class_of, all_a};
@@ -11,7 +14,7 @@ mod classes;
 pub use classes::CLASSES;
 
 // A field of digits: the number that they mean, or Wrong for anything else.
-#[derive(Drop)]
+#[derive(Clone, Copy)]
 pub enum Number {
     Value(u32),
     Wrong,

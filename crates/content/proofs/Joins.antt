@@ -149,7 +149,7 @@ segment_room s old place from out at w i start n v t l c e q h =
     let g = going s w at (length out) i start n v t c.goes e q in
     let a = g.long in
     let b = g.some in
-    let d = c.goes.ranges in
+    let d = c.goes.fits in
     let k : length l ≡ length (part start n s) = ap length h in
     omega arith
 
@@ -170,7 +170,7 @@ pub joining_more : (s old : List ℕ) (place : ℕ) (from : Walk) (out : List �
 joining_more s old place from out at w i start n v t l new c e q h p z =
     let g = going s w at (length out) i start n v t c.goes e q in
     let a = g.long in
-    let fits = c.goes.ranges in
+    let fits = c.goes.fits in
     let bytes = (g.more z).0 in
     let sum : length (bytes_behind s w) ≡ length (part start n s) + length (bytes_behind s v) = ap length bytes ∙ length-append (part start n s) (bytes_behind s v) in
     let made : new ≡ put_at out at (part start n s)
@@ -194,7 +194,7 @@ pub joining_fits : (s old : List ℕ) (place : ℕ) (from : Walk) (out : List �
 joining_fits s old place from out at w i start n v t c e q h =
     let g = going s w at (length out) i start n v t c.goes e q in
     let b = g.some in
-    let d = c.goes.ranges in
+    let d = c.goes.fits in
     let l = c.long in
     omega arith
 
@@ -298,7 +298,7 @@ split_sum s w m i start n v t c e q =
     let a = g.long in
     let sum : length (record_bytes (record_at s w)) ≡ length (part start n s) + length (bytes_behind s v)
     = ap length g.bytes ∙ length-append (part start n s) (bytes_behind s v) in
-    omega (arith, c.ranges)
+    omega (arith, c.fits)
 
 pub first_within_lem : (s : List ℕ) (w : Walk) (m i start n : ℕ) (v : Walk) (t : Taken) → SplitAt s w m → t ≡ unit_from s w
     → t ≡ One i start n v → start + n ≤ length s
@@ -329,19 +329,19 @@ pub first_room : (s old : List ℕ) (start n : ℕ) (v : Walk) (l : List ℕ) �
 first_room s old start n v l h c e =
     let a : length (part start n s) ≡ n = length_part start n s h in
     let b : length l ≡ length (part start n s) = ap length e in
-    let f = c.ranges in
+    let f = c.fits in
     omega arith
 
 pub still_goes : (s old out : List ℕ) (n : ℕ) (v : Walk) → RestFits s v n (length old) → length out ≡ length old
     → RestFits s v n (length out)
-still_goes s old out n v c e = let f = c.ranges in record { inside = c.inside; ended = c.ended; fits = omega arith }
+still_goes s old out n v c e = let f = c.fits in record { inside = c.inside; ended = c.ended; fits = omega arith }
 
 pub joined_behind : (s old : List ℕ) (start n : ℕ) (v : Walk) (l out new : List ℕ) → start + n ≤ length s
     → RestFits s v n (length old) → l ≡ part start n s
     → out ≡ put_in old 0 l → new ≡ put_at out n (bytes_behind s v) → new ≡ put_at old 0 (part start n s ++ bytes_behind s v)
 joined_behind s old start n v l out new h c e p q =
     let a : length (part start n s) ≡ n = length_part start n s h in
-    let f = c.ranges in
+    let f = c.fits in
     let z : n ≡ 0 + length (part start n s) = omega arith in
     let room : 0 + length (part start n s) ≤ length old = omega arith in
     q

@@ -1,5 +1,5 @@
 -- All records from a walk on, as its steps hand them out, and how many and how long they are.
--- `records-more` and `records-over` (proofs/Records.antt) are the equations of `records_at`.
+-- `records_more` and `records_over` (proofs/Records.antt) are the equations of `records_at`.
 use Rattle.std.specs.Prelude.{List, [], ◌∷◌, map, ℕ, length}
 use Rattle.base.specs.Sum.{sum}
 use Rattle.content.specs.Walked.{along}

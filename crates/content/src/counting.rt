@@ -7,7 +7,7 @@ use crate::measuring::{Measured, measure};
 
 // The number of records, and of their bytes.
 #[repr(C)]
-#[derive(Drop)]
+#[derive(Clone, Copy)]
 pub struct Facts {
     pub records: u64,
     pub bytes: u64,

@@ -7,7 +7,7 @@ use crate::section::{Extent, next_data};
 use block::{Held, block_held, empty};
 
 // What the data blocks of a file hold together, and the place behind the last of them.
-#[derive(Drop)]
+#[derive(Clone, Copy)]
 pub struct FileHeld {
     pub held: Held,
     pub end: usize,

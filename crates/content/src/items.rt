@@ -11,7 +11,7 @@ use order::{AMONG_DATA, DATA_BLOCK, END_OF_IMAGE, END_OF_REEL, Kind, TAPE_MARK, 
 pub const TORN: u32 = 12;
 
 // What stands at a place: a kind of item and the number of its bytes, or nothing that is an item.
-#[derive(Drop)]
+#[derive(Clone, Copy)]
 pub enum Seen {
     Item(Kind, usize),
     Nothing,
@@ -20,7 +20,7 @@ pub enum Seen {
 // An item: its kind by family and number, the group in which the next one stands, the place and the number of its bytes, and the
 // place behind it.
 #[repr(C)]
-#[derive(Drop)]
+#[derive(Clone, Copy)]
 pub struct ItemAt {
     pub family: u32,
     pub number: u32,

@@ -1,5 +1,8 @@
 // Records handed out: by number, and by a walk over one file. It knows where a record stands and how its segments are joined;
 // what is right in a set it leaves to the layers below.
+
+#![tactic(auto)]
+
 mod counting; // counting.rt: how many records, and how long
 mod file; // file.rt: the files of a set, one after the other
 mod holding; // holding.rt: what a file holds, block by block
@@ -43,7 +46,7 @@ use volume::check;
 // A walk over the records of one file: the format, the record length and the offset length of the file, the place of what is left
 // of the current block, and how many bytes of it are left. With none left the place is that of the next item.
 #[repr(C)]
-#[derive(Drop)]
+#[derive(Clone, Copy)]
 pub struct Walk {
     pub format: u32,
     pub record_length: u32,
@@ -54,7 +57,7 @@ pub struct Walk {
 
 // A step of a walk: a record that is a part of the image, by its place and length, or one that was joined into the front of the
 // buffer, by its length, each with the walk behind it; or 13 or 10.
-#[derive(Drop)]
+#[derive(Clone, Copy)]
 pub enum Step {
     InImage(usize, usize, Walk),
     Joined(usize, Walk),
@@ -62,7 +65,7 @@ pub enum Step {
 }
 
 // A file of a set: the places of the first byte of its first HDR1 and HDR2, and the walk at its first record.
-#[derive(Drop)]
+#[derive(Clone, Copy)]
 pub struct FileAt {
     pub hdr1: usize,
     pub hdr2: usize,
@@ -70,21 +73,21 @@ pub struct FileAt {
 }
 
 // The next file from a place on, or none.
-#[derive(Drop)]
+#[derive(Clone, Copy)]
 pub enum NextFile {
     At(FileAt),
     Nowhere,
 }
 
 // A file by its number, with the walk at its first record, or the refusal.
-#[derive(Drop)]
+#[derive(Clone, Copy)]
 pub enum Begun {
     At(FileAt),
     Refused(Verdict),
 }
 
 // Where a record is: a part of the image, by its place and length, or the front of the joining buffer; or the refusal.
-#[derive(Drop)]
+#[derive(Clone, Copy)]
 pub enum Found {
     InImage(usize, usize),
     Joined(usize),

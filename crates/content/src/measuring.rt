@@ -13,7 +13,7 @@ use block::{segment_length, whole_length, word_of};
 use image::{Shape, shape_at};
 
 // The rest of a record that was begun: its length and the walk behind it, or a segment out of turn, or none.
-#[derive(Drop)]
+#[derive(Clone, Copy)]
 pub enum Tail {
     Ends(usize, Walk),
     Fails,
@@ -21,7 +21,7 @@ pub enum Tail {
 
 // A record that is one unit, by its place and length, or one of several segments, by its length, each with the walk behind it; or
 // none.
-#[derive(Drop)]
+#[derive(Clone, Copy)]
 pub enum Measured {
     Whole(usize, usize, Walk),
     Split(usize, Walk),

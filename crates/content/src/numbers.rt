@@ -8,7 +8,7 @@ use base::Verdict;
 
 // Where a record is: with `joined` 0 that part of the image, with 1 the front of the joining buffer.
 #[repr(C)]
-#[derive(Drop)]
+#[derive(Clone, Copy)]
 pub struct Located {
     pub verdict: Verdict,
     pub joined: u32,
@@ -19,7 +19,7 @@ pub struct Located {
 // A file by its number: the places of its first HDR1 and HDR2 in the image, and the walk at its first record; with a refusal it
 // stands nowhere.
 #[repr(C)]
-#[derive(Drop)]
+#[derive(Clone, Copy)]
 pub struct Beginning {
     pub verdict: Verdict,
     pub hdr1: u64,
@@ -29,7 +29,7 @@ pub struct Beginning {
 
 // A step of a walk: number 0, 10 or 13; the record as in Located; and the walk behind it, or where it stood with 10 and 13.
 #[repr(C)]
-#[derive(Drop)]
+#[derive(Clone, Copy)]
 pub struct Stepped {
     pub number: u32,
     pub joined: u32,

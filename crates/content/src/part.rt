@@ -9,7 +9,7 @@ use order::{DATA_BLOCK, Due, EOF, EOV, HDR, Kind, Phase, due_after, is};
 
 // What a search has to know to go on: the place between two items, the place of the last HDR1, what is due there, and whether the
 // next HDR1 goes on with a file.
-#[derive(Drop)]
+#[derive(Clone, Copy)]
 pub struct Position {
     pub at: usize,
     pub hdr1: usize,
@@ -19,7 +19,7 @@ pub struct Position {
 
 // A part of an image: a file that begins and a section that goes on with one, by the places of their HDR1 and HDR2, and a data
 // block, by the place of its first byte and its length; or none.
-#[derive(Drop)]
+#[derive(Clone, Copy)]
 pub enum Part {
     File(usize, usize),
     Section(usize, usize),
@@ -28,7 +28,7 @@ pub enum Part {
 }
 
 // A part, and the place behind it. Where there is none, the place is that of the search.
-#[derive(Drop)]
+#[derive(Clone, Copy)]
 pub struct PartAt {
     pub part: Part,
     pub behind: Position,

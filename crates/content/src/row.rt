@@ -12,7 +12,7 @@ use block::word_of;
 
 // How many records were handed out, and the walk behind the last of them.
 #[repr(C)]
-#[derive(Drop)]
+#[derive(Clone, Copy)]
 pub struct Row {
     pub count: u64,
     pub walk: Walk,

@@ -8,7 +8,7 @@ use image::{Shape, shape_at};
 use order::Phase;
 
 // A data block, by the place of its first byte and its length, or none.
-#[derive(Drop)]
+#[derive(Clone, Copy)]
 pub enum Extent {
     At(usize, usize),
     Nowhere,

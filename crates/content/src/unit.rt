@@ -11,14 +11,14 @@ use base::part_of;
 use block::{Unit, all_padding, unit_at};
 
 // A walk that stands somewhere, or nowhere.
-#[derive(Drop)]
+#[derive(Clone, Copy)]
 pub enum Place {
     At(Walk),
     Nowhere,
 }
 
 // A unit: its indicator, the place and the length of its record or segment, and the walk behind it; or none.
-#[derive(Drop)]
+#[derive(Clone, Copy)]
 pub enum Taken {
     One(u32, usize, usize, Walk),
     Nothing,

@@ -104,11 +104,11 @@ examples =
     ∷ answers format_f 4 "^^^^ABCD" 7
     ∷ answers format_f 4 "ABCDEF" 7
     ∷ answers format_f 1 "A^B" 7
-    -- circumflexes of a format_d record stay, those behind it are padding
+    -- circumflexes of a D record stay, those behind it are padding
     ∷ gives format_d 10 ("0008AB^^" ∷ []) ("AB^^" ∷ [])
     ∷ gives format_d 10 ("0006AB^^" ∷ []) ("AB" ∷ [])
     ∷ answers format_d 10 "0006AB^0004" 7
-    -- a format_d record of R bytes with its control word, and one more
+    -- a D record of R bytes with its control word, and one more
     ∷ gives format_d 10 ("0010ABCDEF" ∷ []) ("ABCDEF" ∷ [])
     ∷ answers format_d 10 "0011ABCDEFG" 7
     -- a unit that is torn and out of turn, and one that is out of turn alone

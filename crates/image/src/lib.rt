@@ -1,4 +1,7 @@
 // The container of a set: items from bytes, and their length words. It knows lengths, and nothing of what a block holds.
+
+#![tactic(auto)]
+
 ghost use Rattle.std.specs.Prelude.{◌≡◌, false, ◌+◌, ◌≤◌, ◌<◌, min, length, take, drop};
 ghost use Rattle.base.specs.Part.{put_at, put_in, same};
 ghost use Rattle.base.specs.Answer.{verdict};
@@ -21,7 +24,7 @@ pub const MOST_REELS: usize = 16;
 
 // What stands at a place of the image: a block and its length, a tape mark, the end of a reel, or a wrong length or an item cut
 // short.
-#[derive(Drop)]
+#[derive(Clone, Copy)]
 pub enum Shape {
     Block(usize),
     Mark,
@@ -30,7 +33,7 @@ pub enum Shape {
 }
 
 // A place between two items: how many stand before it, how many of them ended a reel, and whether the last of them did.
-#[derive(Drop)]
+#[derive(Clone, Copy)]
 pub struct Frame {
     pub at: usize,
     pub reels: usize,

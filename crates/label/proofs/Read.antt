@@ -21,13 +21,13 @@ use Rattle.label.proofs.Laid.{field_at, length_laid, filled_back, fitted_all, ei
 
 -- ---- the fields
 
--- the fields of which hdr1_name, eov1_name and eof1_name are made
+-- the fields of which HDR1, EOV1 and EOF1 are made
 abbrev pub first_fields : List ℕ → List ℕ → List ℕ → ℕ → ℕ → ℕ → List (List ℕ)
 first_fields name set e a q c =
     name ∷ identifier_in e ∷ set ∷ digits 4 a ∷ digits 4 q ∷ generation_in e ∷ version_in e ∷ created_in e ∷ expires_in e ∷ [] ∷
     digits 6 c ∷ []
 
--- those of hdr2_name, eov2_name and eof2_name
+-- those of HDR2, EOV2 and EOF2
 abbrev pub second_fields : List ℕ → List ℕ → List (List ℕ)
 second_fields name e = name ∷ format_in e ∷ block_length_in e ∷ record_length_in e ∷ [] ∷ digits 2 0 ∷ []
 
@@ -39,7 +39,7 @@ module _ (name set e : List ℕ) (a q c : ℕ) where
   first_field k h =
       filled_back hdr1 (first_fields name set e a q c) k ∙ fitted_all (width_of hdr1 k) (field_at k (first_fields name set e a q c)) h
 
-  -- hdr1_name, eov1_name and eof1_name have 80 bytes
+  -- HDR1, EOV1 and EOF1 have 80 bytes
   pub length_first : length (made_first name set e a q c) ≡ 80
   unfolding made_first
   length_first = length_laid hdr1 _ ∙ eighty_hdr1
@@ -50,7 +50,7 @@ module _ (name set e : List ℕ) (a q c : ℕ) where
   access_first = if_true _ _ _ (ap (λ (l : List ℕ). same l (32 ∷ [])) (filled_back hdr1 (first_fields name set e a q c) access_row))
 
 module _ (name e : List ℕ) where
-  -- each field of hdr2_name, eov2_name or eof2_name is read back
+  -- each field of HDR2, EOV2 or EOF2 is read back
   pub second_field : (k : ℕ) → length (field_at k (second_fields name e)) ≡ width_of hdr2 k
       → field hdr2 k (made_second name e) ≡ field_at k (second_fields name e)
   unfolding made_second
@@ -61,12 +61,12 @@ module _ (name e : List ℕ) where
   unfolding made_second
   length_second = length_laid hdr2 _ ∙ eighty_hdr2
 
--- the volume identifier of vol1_name is read back
+-- the volume identifier of VOL1 is read back
 pub volume_back : (n : List ℕ) → length n ≡ 6 → volume_of (made_volume n) ≡ n
 unfolding volume_of made_volume
 volume_back n h = filled_back vol1 _ volume_row ∙ fitted_all 6 n h
 
--- vol1_name has 80 bytes
+-- VOL1 has 80 bytes
 pub length_volume : (n : List ℕ) → length (made_volume n) ≡ 80
 unfolding made_volume
 length_volume n = length_laid vol1 _ ∙ eighty_vol1
@@ -81,7 +81,7 @@ kind_named l name k h n r o =
     let p : required (part 0 4 l) ≡ k = ap required n ∙ r in
     if_true _ _ _ (eq-eqb (length l) 80 h) ∙ if_false _ _ _ (ap (λ (j : Kind). is_kind j other) p ∙ o) ∙ p
 
--- vol1_name is read as vol1_name
+-- VOL1 is read as VOL1
 pub kind_volume : (n : List ℕ) → kind_of (made_volume n) ≡ vol 1
 unfolding required same is_kind if_b made_volume
 kind_volume n = kind_named _ vol1_name (vol 1) (length_volume n) (filled_back vol1 _ 0 ∙ fitted_all 4 vol1_name refl) refl refl

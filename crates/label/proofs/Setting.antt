@@ -48,7 +48,7 @@ setting_more old at w f made i x c h e =
     ∙ ap (λ (k : ℕ). x ∷ drop k (fitted w f)) (sym (add-one i)) in
     let place : at + (i + 1) ≡ at + i + 1 = omega arith in
     record {
-      fits = c.ranges;
+      fits = c.fits;
       size = length-set made (at + i) x ∙ c.size;
       within = omega arith;
       left =
@@ -88,7 +88,7 @@ counting_more old at w n made left i c h =
     let long : length (digits (i - 1) (left / 10)) ≡ i - 1 = length_digits (i - 1) (left / 10) in
     let room : at + length (digits (i - 1) (left / 10)) < length made = omega arith in
     record {
-      fits = c.ranges;
+      fits = c.fits;
       size = length-set made (at + (i - 1)) (48 + left % 10) ∙ c.size;
       within = omega arith;
       same =

@@ -1,7 +1,7 @@
 -- The fields that are read by name, and what a field of a label may hold. Document 01, "Label fields". A rule sees the field and,
 -- for the record length, the whole label.
--- The record length of a format_d file counts its control word: 8.5.2.6 of ECMA-13 makes it the maximum length of an MDU, and 7.2.3 puts
--- the word into the MDU. So for format_d it is 5 or more, and a record has at most R - 4 bytes.
+-- The record length of a D file counts its control word: 8.5.2.6 of ECMA-13 makes it the maximum length of an MDU, and 7.2.3 puts
+-- the word into the MDU. So for D it is 5 or more, and a record has at most R - 4 bytes.
 use Rattle.std.specs.Prelude.{Bool, true, false, ◌&&◌, ◌||◌, List, [], ◌∷◌, ℕ, ◌+◌, leb, eqb, length, get_or}
 use Rattle.base.specs.If.{if_b}
 use Rattle.base.specs.Format.{format_f, format_d, format_s}
@@ -49,7 +49,7 @@ offset_of l = number_in (field hdr2 offset_row l)
 unfoldable pub least_record : ℕ → ℕ
 least_record f = if_b (eqb f format_d) 5 1
 
--- R against B and O: format_f and format_d, R + O at most B; format_s (house), O + 6 at most B
+-- R against B and O: F and D, R + O at most B; S (house), O + 6 at most B
 unfoldable pub suits : ℕ → ℕ → ℕ → ℕ → Bool
 suits f b r o = if_b (eqb f format_s) (leb (o + 6) b) (leb (r + o) b)
 

@@ -17,7 +17,7 @@ laid (w ∷ r ∷ []) fs = []
 laid (w ∷ r ∷ s ∷ rows) [] = fitted w [] ++ laid rows []
 laid (w ∷ r ∷ s ∷ rows) (f ∷ fs) = fitted w f ++ laid rows fs
 
--- vol1_name with a volume identifier
+-- VOL1 with a volume identifier
 unfoldable pub made_volume : List ℕ → List ℕ
 made_volume id = laid vol1 (vol1_name ∷ id ∷ [] ∷ [] ∷ [] ∷ [] ∷ [] ∷ (52 ∷ []) ∷ [])
 

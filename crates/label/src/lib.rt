@@ -1,5 +1,8 @@
 // One label of 80 bytes: its kind, its fields and their rules, what two labels have in common, and the making of labels.
 // It knows nothing of the order of labels, nor of the blocks between them.
+
+#![tactic(auto)]
+
 mod compared; // compared.rt: two labels
 mod field; // field.rt: the fields of a label and their rules
 mod judged; // judged.rt: one label by itself

@@ -13,7 +13,7 @@ use order::{EOF, EOV, HDR, Kind, UHL, UTL, VOL, is};
 
 // What is asked of each field: that it suits its rule; that it is the same in both labels, where it is one in this scope; that it
 // ends before this BP.
-#[derive(Drop)]
+#[derive(Clone, Copy)]
 pub(crate) enum Ask {
     Suits,
     Agrees(u8),

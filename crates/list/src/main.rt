@@ -1,4 +1,7 @@
 // The listing program: reads an image from standard input and writes its listing, or the line of its refusal, to standard output.
+
+#![tactic(auto)]
+
 ghost use Rattle.std.specs.Prelude.{◌≡◌};
 ghost use Rattle.output.specs.Output.{Answers, fitted};
 ghost use Rattle.list.specs.Code.Input.{input_text};

@@ -1,5 +1,5 @@
 -- A number as decimal digits without leading zeros: the digits of its tens, then its last one.
--- `decimal_f` counts down a number that is large enough; `decimal-one` and `decimal-more` (proofs/Decimals.antt) are the equations
+-- `decimal_f` counts down a number that is large enough; `decimal_one` and `decimal_more` (proofs/Decimals.antt) are the equations
 -- of `decimal`.
 use Rattle.std.specs.Prelude.{List, [], ◌∷◌, ◌++◌, ℕ, zero, suc, ◌+◌, ◌/◌, ◌%◌, ltb}
 use Rattle.base.specs.If.{if_b}

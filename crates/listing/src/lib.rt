@@ -1,4 +1,7 @@
 // The listing of a set as text in a lent buffer. It knows in which order lines stand; what stands in a line is line.rt's.
+
+#![tactic(auto)]
+
 mod line; // line.rt: the lines of a listing
 mod page; // page.rt: bytes and numbers written one after the other
 

@@ -1,4 +1,7 @@
 // The order of a reel: which kind of item is due after which. It knows no byte of a label.
+
+#![tactic(auto)]
+
 ghost use Rattle.std.specs.Prelude.{◌≡◌, ◌&&◌, ◌+◌, ltb};
 ghost use Rattle.base.specs.If.{if_b};
 ghost use Rattle.order.specs.Kind.{kind, is_kind};
@@ -39,14 +42,14 @@ pub const AMONG_HEADERS: u32 = 1;
 pub const AMONG_DATA: u32 = 2;
 
 // What an item is to the order: a family and, for numbered labels, the number; else number 0.
-#[derive(Drop)]
+#[derive(Clone, Copy)]
 pub struct Kind {
     pub family: u32,
     pub number: u32,
 }
 
 // Where in the order of a reel we are. A number counts the optional labels of the group that is open.
-#[derive(Drop)]
+#[derive(Clone, Copy)]
 pub enum Phase {
     // Before VOL1.
     Reel,
@@ -80,7 +83,7 @@ pub enum Phase {
 }
 
 // The phase behind an item that was due, or Wrong.
-#[derive(Drop)]
+#[derive(Clone, Copy)]
 pub enum Due {
     To(Phase),
     Wrong,

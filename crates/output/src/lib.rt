@@ -1,5 +1,8 @@
 // The lent output buffer: bytes written at a place up to a limit, digits, and the answer on what was written. It knows nothing of
 // what the bytes are.
+
+#![tactic(auto)]
+
 ghost use Rattle.std.specs.Prelude.{◌≡◌, ◌+◌, ◌*◌, ◌/◌, ◌%◌, ◌<◌, min};
 ghost use Rattle.base.specs.Digits.{digits};
 ghost use Rattle.output.specs.Output.{Put, refusal_of, written_of};
@@ -8,7 +11,7 @@ use base::{Verdict, put_in};
 
 // What writing answers: the number given back, with its place, and the length of what was written, 0 with a refusal.
 #[repr(C)]
-#[derive(Drop)]
+#[derive(Clone, Copy)]
 pub struct Written {
     pub verdict: Verdict,
     pub len: u64,

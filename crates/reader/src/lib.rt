@@ -1,5 +1,8 @@
 // A reader: it keeps the lent image together with its place, and offers the steps of a walk. It knows no byte of an image: each
 // of its functions takes the reader apart, or makes one for a call, and leaves the work to `content`.
+
+#![tactic(auto)]
+
 ghost use Rattle.std.specs.Prelude.{◌≡◌, length};
 ghost use Rattle.content.specs.Numbers.{record_of, Said};
 ghost use Rattle.content.specs.Records.{records_at, facts_of};
@@ -10,28 +13,28 @@ use base::Verdict;
 use content::{Begun, Facts, Found, Step, Walk, begin, file_facts};
 
 // A lent image, and the place of a walk in it.
-#[derive(Drop)]
+#[derive(Clone, Copy)]
 pub struct Reader<'a> {
     pub image: &'a [u8],
     pub walk: Walk,
 }
 
 // What opening a file says, and the place behind it.
-#[derive(Drop)]
+#[derive(Clone, Copy)]
 pub struct Opened {
     pub verdict: Verdict,
     pub walk: Walk,
 }
 
 // The verdict of a file's opening, and the facts of its records.
-#[derive(Drop)]
+#[derive(Clone, Copy)]
 pub struct FileFacts {
     pub verdict: Verdict,
     pub facts: Facts,
 }
 
 // What a step says of the record, and the place behind it.
-#[derive(Drop)]
+#[derive(Clone, Copy)]
 pub struct Reading {
     pub found: Found,
     pub walk: Walk,

@@ -38,7 +38,7 @@ use Rattle.volume.specs.Fault.{value_of}
 use Rattle.volume.specs.Meaning.{fields_from}
 use Rattle.reading.specs.Legal.{format_from, record_length_from, is_sound, legal_entry}
 
--- ---- the entry of a file: 46 bytes of its first hdr1_name and hdr2_name
+-- ---- the entry of a file: 46 bytes of its first HDR1 and HDR2
 
 part_left : (x y : List ℕ) (a n : ℕ) → a + n ≤ length x → part a n (x ++ y) ≡ part a n x
 unfolding part
@@ -67,7 +67,7 @@ module _ (f s : List ℕ) (lf : length f ≡ 80) (ls : length s ≡ 80) where
       let z : length (part 4 11 s) ≡ 11 = length_part 4 11 s (omega arith) in
       simp length-append (omega arith)
 
-  -- its identifier stands in front, as hdr1_name has it
+  -- its identifier stands in front, as HDR1 has it
   pub entry_name : (a n : ℕ) → a + n ≤ 17 → part a n (fields_from f s) ≡ part (4 + a) n f
   unfolding fields_from
   entry_name a n h =
@@ -82,7 +82,7 @@ module _ (f s : List ℕ) (lf : length f ≡ 80) (ls : length s ≡ 80) where
       ∙ part_left (part 35 18 f) (part 4 11 s) a n (omega arith)
       ∙ part_part 35 a n 18 f h
 
-  -- its format and lengths stand behind, as hdr2_name has them
+  -- its format and lengths stand behind, as HDR2 has them
   pub entry_second : (a n : ℕ) → a + n ≤ 11 → part (17 + (18 + a)) n (fields_from f s) ≡ part (4 + a) n s
   unfolding fields_from
   entry_second a n h =
@@ -92,7 +92,7 @@ module _ (f s : List ℕ) (lf : length f ≡ 80) (ls : length s ≡ 80) where
 
 -- ---- the first header label
 
--- the fields of hdr1_name made of a label read: those of that label, but for what the writer gives itself
+-- the fields of HDR1 made of a label read: those of that label, but for what the writer gives itself
 abbrev first_read : List ℕ → List (List ℕ)
 first_read f =
     fielded 0 hdr1_name (fielded 3 (digits 4 1)
@@ -174,7 +174,7 @@ length_none f (Value b) (Value r) o h =
 abbrev made2 : List ℕ → List ℕ
 made2 e = made_second hdr2_name e
 
--- the fields of hdr2_name made of a label read
+-- the fields of HDR2 made of a label read
 abbrev second_read : List ℕ → List (List ℕ)
 second_read s = fielded 0 hdr2_name (fielded 4 [] (fielded 5 (digits 2 0) (fielded 6 [] (fields_in hdr2 0 s))))
 
@@ -248,7 +248,7 @@ module _ (f s : List ℕ) (lf : length f ≡ 80) (ls : length s ≡ 80) where
       ap (λ (x : Fault). x.number)
       (sound (hdr 2) (made2 (fields_from f s)) (ap (λ (l : List ℕ). wrong_in l hdr2) (sym second_made) ∙ fine) refl)
 
-  -- the entry is legal, and its format and record length are those of hdr2_name
+  -- the entry is legal, and its format and record length are those of HDR2
   pub entry_legal : (label_fault (hdr 1) f).number ≡ 0 → (label_fault (hdr 2) s).number ≡ 0
       → legal_entry (set_of f) (fields_from f s) ≡ true
   unfolding legal_entry is_sound set_of

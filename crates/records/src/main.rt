@@ -1,5 +1,8 @@
 // The records program: reads an image from standard input and writes every record of every file, in order and each followed by a
 // newline, to standard output, or the line of its refusal. It takes the records by a reader, one after the other.
+
+#![tactic(auto)]
+
 ghost use Rattle.std.specs.Prelude.{◌≡◌, length};
 ghost use Rattle.reader.specs.Read.{read_at};
 

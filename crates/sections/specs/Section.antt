@@ -6,16 +6,16 @@ use Rattle.image.specs.Framing.{head}
 use Rattle.label.specs.Name.{hdr1_name, hdr2_name, eov1_name, eov2_name, eof1_name, eof2_name}
 use Rattle.label.specs.Made.{made_volume, entry_length, made_first, made_second}
 
--- hdr1_name, hdr2_name and a mark
+-- HDR1, HDR2 and a mark
 unfoldable pub headers : List ℕ → List ℕ → ℕ → ℕ → List Item
 headers set e section sequence = block (made_first hdr1_name set e section sequence 0) ∷ block (made_second hdr2_name e) ∷ mark ∷ []
 
--- a mark, eof1_name, eof2_name and a mark behind the last section of a file with its block count
+-- a mark, EOF1, EOF2 and a mark behind the last section of a file with its block count
 unfoldable pub file_end : List ℕ → List ℕ → ℕ → ℕ → ℕ → List Item
 file_end set e section sequence count =
     mark ∷ block (made_first eof1_name set e section sequence count) ∷ block (made_second eof2_name e) ∷ mark ∷ []
 
--- a mark, eov1_name, eov2_name, two marks and the end of the reel behind a section that goes on
+-- a mark, EOV1, EOV2, two marks and the end of the reel behind a section that goes on
 unfoldable pub volume_end : List ℕ → List ℕ → ℕ → ℕ → ℕ → List Item
 volume_end set e section sequence count =
     mark ∷ block (made_first eov1_name set e section sequence count) ∷ block (made_second eov2_name e) ∷ mark ∷ mark ∷ reel_end ∷ []

@@ -1,5 +1,8 @@
 // The labels around the blocks of a section, as bytes of an image: those before its blocks, those behind them, and all that
 // stands between two reels. It knows which items stand together, and nothing of when they are due.
+
+#![tactic(auto)]
+
 ghost use Rattle.std.specs.Prelude.{◌≡◌, [], ◌∷◌, ◌++◌};
 ghost use Rattle.image.specs.Item.{block, mark, reel_end, encode};
 ghost use Rattle.label.specs.Made.{made_volume};

@@ -104,7 +104,7 @@ sum_parts n ls = ap sum (sym (take-append-drop n ls)) ∙ sum_append (take n ls)
 pub left_room : (set files counts lengths s : List ℕ) (entry first at i end : ℕ)
     → FilesLeft set files counts lengths s entry first at i
     → at + sum (take (end - first) (drop first lengths)) ≤ length s
-left_room set files counts lengths s entry first at i end c = omega (arith, c.ranges, sum_parts (end - first) (drop first lengths))
+left_room set files counts lengths s entry first at i end c = omega (arith, c.fits, sum_parts (end - first) (drop first lengths))
 
 pub left_more : (set files counts lengths s : List ℕ) (entry first at i : ℕ) (e : List ℕ) (end next : ℕ) (x : Passed)
     → FilesLeft set files counts lengths s entry first at i → i < length counts → entry < length files → e ≡ part entry 46 files
@@ -126,7 +126,7 @@ left_more set files counts lengths s entry first at i e end next x c h k ee el b
     let behind : drop end lengths ≡ drop (get_or counts i 0) (drop first lengths) = drop_past first (get_or counts i 0) end lengths el in
     record {
       within = omega arith;
-      fits = omega (arith, c.ranges, spot, sum_parts (get_or counts i 0) (drop first lengths), ap sum behind);
+      fits = omega (arith, c.fits, spot, sum_parts (get_or counts i 0) (drop first lengths), ap sum behind);
       left =
           ap (λ (l : List ℕ). legal_files set (files_from (in_parts 46 l) (drop (i + 1) counts) (drop end lengths) (drop x.at s)))
           (drop_past entry 46 next files en)

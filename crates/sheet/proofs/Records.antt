@@ -94,7 +94,7 @@ cut_none f r ls s from h = record { within = omega arith; fits = h; place = refl
 
 module _ (f r : ℕ) (ls s : List ℕ) (from at i : ℕ) (c : Cut f r ls s from at i) (h : i < length ls) where
   pub cut_room : at + get_or ls i 0 ≤ length s
-  cut_room = omega (arith, c.ranges, sum_at ls i h)
+  cut_room = omega (arith, c.fits, sum_at ls i h)
 
   pub cut_fits : length s < 18446744073709551616 → Fits w64 (at + get_or ls i 0)
   cut_fits m = record { fits = omega (arith, cut_room) }
@@ -103,7 +103,7 @@ module _ (f r : ℕ) (ls s : List ℕ) (from at i : ℕ) (c : Cut f r ls s from 
   cut_yes e =
       record {
         within = omega arith;
-        fits = omega (arith, c.ranges, sum_at ls i h);
+        fits = omega (arith, c.fits, sum_at ls i h);
         place = omega (arith, c.place, sum_at ls i h);
         left = sym (records_at_lem f r ls s at i h ∙ if_true _ _ _ e) ∙ c.left;
       }

@@ -20,7 +20,7 @@ use order::{HDR, Kind};
 const UNSAYABLE: usize = 9_996;
 
 // The records of a file, passed: whether all are legal and, if so, the place behind their bytes.
-#[derive(Drop)]
+#[derive(Clone, Copy)]
 pub struct Passed {
     pub legal: bool,
     pub at: usize,
@@ -28,7 +28,7 @@ pub struct Passed {
 
 // ---- a file's entry
 
-// Whether hdr1_name made of an entry has no fault.
+// Whether HDR1 made of an entry has no fault.
 fn is_first_sound(set: &[u8], entry: &[u8]) -> bool
     ensures { result ≡ is_sound (label_fault (hdr 1) (made_first hdr1_name set.now entry.now 1 1 0)) }
 {
@@ -43,7 +43,7 @@ fn is_first_sound(set: &[u8], entry: &[u8]) -> bool
     f.number == 0
 }
 
-// Whether hdr2_name made of an entry has no fault.
+// Whether HDR2 made of an entry has no fault.
 fn is_second_sound(entry: &[u8]) -> bool
     ensures { result ≡ is_sound (label_fault (hdr 2) (made_second hdr2_name entry.now)) }
 {

@@ -1,5 +1,8 @@
 // The order sheet, as slices that a caller fills: whether it is legal, and the number given back where it is not.
 // It knows what may stand on a sheet, and nothing of the blocks and reels that are made of it.
+
+#![tactic(auto)]
+
 mod file; // file.rt: the files, their entries and records
 mod reels; // reels.rt: the quota and the names
 mod sum; // sum.rt: a number that a caller gave, added to a place

@@ -15,7 +15,7 @@ use image::{MOST_REELS, Shape, shape_at};
 // What conversion into files answers: the number given back, with its place, and how many bytes and files were written, both 0
 // with a refusal.
 #[repr(C)]
-#[derive(Drop)]
+#[derive(Clone, Copy)]
 pub struct Tapes {
     pub verdict: Verdict,
     pub len: u64,
@@ -23,7 +23,7 @@ pub struct Tapes {
 }
 
 // The answer on the framing of an image, and with 0 the bytes of its files and their number.
-#[derive(Drop)]
+#[derive(Clone, Copy)]
 pub struct Size {
     pub verdict: Verdict,
     pub len: usize,

@@ -28,7 +28,7 @@ const MOST_PLACE: u32 = 4294967295;
 
 // What one file holds: whether it is torn, the number of the item at which it is, or of that behind its last, and the bytes of
 // its items in an image.
-#[derive(Drop)]
+#[derive(Clone, Copy)]
 pub struct Scan {
     pub torn: bool,
     pub item: usize,
@@ -108,7 +108,7 @@ fn placeless(number: u32) -> Verdict
 }
 
 // The answer on files, and with 0 the bytes of their items in an image.
-#[derive(Drop)]
+#[derive(Clone, Copy)]
 pub struct Measure {
     pub verdict: Verdict,
     pub len: usize,

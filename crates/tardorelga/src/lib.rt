@@ -1,4 +1,7 @@
 // The operations as C and Rust call them: a slice is a pointer and a length, a result is a struct of numbers by value.
+
+#![tactic(auto)]
+
 ghost use Rattle.std.specs.Prelude.{◌≡◌, length};
 ghost use Rattle.base.specs.Part.{put_at};
 ghost use Rattle.output.specs.Output.{Answers, AnswersAt, fitted};

@@ -9,7 +9,7 @@ use block::{Outcome, block_outcome, is_variable_block, segmented_outcome};
 use image::block_length_at;
 
 // The lengths of a section's blocks, as HDR2 gives them.
-#[derive(Drop)]
+#[derive(Clone, Copy)]
 pub struct Lengths {
     pub format: u8,
     pub block: usize,
@@ -18,7 +18,7 @@ pub struct Lengths {
 }
 
 // A place between two data blocks: the item that stands there, the blocks of the section before it, and what is pending.
-#[derive(Drop)]
+#[derive(Clone, Copy)]
 pub struct Between {
     pub at: usize,
     pub item: u32,

@@ -1,5 +1,8 @@
 // A whole set: the order of its items, the fields and cross-checks of its labels, its blocks; the verdict on an image.
 // It knows no byte of a label and no unit of a block by itself: those are the layers' below.
+
+#![tactic(auto)]
+
 mod after; // after.rt: the reading behind an item
 mod among; // among.rt: labels and names by their places
 mod blocks; // blocks.rt: data blocks passed in a row
@@ -18,7 +21,7 @@ use order::Phase;
 
 // What is known behind an item, beside the places of the volumes' names: numbers, and places in the image. A place past the end
 // stands for no label.
-#[derive(Drop)]
+#[derive(Clone, Copy)]
 pub struct Reading {
     pub hdr1: usize,
     pub hdr2: usize,

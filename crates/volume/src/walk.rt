@@ -23,7 +23,7 @@ use order::{
 };
 
 // A place in the image: what is known before it, and the number of the item that stands there.
-#[derive(Drop)]
+#[derive(Clone, Copy)]
 pub struct Spot {
     pub at: usize,
     pub state: Reading,
@@ -32,7 +32,7 @@ pub struct Spot {
 
 // What a turn of the walk leads to: on from a spot, past the name of a volume or not; or the end at a spot, with a fault or
 // with none.
-#[derive(Drop)]
+#[derive(Clone, Copy)]
 pub struct Turn {
     pub spot: Spot,
     pub fault: Fault,

@@ -15,7 +15,7 @@ use block::word_of;
 use sections::Labels;
 
 // Where the pass is behind the records of a file: the pen, and the place at which they end in their source.
-#[derive(Drop)]
+#[derive(Clone, Copy)]
 pub struct Body {
     pub pen: Pen,
     pub end: usize,

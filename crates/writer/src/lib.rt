@@ -1,5 +1,8 @@
 // Writing an order sheet as an image, and rewriting an accepted image. It knows in which order the numbers are given back, and
 // asks the layers below for each part.
+
+#![tactic(auto)]
+
 mod body; // body.rt: the records of a file
 mod file; // file.rt: a file with its labels
 mod pack; // pack.rt: a record packed into blocks

@@ -11,7 +11,7 @@ use sections::Labels;
 
 // Where the packing of a record is: the pen; the bytes that are left of the record, and of its open unit; the place in the piece;
 // 1 where the record has a unit already; whether a unit is open, and whether there is more to be packed of the piece.
-#[derive(Drop)]
+#[derive(Clone, Copy)]
 pub struct Flow {
     pub pen: Pen,
     pub left: usize,

@@ -14,7 +14,7 @@ pub(crate) const WORD: usize = 3;
 // Where the pass is: the place behind the last closed block, where the length of the open one stands; the bytes of the open
 // block; the blocks for which the reel has room; how many reels are begun; the section and its blocks; whether a block is open,
 // and whether a reel is lacking.
-#[derive(Drop)]
+#[derive(Clone, Copy)]
 pub struct Pen {
     pub at: usize,
     pub used: usize,

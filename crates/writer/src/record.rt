@@ -16,7 +16,7 @@ use output::figures;
 use sections::Labels;
 
 // A block for a record, if there is one.
-#[derive(Drop)]
+#[derive(Clone, Copy)]
 pub struct Quick {
     pub pen: Pen,
     pub ok: bool,

@@ -22,7 +22,7 @@ pub(crate) const LABEL: usize = 80;
 
 // A place among the files: how many are passed; of a sheet, the next length and the next byte; of an image, the next file; and
 // whether there is a next file to be laid.
-#[derive(Drop)]
+#[derive(Clone, Copy)]
 pub struct Place {
     pub nth: usize,
     pub first: usize,

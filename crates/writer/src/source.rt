@@ -16,7 +16,7 @@ pub(crate) const SPLIT: u8 = 2;
 // Where a pass is in a file. Of a sheet: the place of the next record's bytes, the number of records that are left, and the end
 // of the file's lengths. Of an image: the place of what is left of the current block, and how many bytes that is; the offset
 // length, the record length and the format of the file.
-#[derive(Drop)]
+#[derive(Clone, Copy)]
 pub struct Cursor {
     pub at: usize,
     pub left: usize,
@@ -29,7 +29,7 @@ pub struct Cursor {
 
 // The next record: where it stands, if in one piece; its length; the cursor's place and what is left behind it; and how it was
 // found.
-#[derive(Drop)]
+#[derive(Clone, Copy)]
 pub struct Found {
     pub from: usize,
     pub len: usize,

@@ -13,7 +13,7 @@ use content::{Taken, Walk, first_segment, next_segment};
 use sections::Labels;
 
 // A segment of a record: where it stands, and its length; the place behind it, and what is left of its block there.
-#[derive(Drop)]
+#[derive(Clone, Copy)]
 pub struct Segment {
     pub from: usize,
     pub len: usize,

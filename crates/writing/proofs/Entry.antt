@@ -38,7 +38,7 @@ sound_zero : (k : Rattle.order.specs.declared.Kind.Kind) (l : List ℕ) → is_s
 unfolding is_sound
 sound_zero k l h = eqb-true _ 0 h
 
--- a legal entry has what hdr1_name asks
+-- a legal entry has what HDR1 asks
 pub legal_first : (set e : List ℕ) → legal_entry set e ≡ true → GoodFirst set e
 unfolding legal_entry
 legal_first set e =
@@ -47,7 +47,7 @@ legal_first set e =
     (λ b. both (is_sound (label_fault (hdr 1) (made_first hdr1_name set e 1 1 0))) _
     (λ c d. good_first set e (eqb-true _ _ a) (eqb-true _ _ b) (sound_zero (hdr 1) _ c))))
 
--- and what hdr2_name asks
+-- and what HDR2 asks
 pub legal_second : (set e : List ℕ) → legal_entry set e ≡ true → GoodSecond e
 unfolding legal_entry
 legal_second set e =

@@ -12,7 +12,7 @@ use Rattle.content.specs.Whole.{whole_in, at_block, stands_at}
 abbrev pub whole_at : List ℕ → Walk → ℕ
 whole_at s w = whole_in s (stands_at w.format w.record_length w.at w.left)
 
--- the bytes, with its control word, of the segment at the head of what is left of the current block of an format_s file, with `before`
+-- the bytes, with its control word, of the segment at the head of what is left of the current block of an S file, with `before`
 -- bytes left of the block before it; 0 where there is none, or something is left there
 unfoldable pub segment_in : List ℕ → ℕ → Walk → ℕ
 segment_in s before w = if_b (eqb before 0) (if_b (eqb w.format format_s) (if_b (is_inside s w) (length_of (segment (left_of s w))) 0) 0) 0

@@ -13,7 +13,7 @@ pub record DidPassRecords (b : Bool) (ls : List ℕ) (from : ℕ) (r : Passed) :
   pub answer : r.legal ≡ b
   pub place : r.legal ≡ true → r.at ≡ from + sum ls
 
--- the least length that is too long for a record of a format_d or S file with record length r
+-- the least length that is too long for a record of a D or S file with record length r
 unfoldable pub too_long : ℕ → ℕ → ℕ
 too_long f r = if_b (eqb f format_d) (min (r - 3) 9996) (r + 1)
 
