@@ -1,0 +1,10 @@
+use Prim.Native.Nat.{◌-◌}
+use lib.ListN.{length}
+use Rattle.block.proofs.Loops.{Cutting}
+use Rattle.block.proofs.fixed_cuts.Given as goal
+
+abbrev pub invariant-loop-record_length : goal.invariant-loop-record_length
+invariant-loop-record_length l = Cutting 70 l.record_length l.s l.from l.at
+
+abbrev pub decreases-loop-record_length : goal.decreases-loop-record_length
+decreases-loop-record_length l = length l.s - l.at
