@@ -82,7 +82,7 @@ unfolding runs next Ends
 all_ends s [] h = subst Ends (sym (if_true (is_due (due_after s.phase end_of_image)) (ended []) (stopped 3 0 0) h)) tt
 all_ends s (x ∷ xs) (p, h, q) =
     subst (λ (r : Next). Ends (next r (λ t. runs t xs))) (sym (faultless_go s x p h))
-    (further_ends (events_of s (kind_in s.phase x) (bytes_in x)) _ (all_ends _ xs q))
+    (further_ends (events_of s (kind_in s.phase x) (bytes_in x)) _ (all_ends (state_behind s x p) xs q))
 
 pub ends_all : (s : State) (xs : List Item) → Ends (runs s xs) → All MayEnd s xs
 unfolding runs next Ends
@@ -91,7 +91,7 @@ ends_all s [] h =
     (λ _ q. absurd q) h
 ends_all s (x ∷ xs) h =
     by_step (λ (r : Next). Ends (next r (λ t. runs t xs)) → All MayEnd s (x ∷ xs)) s x
-    (λ p f q. (p, f, ends_all _ xs (ends_further _ _ q))) (λ k b _ _ q. absurd q) h
+    (λ p f q. (p, f, ends_all (state_behind s x p) xs (ends_further _ _ q))) (λ k b _ _ q. absurd q) h
 
 -- ---- the first wrong item
 
@@ -113,7 +113,7 @@ told s [] =
     (λ e. ((λ q. eqb-false 3 0 refl q), record { within = omega arith; refused = (refl, refl, e) }))
 told s (x ∷ xs) =
     by_step (λ (r : Next). Told s (x ∷ xs) (next r (λ t. runs t xs))) s x
-    (λ p f. told_further s x xs p f _ _ (told _ xs)) (λ k b h e. (h, record { within = omega arith; refused = e }))
+    (λ p f. told_further s x xs p f _ _ (told (state_behind s x p) xs)) (λ k b h e. (h, record { within = omega arith; refused = e }))
 
 -- ---- the verdict
 

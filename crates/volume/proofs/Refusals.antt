@@ -30,7 +30,7 @@ use Rattle.volume.specs.State.{State}
 use Rattle.volume.specs.Fault.{crossed, volume_fault, new_file_place, file_fault, most_files, hdr1_fault, hdr2_fault, trailer1_fault, open_fault, file_end_fault, trailer2_fault, outcome_in, block_fault, context_fault, item_fault}
 use Rattle.volume.specs.Step.{Next, go, no, step, judged, ordered, kind_in, bytes_in}
 use Rattle.volume.specs.Run.{image_verdict}
-use Rattle.volume.specs.Accepted.{All, Refused, may_stand, is_reel_end, Unframed, FirstFault, over_long, no_image, unframed, wrong, Placed}
+use Rattle.volume.specs.Accepted.{state_behind, All, Refused, may_stand, is_reel_end, Unframed, FirstFault, over_long, no_image, unframed, wrong, Placed}
 use Rattle.volume.proofs.Accepted.{accepted_done, accepted_iff, refused_first}
 
 -- ---- the framing
@@ -223,7 +223,7 @@ stops_at s [] k zero b (e, q, _) =
 stops_at s [] k (suc i) b (e, q, _) =
     subst (λ (m : ℕ). Placed m b) (sym e) (subst (Placed 3) (sym q) (bare 3 (λ l h. omega arith) (omega arith)))
 stops_at s (x ∷ xs) k zero b e = subst Stops e (step_stops s x)
-stops_at s (x ∷ xs) k (suc i) b (p, _, all) = stops_at _ xs k i b all
+stops_at s (x ∷ xs) k (suc i) b (p, _, all) = stops_at (state_behind s x p) xs k i b all
 
 fault_placed : (s : List ℕ) (v : Verdict) → FirstFault s v → Placed v.number v.byte
 unfolding verdict fault
