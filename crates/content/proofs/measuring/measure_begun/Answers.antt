@@ -1,0 +1,38 @@
+use Rattle.content.proofs.Stepping.{measures_begun}
+use Rattle.content.proofs.measuring.measure_begun.Goals as goal
+
+pub overflow_sub-n : goal.overflow_sub-n
+overflow_sub-n c = search measures_begun
+
+pub overflow_cast-most : goal.overflow_cast-most
+overflow_cast-most c = search measures_begun
+
+pub overflow_add-v : goal.overflow_add-v
+overflow_add-v c = search measures_begun
+
+pub overflow_sub-v : goal.overflow_sub-v
+overflow_sub-v c = search measures_begun
+
+pub moved-u-requires : goal.moved-u-requires
+moved-u-requires c = search measures_begun
+
+pub overflow_sub-most : goal.overflow_sub-most
+overflow_sub-most c = search measures_begun
+
+pub rest_length-requires : goal.rest_length-requires
+rest_length-requires c = search measures_begun
+
+pub enum_told-1 : goal.enum_told-1
+enum_told-1 c = search measures_begun
+
+pub enum_known-m : goal.enum_known-m
+enum_known-m c = search measures_begun
+
+pub overflow_add-result : goal.overflow_add-result
+overflow_add-result c = search measures_begun
+
+pub returns-in-Fails : goal.returns-in-Fails
+returns-in-Fails c = search measures_begun
+
+pub returns-in-Ends : goal.returns-in-Ends
+returns-in-Ends c = search measures_begun

@@ -1,0 +1,14 @@
+use Rattle.content.proofs.Units.{segments}
+use Rattle.content.proofs.segment.first_segment.Goals as goal
+
+pub is_inside-requires : goal.is_inside-requires
+is_inside-requires c = search segments
+
+pub unit_from-requires : goal.unit_from-requires
+unit_from-requires c = search segments
+
+pub returns-then-is_inside : goal.returns-then-is_inside
+returns-then-is_inside c = search segments
+
+pub returns : goal.returns
+returns c = search segments
