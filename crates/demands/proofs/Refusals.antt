@@ -132,10 +132,17 @@ unfolding found_at left_at begun_at
 find_refused s n r old =
     if_case (λ (b : Begun). Q (record { at = record_of (found_from s r (length old) b); left = left_from s r old b }))
     (eqb (image_verdict s).number 0) _ _
-    (λ _. by_file (file_numbered s n)) (λ e. unfold found_from left_from record_of in is_given _ _ _ e refl)
+    (λ _. by_file (file_numbered s n)) by_image
   where
     Q : Handing → Type 0
     Q h = Answered (image_verdict s) (13 ∷ 10 ∷ []) h.at.verdict (h ≡ no_record h.at.verdict old)
+
+    by_image : eqb (image_verdict s).number 0 ≡ false
+        → Q (record {
+          at = record_of (found_from s r (length old) (NotBegun (image_verdict s)));
+          left = left_from s r old (NotBegun (image_verdict s));
+        })
+    by_image e = unfold found_from left_from record_of in is_given _ _ _ e refl
 
     by_place : (p : Place) → Q (record { at = record_of (found_in s (length old) p); left = left_in s old p })
     by_place Nowhere = unfold found_in left_in record_of is_in if_b in is_other _ _ _ 13 refl refl

@@ -1,0 +1,19 @@
+use Rattle.writer.proofs.WholeFiles.{filing, file_tailable, file_put}
+use Rattle.writer.proofs.file.put_file.Goals as goal
+
+pub begin_file-h-requires : goal.begin_file-h-requires
+begin_file-h-requires c = search filing
+
+pub put_records-x-requires : goal.put_records-x-requires
+put_records-x-requires c = search filing
+
+pub put_end-requires : goal.put_end-requires
+put_end-requires c =
+    file_tailable _ _ _ _ _ _ _ c.requires _ _ c.begin_file-h.ensures _ _ _ c.part_of-entry.ensures c.format_in-f.ensures c.block_length_in-b.ensures _ _ c.put_records-x.ensures
+
+pub shape_of-out : goal.shape_of-out
+shape_of-out c = search filing
+
+pub returns : goal.returns
+returns c =
+    file_put _ _ _ _ _ _ _ c.requires _ _ c.begin_file-h.ensures _ _ _ c.part_of-entry.ensures c.format_in-f.ensures c.block_length_in-b.ensures _ _ c.put_records-x.ensures _ _ c.put_end.ensures
