@@ -7,9 +7,10 @@ ghost use Rattle.output.specs.Output.{Answers, fitted};
 ghost use Rattle.list.specs.Code.Input.{input_text};
 
 use base::{Verdict, part_of};
-use libc::{STDIN_FILENO, STDOUT_FILENO};
 use listing::{listing, refused};
 use output::Written;
+use std::io;
+use std::io::{Read, Write};
 
 // The most bytes that are taken as an image. One more is read, to see that there are more.
 const MOST: usize = 60000;
@@ -29,11 +30,12 @@ fn text_on(input: &[u8], out: &mut [u8]) -> Written
     listing(input, out)
 }
 
-// The heading and 64 lines of at most 43 bytes have room in the page.
-fn main() {
+// The heading and 64 lines of at most 43 bytes have room in the page. Where the input or the output fails, the program ends with the
+// error of the system.
+fn main(rt: HostRuntime) -> io::Result<()> {
     let mut input = [0u8; 60001];
-    let n = io::read_full(STDIN_FILENO, &mut input);
+    let n = io::copy(&mut rt.stdin().take(60001), &mut &mut input[..])?;
     let mut page = [0u8; 4096];
-    let r = text_on(part_of(&input, 0, n), &mut page);
-    io::write_all(STDOUT_FILENO, part_of(&page, 0, r.len as usize));
+    let r = text_on(part_of(&input, 0, n as usize), &mut page);
+    rt.stdout().write_all(part_of(&page, 0, r.len as usize))
 }

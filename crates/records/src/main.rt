@@ -3,14 +3,15 @@
 
 #![tactic(auto)]
 
-ghost use Rattle.std.specs.Prelude.{◌≡◌, length};
+ghost use Rattle.std.specs.Prelude.{◌≡◌, length, IfOk};
 ghost use Rattle.reader.specs.Read.{read_at};
 
 use base::{Verdict, part_of};
 use content::{Walk, record_part};
-use libc::{STDIN_FILENO, STDOUT_FILENO};
 use listing::refused;
 use reader::{count, next_at, open_at};
+use std::io;
+use std::io::{Read, Write};
 
 // The most bytes that are taken as an image. One more is read, to see that there are more.
 const MOST: usize = 60000;
@@ -19,29 +20,41 @@ const MOST: usize = 60000;
 const FILES: u64 = 64;
 
 // The line of a refusal has room in 64 bytes.
-fn write_refusal(v: Verdict) {
+fn write_refusal<W: Write>(out: &mut W, v: Verdict) -> io::Result<()> {
     let mut line = [0u8; 64];
     let r = refused(v, &mut line);
-    io::write_all(STDOUT_FILENO, part_of(&line, 0, r.len as usize));
+    out.write_all(part_of(&line, 0, r.len as usize))
 }
 
 // The record at a place, and the place behind it.
-fn write_next(image: &[u8], walk: Walk, join: &mut [u8]) -> Walk
-    ensures { result ≡ (read_at image.now (length join.old) walk).walk }
+fn write_next<W: Write>(
+    out: &mut W,
+    image: &[u8],
+    walk: Walk,
+    join: &mut [u8],
+) -> io::Result<Walk>
+    ensures { IfOk result (λ w. w ≡ (read_at image.now (length join.old) walk).walk) }
 {
     let x = next_at(image, walk, join);
     let found = x.found;
-    io::write_all(STDOUT_FILENO, record_part(image, join, found));
-    io::write_all(STDOUT_FILENO, b"\n");
-    x.walk
+    out.write_all(record_part(image, join, found))?;
+    out.write_all(b"\n")?;
+    Ok(x.walk)
 }
 
 // So many records from a place on.
-fn write_records(image: &[u8], from: Walk, records: u64, join: &mut [u8]) {
+fn write_records<W: Write>(
+    out: &mut W,
+    image: &[u8],
+    from: Walk,
+    records: u64,
+    join: &mut [u8],
+) -> io::Result<()> {
     let mut walk = from;
     for _ in 0..records {
-        walk = write_next(image, walk, join);
+        walk = write_next(out, image, walk, join)?;
     }
+    Ok(())
 }
 
 // The place of no file, from which one is opened.
@@ -56,55 +69,56 @@ fn nowhere() -> Walk {
 }
 
 // A file by its number; false where there is none.
-fn write_file(image: &[u8], file: u64, join: &mut [u8]) -> bool {
+fn write_file<W: Write>(out: &mut W, image: &[u8], file: u64, join: &mut [u8]) -> io::Result<bool> {
     let opened = open_at(image, nowhere(), file);
     let v = opened.verdict;
     if v.number != 0 {
-        return false;
+        return Ok(false);
     }
     let walk = opened.walk;
     let counted = count(image, file);
     let facts = counted.facts;
-    write_records(image, walk, facts.records, join);
-    true
+    write_records(out, image, walk, facts.records, join)?;
+    Ok(true)
 }
 
 // The files from 1 on, until there is none.
-fn write_files(image: &[u8], join: &mut [u8]) {
+fn write_files<W: Write>(out: &mut W, image: &[u8], join: &mut [u8]) -> io::Result<()> {
     for file in 1..FILES + 1 {
-        if !write_file(image, file, join) {
-            return;
+        if !write_file(out, image, file, join)? {
+            return Ok(());
         }
     }
+    Ok(())
 }
 
 // A set that is accepted has a first file; what counting it says of any other image is the image's own refusal.
-fn write_set(image: &[u8], join: &mut [u8]) {
+fn write_set<W: Write>(out: &mut W, image: &[u8], join: &mut [u8]) -> io::Result<()> {
     let first = count(image, 1);
     let v = first.verdict;
     if v.number != 0 {
-        write_refusal(v);
-        return;
+        return write_refusal(out, v);
     }
-    write_files(image, join);
+    write_files(out, image, join)
 }
 
 // A joined record is no longer than its image, so it has room in the buffer.
-fn write_input(input: &[u8]) {
+fn write_input<W: Write>(out: &mut W, input: &[u8]) -> io::Result<()> {
     if MOST < input.len() {
-        write_refusal(Verdict {
+        let v = Verdict {
             number: 9,
             item: 0,
             byte: 0,
-        });
-        return;
+        };
+        return write_refusal(out, v);
     }
     let mut join = [0u8; 60000];
-    write_set(input, &mut join);
+    write_set(out, input, &mut join)
 }
 
-fn main() {
+// Where the input or the output fails, the program ends with the error of the system.
+fn main(rt: HostRuntime) -> io::Result<()> {
     let mut input = [0u8; 60001];
-    let n = io::read_full(STDIN_FILENO, &mut input);
-    write_input(part_of(&input, 0, n));
+    let n = io::copy(&mut rt.stdin().take(60001), &mut &mut input[..])?;
+    write_input(&mut rt.stdout(), part_of(&input, 0, n as usize))
 }
