@@ -6,15 +6,14 @@ use Prim.Native.Nat.{ℕ, ◌+◌, ◌-◌, ◌%◌, ◌≤◌, ◌<◌}
 use native.Mathlib.Omega.{arith}
 use native.Mathlib.Numerals.{add-one}
 use borrow.Author.Rules.{rules}
-use borrow.Author.Tests.{le-leb, lt-leb, leb-true, leb-false}
+use borrow.Author.Tests.{le-leb, lt-leb, leb-true}
 use lib.Dec.{leb}
 use lib.ListN.{length, take, drop, get_or, set, length-take, length-drop, length-set, take-append-drop, drop_of_length-le}
 use lib.Seq.{drop-cons, drop-drop, get_or-drop, length-take-le, take-add, take_all, take-take}
-use Rattle.base.specs.If.{if_b}
 use Rattle.base.proofs.Ifs.{if_true, if_false, if_case}
 use Rattle.base.specs.Part.{part, put_at, put_in}
 use Rattle.base.specs.Code.Copy.{Short, Chunked}
-use Rattle.base.proofs.Parts.{drop_take, length_part, length_put, put_none, put_put, put_again}
+use Rattle.base.proofs.Parts.{drop_take, length_put, put_none, put_put, put_again}
 use Rattle.base.proofs.Put.{put_first}
 
 -- ---- copying: what is left to put from here makes the whole

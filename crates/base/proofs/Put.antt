@@ -1,11 +1,11 @@
 -- Laws of one list put over another, byte by byte. Assumes nothing.
-use mathlib.Core.Path.{◌≡◌, refl, sym, ap, ◌∙◌}
-use mathlib.Core.List.{List, [], ◌∷◌, ◌++◌, append_assoc, append-nil}
-use Prim.Native.Nat.{ℕ, zero, suc, ◌+◌, ◌-◌, ◌≤◌, ◌<◌}
+use mathlib.Core.Path.{◌≡◌, sym, ap, ◌∙◌}
+use mathlib.Core.List.{List, [], ◌∷◌, ◌++◌, append_assoc}
+use Prim.Native.Nat.{ℕ, suc, ◌+◌, ◌<◌}
 use native.Mathlib.Omega.{arith}
 use native.Mathlib.Numerals.{add-one}
-use lib.ListN.{length, take, drop, set, length-append, length-take, length-drop, length-set}
-use lib.Seq.{take-suc-set, drop-set-lt, take-set-le, set_split, drop_at, take_at, length-take-le, drop-append-add, take-append-add, drop-append_seam, take-append_seam}
+use lib.ListN.{length, take, drop, set, length-append}
+use lib.Seq.{take-suc-set, drop-set-lt, take-set-le, set_split, drop_at, length-take-le, drop-append-add, take-append-add}
 use Rattle.base.specs.Part.{put_at}
 
 -- from the front: the first byte, then the rest one place on

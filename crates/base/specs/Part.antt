@@ -1,8 +1,7 @@
 -- Parts of lists: the part of some length that starts at a place, and a list with another one put over it.
 -- Both are total: a part that runs past the end is shorter, and what is put past the end extends the list.
 -- Assumes nothing.
-use Rattle.std.specs.Prelude.{◌≡◌, refl, Bool, true, false, ◌&&◌, List, [], ◌∷◌, ◌++◌, ℕ, ◌+◌, eqb, leb, length, take, drop}
-use Rattle.std.proofs.Common.{ap}
+use Rattle.std.specs.Prelude.{Bool, true, false, List, [], ◌∷◌, ◌++◌, ℕ, ◌+◌, eqb, leb, length, take, drop}
 use Rattle.base.specs.If.{if_b}
 
 -- the n bytes from place a on, as many of them as there are

@@ -10,7 +10,6 @@ use lib.Dec.{eqb}
 use lib.ListN.{length, drop}
 use Rattle.base.specs.If.{if_b}
 use Rattle.base.proofs.Ifs.{if_true, if_false, if_case, and_first}
-use Rattle.base.specs.Part.{part}
 use Rattle.image.specs.Item.{Item, broken, decode}
 use Rattle.order.specs.Kind.{hdr, data_block, other, is_kind}
 use Rattle.order.specs.Due.{due_after}

@@ -35,7 +35,7 @@ use Rattle.volume.specs.Run.{runs, image_verdict}
 use Rattle.volume.specs.Meaning.{handed_out}
 use Rattle.volume.specs.Accepted.{All, MayEnd, state_behind}
 use Rattle.volume.proofs.Accepted.{accepted_iff}
-use Rattle.order.proofs.Moves.{Stage, before, within, file_over, Move, stays, next_reel, header1, next_file as new_file, header2, datum, eof1, eov1, finish}
+use Rattle.order.proofs.Moves.{Stage, before, file_over, Move, stays, next_reel, header1, next_file as new_file, header2, datum, eof1, eov1, finish}
 use Rattle.order.proofs.Phases.{stage, group_of, Numbered, due_goes}
 use Rattle.reading.proofs.Stages.{View, view, Holds, is_open, second_same}
 use Rattle.reading.proofs.Steps.{view_quiet, label_none, context_none}

@@ -5,7 +5,6 @@
 -- is wanted.
 use Rattle.std.specs.Prelude.{Bool, true, false, not, List, [], ◌∷◌, map, ℕ, ◌+◌, length, drop}
 use Rattle.base.specs.If.{if_b}
-use Rattle.base.specs.Part.{part}
 use Rattle.image.specs.Item.{Item, decode}
 use Rattle.order.specs.Kind.{hdr, eov, eof, data_block, is_kind}
 use Rattle.order.specs.Due.{due_after}

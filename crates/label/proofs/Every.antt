@@ -1,18 +1,17 @@
 -- Every row of a table holds: said by the row's number, and the same as that the walk finds no bad field. Assumes nothing.
-use mathlib.Core.Path.{◌≡◌, refl, sym, ap, ◌∙◌, subst}
+use mathlib.Core.Path.{◌≡◌, refl, ◌∙◌, subst}
 use mathlib.Core.Bool.{Bool, true, false, false≢true}
 use mathlib.Core.List.{List, [], ◌∷◌}
 use Prim.Native.Nat.{ℕ, zero, suc, ◌+◌}
 use native.Mathlib.Omega.{arith}
 use lib.Dec.{eqb}
 use borrow.Author.Tests.{eq-eqb, eqb-true, eqb-false}
-use Rattle.base.specs.If.{if_b}
 use Rattle.base.proofs.Ifs.{if_true, if_case}
 use Rattle.base.specs.Answer.{fault}
 use Rattle.base.specs.declared.Fault.{Fault}
 use Rattle.order.specs.declared.Kind.{Kind}
 use Rattle.label.specs.Table.{place_of, width_of, fields_of}
-use Rattle.label.specs.Judged.{first_bad, good_at, wrong_in, access_of, access_at, field_fault, label_fault}
+use Rattle.label.specs.Judged.{first_bad, wrong_in, access_of, access_at, field_fault, label_fault}
 
 -- the rule of row k
 abbrev pub rule_of : List ℕ → ℕ → ℕ

@@ -1,7 +1,7 @@
 -- Labels laid of fields, against their table: that they have no wrong field, and none that is unequal. A field set anew asks for
 -- one fact on its row alone, which a table gives by computing. Assumes nothing.
-use mathlib.Core.Path.{◌≡◌, refl, sym, ap, ap₂, ◌∙◌, subst}
-use mathlib.Core.Bool.{Bool, true, false, false≢true, not, ◌&&◌}
+use mathlib.Core.Path.{◌≡◌, refl, sym, ap, ap₂, ◌∙◌}
+use mathlib.Core.Bool.{Bool, true, false, false≢true}
 use mathlib.Core.List.{List, [], ◌∷◌}
 use Prim.Native.Nat.{ℕ, zero, suc, ◌+◌, ◌≤◌}
 use native.Mathlib.Omega.{arith}
@@ -19,9 +19,9 @@ use Rattle.charset.specs.Number.{number_in}
 use Rattle.charset.specs.Date.{is_date}
 use Rattle.label.specs.Table.{place_of, width_of, record_length}
 use Rattle.label.specs.Field.{is_positive, is_format, has_record_length, good}
-use Rattle.label.specs.Judged.{first_bad, good_at, agree_at, wrong_in, unequal_in}
+use Rattle.label.specs.Judged.{good_at, agree_at, wrong_in, unequal_in}
 use Rattle.label.specs.Made.{fitted, laid}
-use Rattle.label.proofs.Laid.{head_of, rest_of, field_at, fielded, widths, filled_back, fitted_all}
+use Rattle.label.proofs.Laid.{rest_of, field_at, fielded, widths, filled_back, fitted_all}
 use Rattle.label.proofs.Every.{rule_of, scope_of, is_row, Hold, none_bad, all_hold_lem}
 
 -- ---- one field

@@ -1,6 +1,6 @@
 -- What a reader finds in a label that was made: its fields by their rows, its length, its kind, and free access. Assumes nothing.
-use mathlib.Core.Path.{◌≡◌, refl, sym, ap, ◌∙◌}
-use mathlib.Core.Bool.{Bool, true, false}
+use mathlib.Core.Path.{◌≡◌, refl, ap, ◌∙◌}
+use mathlib.Core.Bool.{false}
 use mathlib.Core.List.{List, [], ◌∷◌}
 use Prim.Native.Nat.{ℕ}
 use borrow.Author.Tests.{eq-eqb}
@@ -10,13 +10,13 @@ use Rattle.base.proofs.Ifs.{if_true, if_false}
 use Rattle.base.specs.Part.{part, same}
 use Rattle.base.specs.Digits.{digits}
 use Rattle.base.specs.Answer.{fault}
-use Rattle.order.specs.Kind.{other, vol, hdr, eov, eof, is_kind}
+use Rattle.order.specs.Kind.{other, vol, is_kind}
 use Rattle.order.specs.declared.Kind.{Kind}
-use Rattle.label.specs.Name.{vol1_name, hdr1_name, hdr2_name, eov1_name, eov2_name, eof1_name, eof2_name, required, or_else, named, kind_of}
+use Rattle.label.specs.Name.{vol1_name, required, or_else, named, kind_of}
 use Rattle.label.specs.Table.{width_of, field, vol1, hdr1, hdr2, volume_row, access_row}
 use Rattle.label.specs.Field.{volume_of}
 use Rattle.label.specs.Judged.{access_at}
-use Rattle.label.specs.Made.{fitted, laid, made_volume, made_first, made_second, identifier_in, generation_in, version_in, created_in, expires_in, format_in, block_length_in, record_length_in}
+use Rattle.label.specs.Made.{fitted, made_volume, made_first, made_second, identifier_in, generation_in, version_in, created_in, expires_in, format_in, block_length_in, record_length_in}
 use Rattle.label.proofs.Laid.{field_at, length_laid, filled_back, fitted_all, eighty_vol1, eighty_hdr1, eighty_hdr2}
 
 -- ---- the fields

@@ -5,7 +5,7 @@ use Prim.Native.Nat.{ℕ, zero, suc, ◌+◌, ◌-◌, ◌/◌, ◌%◌, ◌≤�
 use native.Mathlib.Omega.{arith}
 use native.Mathlib.Numerals.{add-one}
 use borrow.Author.Rules.{rules}
-use lib.ListN.{length, take, drop, set, get_or, replicate, length-set, get_or-replicate, drop_of_length-le}
+use lib.ListN.{length, drop, set, get_or, replicate, length-set, get_or-replicate, drop_of_length-le}
 use lib.Seq.{drop-cons, get_or-take}
 use Rattle.base.specs.Part.{put_at}
 use Rattle.base.specs.Digits.{digits}

@@ -2,7 +2,7 @@
 -- for the record length, the whole label.
 -- The record length of a D file counts its control word: 8.5.2.6 of ECMA-13 makes it the maximum length of an MDU, and 7.2.3 puts
 -- the word into the MDU. So for D it is 5 or more, and a record has at most R - 4 bytes.
-use Rattle.std.specs.Prelude.{Bool, true, false, ◌&&◌, ◌||◌, List, [], ◌∷◌, ℕ, ◌+◌, leb, eqb, length, get_or}
+use Rattle.std.specs.Prelude.{Bool, true, false, ◌||◌, List, [], ◌∷◌, ℕ, ◌+◌, leb, eqb, get_or}
 use Rattle.base.specs.If.{if_b}
 use Rattle.base.specs.Format.{format_f, format_d, format_s}
 use Rattle.base.specs.Part.{same, all_are}

@@ -1,7 +1,7 @@
 -- The kind of a label, by its name. Document 01: a label is a block of exactly 80 bytes (house); its kind is read from BP 1-4
 -- (UHL and UTL:
 -- 1-3). The label number is a digit 1 to 9.
-use Rattle.std.specs.Prelude.{Bool, true, false, ◌&&◌, List, [], ◌∷◌, ℕ, ◌-◌, leb, eqb, length, get_or}
+use Rattle.std.specs.Prelude.{List, [], ◌∷◌, ℕ, ◌-◌, leb, eqb, length, get_or}
 use Rattle.base.specs.If.{if_b}
 use Rattle.base.specs.Part.{part, same}
 use Rattle.order.specs.Kind.{other, vol, uvl, hdr, uhl, eof, eov, utl, is_kind}

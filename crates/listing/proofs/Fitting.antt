@@ -1,14 +1,12 @@
 -- A text whose length was found in one buffer, and that was written into another where it has room. Assumes nothing.
 use mathlib.Core.Path.{◌≡◌, refl, sym, ap, ap₂, ◌∙◌, subst}
 use mathlib.Core.List.{List, ◌++◌}
-use Prim.Native.Nat.{ℕ, ◌+◌, ◌*◌, ◌^◌, ◌≤◌, ◌<◌, min}
+use Prim.Native.Nat.{ℕ, ◌+◌, ◌*◌, ◌^◌, ◌≤◌, ◌<◌}
 use native.Mathlib.Omega.{arith}
 use borrow.Author.Rules.{rules}
 use borrow.Author.Tests.{le-leb, lt-leb, eq-eqb, ne_eqb}
-use lib.Dec.{eqb}
 use lib.ListN.{length, take, drop}
 use lib.Seq.{length-take-le, take-append_seam}
-use Rattle.base.specs.If.{if_b}
 use Rattle.base.proofs.Ifs.{if_true, if_false}
 use Rattle.base.specs.Part.{put_at}
 use Rattle.base.specs.Answer.{verdict}
@@ -18,7 +16,7 @@ use Rattle.output.specs.declared.Written.{Written as Answer}
 use Rattle.output.proofs.Writing.{answers_refused, wrote_same}
 use Rattle.volume.specs.Run.{image_verdict}
 use Rattle.volume.specs.Meaning.{content}
-use Rattle.listing.specs.Code.Page.{DidPutPage, endless}
+use Rattle.listing.specs.Code.Page.{DidPutPage}
 use Rattle.listing.specs.Text.{listing_of, refusal_line, text_of}
 use Rattle.listing.proofs.Pages.{listing_long}
 

@@ -2,7 +2,7 @@
 use mathlib.Core.Path.{◌≡◌, refl, sym, ap, ◌∙◌, subst₂}
 use mathlib.Core.Bool.{Bool, true, false, ◌&&◌}
 use mathlib.Core.List.{List, [], ◌∷◌}
-use Prim.Native.Nat.{ℕ, ◌+◌, ◌<◌, ◌≤◌, ◌^◌}
+use Prim.Native.Nat.{ℕ, ◌+◌, ◌<◌, ◌^◌}
 use native.Mathlib.Omega.{arith}
 use mir.Val.{Fits}
 use mir.Syntax.{w32}
@@ -11,7 +11,7 @@ use borrow.Author.Tests.{eq-eqb, ne_eqb, lt-ltb, le-ltb, ltb-true, eqb-true}
 use lib.Dec.{eqb, ltb}
 use Rattle.base.specs.If.{if_b}
 use Rattle.base.proofs.Ifs.{if_true, if_false, if_case, and_left, and_first, and_second}
-use Rattle.order.specs.Kind.{kind, is_kind, vol, hdr, eof, eov, data_block, tape_mark, end_of_reel, end_of_image}
+use Rattle.order.specs.Kind.{is_kind, vol, hdr, eof, eov, data_block, tape_mark, end_of_reel, end_of_image}
 use Rattle.order.specs.Due.{DueItem, turn, dues, choose, due_after, up_to_nine}
 use Rattle.order.specs.declared.Kind.{Kind}
 use Rattle.order.specs.declared.Phase.{Phase}

@@ -1,7 +1,7 @@
 -- The stages of a reading, and which kinds of items lead from one to another. Only five kinds matter to the meaning: HDR1 and
 -- HDR2, a data block, EOF1 and EOV1. All others, which leave alone what the meaning hangs on, are quiet. Assumes nothing.
 use mathlib.Core.Path.{◌≡◌, refl}
-use mathlib.Core.Bool.{true, false}
+use mathlib.Core.Bool.{false}
 use Prim.Native.Nat.{ℕ, ◌+◌, ◌≤◌}
 use native.Mathlib.Omega.{arith}
 use borrow.Author.Tests.{ne_eqb}

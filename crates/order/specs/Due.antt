@@ -10,7 +10,7 @@
 -- EOF.
 --
 -- No byte of a label stands here: another alphabet or label version uses it unchanged.
-use Rattle.std.specs.Prelude.{Bool, true, false, List, [], ◌∷◌, ℕ, ◌+◌, ltb}
+use Rattle.std.specs.Prelude.{List, [], ◌∷◌, ℕ, ◌+◌, ltb}
 use Rattle.base.specs.If.{if_b}
 use Rattle.order.specs.Kind.{vol, uvl, hdr, uhl, eof, eov, utl, data_block, tape_mark, end_of_reel, end_of_image, is_kind}
 use Rattle.order.specs.declared.Kind.{Kind}

@@ -6,30 +6,28 @@ use mathlib.Core.Bool.{Bool, true, false, false≢true}
 use mathlib.Core.List.{List, [], ◌∷◌, ◌++◌}
 use Prim.Native.Nat.{ℕ, ◌+◌, ◌≤◌}
 use native.Mathlib.Omega.{arith}
-use borrow.Author.Tests.{eq-eqb, le-leb, leb-true, eqb-true, eqb-false}
+use borrow.Author.Tests.{eq-eqb, le-leb, leb-true}
 use lib.Dec.{leb, eqb}
 use lib.ListN.{length, take, drop, get_or, length-append, length-drop}
 use lib.Seq.{get_or-take, get_or-drop, take-append-le, drop-append-le, drop-append-add}
 use Rattle.base.specs.If.{if_b}
 use Rattle.base.proofs.Ifs.{if_true, if_false, if_case}
-use Rattle.base.specs.Part.{part, same, all_are}
+use Rattle.base.specs.Part.{part, all_are}
 use Rattle.base.specs.Digits.{is_digit, all_digits, value, digits}
 use Rattle.base.specs.Answer.{fault}
 use Rattle.base.specs.declared.Fault.{Fault}
 use Rattle.base.proofs.Parts.{length_part, part_part}
 use Rattle.charset.specs.Class.{is_a, all_a}
 use Rattle.charset.specs.Number.{number_in}
-use Rattle.charset.specs.Date.{is_date}
 use Rattle.charset.specs.declared.Number.{Number}
 use Rattle.charset.specs.declared.Number.TheVariants.{Value, Wrong}
 use Rattle.charset.proofs.Numbers.{number_value}
 use Rattle.order.specs.Kind.{hdr, is_kind}
-use Rattle.order.specs.declared.Kind.{Kind}
 use Rattle.label.specs.Name.{hdr1_name, hdr2_name}
-use Rattle.label.specs.Field.{set_of, format_of, block_length_of, record_length_of, offset_of, least_record, suits, suits_both, is_length, is_record_length, is_positive, is_format, has_record_length, good}
+use Rattle.label.specs.Field.{set_of, format_of, block_length_of, record_length_of, offset_of, least_record, suits, suits_both, is_length, is_record_length, has_record_length, good}
 use Rattle.label.specs.Table.{hdr1, hdr2, fields_of, free, characters, spaces, zeros, digits as digits_rule, format_row, block_length_row, record_length_row, offset_row}
 use Rattle.label.specs.Judged.{good_at, wrong_in, access_of, access_at, label_fault}
-use Rattle.label.specs.Made.{fitted, laid, identifier_in, generation_in, version_in, created_in, expires_in, format_in, block_length_in, record_length_in, made_first, made_second}
+use Rattle.label.specs.Made.{fitted, laid, identifier_in, generation_in, version_in, created_in, format_in, block_length_in, made_first, made_second}
 use Rattle.label.proofs.Laid.{fielded, eighty_hdr1, eighty_hdr2}
 use Rattle.label.proofs.Every.{Hold, all_hold_lem, sound, sound_fields}
 use Rattle.label.proofs.Fine.{Suit, fields_in, filled_fine, suit_with, suit_other, read_suit}

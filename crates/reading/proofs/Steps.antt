@@ -14,7 +14,7 @@ use Rattle.label.specs.Judged.{label_fault}
 use Rattle.volume.specs.State.{State}
 use Rattle.volume.specs.Fault.{context_fault, item_fault, block_fault}
 use Rattle.volume.specs.Step.{Event, segments_in, files_after, continues_after, hdr1_after, hdr2_after, pending_after, state_after, events_of}
-use Rattle.order.proofs.Moves.{Stage, within, reel_over, Quiet, Move, stays, next_reel, header1, next_file, header2, datum, eof1, eov1, finish}
+use Rattle.order.proofs.Moves.{Stage, reel_over, Quiet, Move, stays, next_reel, header1, next_file, header2, datum, eof1, eov1, finish}
 use Rattle.base.proofs.Faults.{or_first, or_second}
 use Rattle.reading.proofs.Stages.{View, view, view_of, Holds, Promised, Outside, file_outside, reel_outside, end_idle, first_holds, first_promise, second_holds, second_promise, block_promise, end_promise, reel_promise}
 

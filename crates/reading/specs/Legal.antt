@@ -4,7 +4,7 @@
 use Rattle.std.specs.Prelude.{Bool, true, false, not, List, [], ◌∷◌, ◌++◌, ℕ, ◌+◌, eqb, leb, length, get_or}
 use Rattle.base.specs.If.{if_b}
 use Rattle.base.specs.Part.{all_are}
-use Rattle.base.specs.Format.{format_f, format_d, format_s}
+use Rattle.base.specs.Format.{format_f, format_d}
 use Rattle.base.specs.declared.Fault.{Fault}
 use Rattle.charset.specs.Number.{number_in}
 use Rattle.image.specs.Framing.{most_reels}

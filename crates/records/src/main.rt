@@ -27,12 +27,7 @@ fn write_refusal<W: Write>(out: &mut W, v: Verdict) -> io::Result<()> {
 }
 
 // The record at a place, and the place behind it.
-fn write_next<W: Write>(
-    out: &mut W,
-    image: &[u8],
-    walk: Walk,
-    join: &mut [u8],
-) -> io::Result<Walk>
+fn write_next<W: Write>(out: &mut W, image: &[u8], walk: Walk, join: &mut [u8]) -> io::Result<Walk>
     ensures { IfOk result (λ w. w ≡ (read_at image.now (length join.old) walk).walk) }
 {
     let x = next_at(image, walk, join);

@@ -2,7 +2,7 @@
 use mathlib.Core.Path.{◌≡◌, refl, sym, ap, ap₂, ◌∙◌, subst}
 use mathlib.Core.Bool.{Bool, true, false}
 use mathlib.Core.List.{List, [], ◌∷◌, ◌++◌}
-use Prim.Native.Nat.{ℕ, zero, suc, ◌+◌, ◌≤◌, ◌<◌, min}
+use Prim.Native.Nat.{ℕ, ◌+◌, ◌≤◌, ◌<◌}
 use native.Mathlib.Omega.{arith}
 use borrow.Author.Rules.{rules}
 use borrow.Author.Tests.{eqb-false, leb-false}
@@ -13,7 +13,7 @@ use Rattle.base.proofs.Ifs.{if_true, if_false, if_case, ap_if, so_true, so_false
 use Rattle.base.specs.Part.{part}
 use Rattle.base.proofs.Parts.{part_part}
 use Rattle.base.proofs.Faults.{or_second}
-use Rattle.base.specs.Answer.{fault, or_else}
+use Rattle.base.specs.Answer.{fault}
 use Rattle.base.specs.declared.Fault.{Fault}
 use Rattle.image.specs.Framing.{most_reels}
 use Rattle.order.specs.Kind.{vol, hdr, eov, eof, data_block, is_kind}
@@ -24,7 +24,6 @@ use Rattle.label.specs.Field.{volume_of}
 use Rattle.label.specs.Judged.{label_fault}
 use Rattle.block.specs.declared.Outcome.{Outcome}
 use Rattle.volume.specs.declared.Reading.{Reading}
-use Rattle.volume.specs.State.{State}
 use Rattle.volume.specs.Fault.{names_at, outcome_in, volume_fault, context_fault, item_fault}
 use Rattle.volume.specs.Step.{state_after, volumes_after, files_after, continues_after, hdr1_after, hdr2_after, count_after, pending_after}
 use Rattle.volume.specs.Code.Place.{label_at, contents}

@@ -1,29 +1,24 @@
 -- Laws of reading data blocks in a row. Assumes nothing.
-use mathlib.Core.Path.{◌≡◌, refl, sym, ap, ◌∙◌, subst}
-use mathlib.Core.Bool.{Bool, true, false}
-use mathlib.Core.List.{List, [], ◌∷◌}
-use Prim.Native.Nat.{ℕ, suc, ◌+◌, ◌-◌, ◌≤◌, ◌<◌, ◌^◌}
+use mathlib.Core.Path.{◌≡◌, refl, sym, ap, ◌∙◌}
+use mathlib.Core.List.{List}
+use Prim.Native.Nat.{ℕ, ◌+◌, ◌-◌, ◌≤◌, ◌<◌}
 use native.Mathlib.Nat.{le_refl}
 use native.Mathlib.Omega.{arith}
 use mir.Val.{Fits}
 use mir.Syntax.{w32, w64}
 use borrow.Author.Rules.{rules}
 use borrow.Author.Tests.{eq-eqb}
-use lib.Dec.{eqb}
 use lib.ListN.{length, take, drop}
 use Rattle.base.specs.If.{if_b}
 use Rattle.base.proofs.Ifs.{if_true}
 use Rattle.base.specs.Part.{part}
 use Rattle.base.specs.Answer.{fault, or_else}
 use Rattle.base.proofs.Parts.{part_within}
-use Rattle.image.specs.Item.{Item, block, decode, shape, block_length, item_of}
-use Rattle.image.specs.Framing.{most_image}
-use Rattle.image.specs.declared.Shape.{Shape}
+use Rattle.image.specs.Item.{block, decode, shape, block_length}
 use Rattle.image.specs.declared.Shape.TheVariants.{Block}
 use Rattle.image.proofs.Items.{block_within, block_there, decode_block}
 use Rattle.order.specs.Kind.{data_block, is_kind}
 use Rattle.order.specs.Due.{due_after, dues, choose}
-use Rattle.label.specs.Field.{format_of, block_length_of, record_length_of, offset_of}
 use Rattle.label.specs.Table.{fields_of}
 use Rattle.label.specs.Judged.{label_fault, field_fault, first_bad, access_of, access_at}
 use Rattle.block.specs.Turn.{block_outcome}
@@ -31,8 +26,8 @@ use Rattle.block.specs.declared.Outcome.{Outcome}
 use Rattle.volume.specs.declared.blocks.Lengths.{Lengths}
 use Rattle.volume.specs.declared.blocks.Between.{Between}
 use Rattle.volume.specs.State.{State}
-use Rattle.volume.specs.Fault.{value_of, outcome_in, block_fault, context_fault, item_fault}
-use Rattle.volume.specs.Step.{Event, Next, go, step, ordered, judged, kind_in, bytes_in, is_due, state_after, events_of, volumes_after, files_after, continues_after, hdr1_after, hdr2_after, count_after, pending_after}
+use Rattle.volume.specs.Fault.{outcome_in, block_fault, context_fault, item_fault}
+use Rattle.volume.specs.Step.{go, step, ordered, judged, kind_in, bytes_in, is_due, state_after, events_of, volumes_after, files_after, continues_after, hdr1_after, hdr2_after, count_after, pending_after}
 use Rattle.volume.specs.Code.Told.{told_from}
 use Rattle.volume.specs.Code.Body.{body, Given, PlaceInside, told_between, DidSkip, between}
 use Rattle.volume.proofs.Runs.{told_go}

@@ -26,7 +26,6 @@ use Rattle.order.specs.declared.Phase.{Phase}
 use Rattle.order.specs.declared.Due.{Due}
 use Rattle.order.specs.declared.Due.TheVariants.{To, Wrong}
 use Rattle.base.proofs.Parts.{part_within}
-use Rattle.label.specs.Name.{named}
 use Rattle.volume.specs.declared.Reading.{Reading}
 use Rattle.volume.specs.declared.walk.Spot.{Spot}
 use Rattle.volume.specs.declared.walk.Turn.{Turn}

@@ -16,10 +16,8 @@ use Rattle.order.specs.declared.Phase.TheVariants.{Data, Reel}
 use Rattle.base.specs.If.{if_b}
 use Rattle.base.proofs.Ifs.{if_true, if_false}
 use Rattle.base.specs.Part.{part}
-use Rattle.base.specs.Answer.{fault}
 use Rattle.base.specs.declared.Verdict.{Verdict}
 use Rattle.image.specs.Item.{decode}
-use Rattle.label.specs.Name.{named}
 use Rattle.volume.specs.declared.walk.Spot.{Spot}
 use Rattle.volume.specs.declared.walk.Turn.{Turn}
 use Rattle.volume.specs.declared.blocks.Lengths.{Lengths}
@@ -33,7 +31,6 @@ use Rattle.volume.specs.Code.Place.{contents, label_at}
 use Rattle.volume.specs.Code.Walk.{told_at, told_end, told_after, places_after, DidStart, Walked, DidPass, FrameHere, Bounded, DidTurn}
 use Rattle.volume.proofs.Reels.{told_whole}
 use Rattle.volume.proofs.Walks.{end_good, end_bad}
-use Rattle.volume.proofs.WalkItems.{passed, items}
 
 -- ---- data blocks in a row
 

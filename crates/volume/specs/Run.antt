@@ -1,7 +1,7 @@
 -- The reading of a whole set, and the verdict on an image. Document 01, "Numbers given back": over-long image, then 1, then 2 for
 -- the whole image, then the first wrong item; an image that ends too early for the reel order names the number after its last
 -- item.
-use Rattle.std.specs.Prelude.{Bool, true, false, List, [], ◌∷◌, ◌++◌, ℕ, suc, ◌+◌, eqb}
+use Rattle.std.specs.Prelude.{List, [], ◌∷◌, ◌++◌, ℕ, suc, ◌+◌, eqb}
 use Rattle.base.specs.If.{if_b}
 use Rattle.base.specs.Answer.{verdict}
 use Rattle.base.specs.declared.Verdict.{Verdict}

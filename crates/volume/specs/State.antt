@@ -1,5 +1,5 @@
 -- What the reading of a set knows behind an item: contents and numbers, no places in the image.
-use Rattle.std.specs.Prelude.{Bool, true, false, List, [], ℕ}
+use Rattle.std.specs.Prelude.{Bool, false, List, [], ℕ}
 use Rattle.order.specs.declared.Phase.{Phase}
 use Rattle.order.specs.declared.Phase.TheVariants.{Reel}
 

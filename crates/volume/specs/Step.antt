@@ -14,7 +14,6 @@ use Rattle.order.specs.declared.Due.TheVariants.{To, Wrong}
 use Rattle.label.specs.Name.{kind_of}
 use Rattle.label.specs.Field.{format_of, block_length_of, record_length_of, offset_of, volume_of}
 use Rattle.block.specs.Cut.{Segment, units}
-use Rattle.block.specs.declared.Outcome.{Outcome}
 use Rattle.volume.specs.State.{State}
 use Rattle.volume.specs.Fault.{item_fault, outcome_in, value_of}
 

@@ -1,6 +1,4 @@
 use Rattle.block.proofs.Helds.{endings}
-use Rattle.block.proofs.ends_with.Reads as reads
-use Rattle.block.proofs.ends_with.Lts as lts
 use Rattle.block.proofs.ends_with.Goals as goal
 
 -- src/lib.rt:576:9

@@ -1,8 +1,5 @@
 use Rattle.base.proofs.Rules.{ifs}
 use Rattle.image.specs.Framing.{opens}
-use Rattle.image.proofs.opens.Reads as reads
-use Rattle.image.proofs.opens.Lts as lts
-use Rattle.image.proofs.has_head.Reads as has-head-reads
 use Rattle.image.proofs.opens.Goals as goal
 
 -- src/lib.rt:87:9

@@ -1,7 +1,4 @@
 use Rattle.sections.proofs.Filled.{made}
-use Rattle.sections.proofs.file_end.Reads as reads
-use Rattle.sections.proofs.file_end.Lts as lts
-use Rattle.sections.proofs.trailers.Reads as trailers-reads
 use Rattle.sections.proofs.file_end.Goals as goal
 
 -- src/lib.rt:129:1

@@ -1,5 +1,5 @@
 -- Reading on between the marks around the data blocks of a section: what of a state changes there, and what does not.
-use Rattle.std.specs.Prelude.{◌≡◌, List, ℕ, ◌≤◌, ◌<◌, length, drop}
+use Rattle.std.specs.Prelude.{◌≡◌, List, ℕ, ◌≤◌, length, drop}
 use Rattle.image.specs.Item.{decode}
 use Rattle.image.specs.Framing.{most_image}
 use Rattle.order.specs.declared.Phase.TheVariants.{Data}

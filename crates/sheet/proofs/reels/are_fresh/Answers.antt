@@ -1,9 +1,4 @@
 use Rattle.sheet.proofs.Names.{freshes}
-use Rattle.sheet.proofs.reels.are_fresh.Reads as reads
-use Rattle.sheet.proofs.reels.are_fresh.Lts as lts
-use Rattle.base.proofs.part_of.Reads as part-of-reads
-use Rattle.sheet.proofs.reels.is_legal_name.Reads as is-legal-name-reads
-use Rattle.volume.proofs.is_among.Reads as is-among-reads
 use Rattle.sheet.proofs.reels.are_fresh.Goals as goal
 
 -- src/reels.rt:55:5

@@ -1,11 +1,6 @@
 use Prim.Native.Nat.{◌-◌}
 use lib.ListN.{length}
 use Rattle.sheet.proofs.Names.{Fresh}
-use Rattle.sheet.proofs.reels.are_fresh.Reads as reads
-use Rattle.sheet.proofs.reels.are_fresh.Lts as lts
-use Rattle.base.proofs.part_of.Reads as part-of-reads
-use Rattle.sheet.proofs.reels.is_legal_name.Reads as is-legal-name-reads
-use Rattle.volume.proofs.is_among.Reads as is-among-reads
 use Rattle.sheet.proofs.reels.are_fresh.Given as goal
 
 abbrev pub invariant-loop-at : goal.invariant-loop-at
