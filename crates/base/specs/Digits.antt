@@ -1,5 +1,5 @@
 -- Decimal digits: the number that a list of digit characters means, and the digits of a number at a width.
--- One law for every width, `value-digits`, serves each number field of a label and each control word.
+-- One law for every width, `value_digits`, serves each number field of a label and each control word.
 -- Assumes nothing.
 use Rattle.std.specs.Prelude.{Bool, true, false, ◌&&◌, List, [], ◌∷◌, ◌++◌, ℕ, zero, suc, ◌+◌, ◌*◌, ◌-◌, ◌/◌, ◌%◌, leb}
 use Rattle.base.specs.If.{if_b}

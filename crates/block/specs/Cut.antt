@@ -1,6 +1,6 @@
 -- Cutting a data block into units. Document 01, "Blocks and records": a data block is at most B bytes, and at least O. Skip O
 -- bytes. Then come one or more units, then only bytes 5E hexadecimal.
--- `cut` counts down a number that is large enough; `cut-unit` and `cut-end` (proofs/Cuts.antt) are its equations.
+-- `cut` counts down a number that is large enough; `cut_unit` and `cut_end` (proofs/Cuts.antt) are its equations.
 use Rattle.std.specs.Prelude.{Bool, true, false, List, [], ◌∷◌, ℕ, zero, suc, ◌+◌, leb, length, drop}
 use Rattle.std.proofs.Math.Option.{Option, none, some}
 use Rattle.base.specs.If.{if_b}

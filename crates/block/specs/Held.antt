@@ -1,7 +1,7 @@
 -- What one data block holds, in numbers. Document 02, P13: data bytes split exactly into record, control word, padding and offset
 -- bytes.
 -- A record counts in the block in which it ends; a block that cannot be cut holds nothing that counts.
--- `held-adds` (proofs/Helds.antt): the four kinds of bytes of a block that can be cut add up to its length.
+-- `held_adds` (proofs/Helds.antt): the four kinds of bytes of a block that can be cut add up to its length.
 use Rattle.std.specs.Prelude.{◌≡◌, List, map, ℕ, ◌+◌, ◌-◌, ◌*◌, ◌≤◌, eqb, length, drop}
 use Rattle.std.proofs.Math.Option.{Option, none, some}
 use Rattle.base.specs.If.{if_b}

@@ -1,7 +1,7 @@
 -- What a file holds, in numbers: what each of its data blocks holds, added up, on whatever reels they stand; and the place behind
 -- the last of them.
 -- Document 02, P13: a total is the sum of the numbers that the definitions give.
--- `held_f` counts down a number that is large enough; `held-block` and `held-over` (proofs/Helds.antt) are the equations of
+-- `held_f` counts down a number that is large enough; `held_block` and `held_over` (proofs/Helds.antt) are the equations of
 -- `held_from`.
 use Rattle.std.specs.Prelude.{List, ℕ, zero, suc, ◌+◌, ◌<◌, length, drop}
 use Rattle.base.specs.Part.{part}

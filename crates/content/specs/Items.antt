@@ -1,5 +1,5 @@
 -- An image item by item, for whoever shows or lists it: what stands at a place, whatever stood before it, accepted or not. Of an
--- accepted set these are its items, with the kinds by which it was checked (`Met` below; `items-met` in proofs/Shown.antt).
+-- accepted set these are its items, with the kinds by which it was checked (`Met` below; `items_met` in proofs/Shown.antt).
 -- The first item stands at place 5 among labels; the next one behind it, in the group that the answer names.
 use Rattle.std.specs.Prelude.{◌≡◌, Bool, List, [], ◌∷◌, ℕ, ◌+◌, ◌-◌, eqb, leb, length, drop}
 use Rattle.base.specs.If.{if_b}

@@ -1,5 +1,5 @@
 -- What a walk hands out, record by record, where it ends, and what going from file to file meets.
--- `along` counts down a number that is large enough; `along-more` and `along-over` (proofs/Records.antt) are its equations.
+-- `along` counts down a number that is large enough; `along_more` and `along_over` (proofs/Records.antt) are its equations.
 use Rattle.std.specs.Prelude.{◌≡◌, List, [], ◌∷◌, map, ℕ, zero, suc, ◌+◌, ◌≤◌, length}
 use Rattle.base.specs.Part.{part}
 use Rattle.base.specs.Sum.{sum}

@@ -1,6 +1,6 @@
 -- The record that stands whole in what is left of the current block, or at the head of the next: most records do, and one number
 -- tells them.
--- `record-whole` (proofs/Wholes.antt) says that it is the record at the walk's place. And the segment that stands there, which
+-- `record_whole` (proofs/Wholes.antt) says that it is the record at the walk's place. And the segment that stands there, which
 -- one number tells as well.
 use Rattle.std.specs.Prelude.{List, ℕ, ◌+◌, ◌-◌, leb, eqb, drop}
 use Rattle.base.specs.If.{if_b}

@@ -41,7 +41,6 @@ use Rattle.writing.specs.Rewrite.{sheet_from, rewrite}
 use Rattle.demands.specs.Operations.{Handing, Moving, Listing, listing, Operations, ours}
 use Rattle.demands.specs.Terms.{OutOf, no_record, Handed, one, several, located_in, handing, row_on, row_by, Fits, image, WriteOutcome, fits, illegal, few_reels, too_long, no_room}
 use Rattle.demands.proofs.Normal.{written, write_outcome, rewritten}
-use Rattle.demands.proofs.NewYear.{first}
 use Rattle.demands.specs.Demands.{Demand1, Demand2}
 use Rattle.demands.proofs.Witness.{set, names, document01, set_accepted, reels_legal, set_fits, sheet_legal, sheet_fits, size, miscounted, ledger_file, set_files, record_found, lost_reel, lost, no_sheet, no_sheet_legal}
 

@@ -9,7 +9,6 @@ use lib.Seq.{take_at}
 use Rattle.base.specs.If.{if_b}
 use Rattle.base.specs.Answer.{verdict}
 use Rattle.base.specs.declared.Verdict.{Verdict}
-use Rattle.base.specs.Part.{same}
 use Rattle.image.specs.Item.{Item, three as three_bytes, bytes_of, encode_by, encode}
 use Rattle.image.specs.Framing.{items}
 use Rattle.output.specs.Output.{refused_with, image_in}
@@ -19,7 +18,7 @@ use Rattle.volume.proofs.Accepted.{accepted_iff, done_accepted}
 use Rattle.reading.proofs.Dates.{later_dates}
 use Rattle.writing.specs.Lay.{laid, lay}
 use Rattle.writing.specs.Rewrite.{sheet_from, rewrite}
-use Rattle.demands.specs.Terms.{one, Fits, image, fits}
+use Rattle.demands.specs.Terms.{Fits}
 use Rattle.demands.proofs.Normal.{sheet_same}
 use Rattle.demands.proofs.NewYear.{first, reel, ledger, new_year, old_year, image_of, new_year_lem}
 use Rattle.demands.specs.Demands.{Demand3}

@@ -37,8 +37,8 @@ pub record Demand1 (p : Operations) : Type 0 where
   -- "Each refusal has its number and place, and changes no byte of a lent buffer." Reading: 1 to 9, with the byte of a field for
   -- 4, 5 and 6 and none for another; the item is below, in `first_wrong`. All others: the verdict on what was given, or a number
   -- without a place, and nothing is handed out, moved or written.
-  -- Ruled out: a writer that fails half way through its buffer (`half-way`), a step that refuses and has moved the walk
-  -- (`moves-and-refuses`), a number that no table has (`unknown-number`).
+  -- Ruled out: a writer that fails half way through its buffer (`half_way`), a step that refuses and has moved the walk
+  -- (`moves_and_refuses`), a number that no table has (`unknown_number`).
   pub check : (s : List ℕ) → Placed (p.check s).number (p.check s).byte
   pub begin : (s : List ℕ) (n : ℕ)
       → Answered (p.check s) (13 ∷ []) (p.begin s n).verdict (p.begin s n ≡ beginning_of (NotBegun (p.begin s n).verdict))
@@ -79,7 +79,7 @@ pub record Demand1 (p : Operations) : Type 0 where
 -- "A set is accepted whole or not at all": of a refused image beginning a file, asking for a record and rewriting answer with its
 -- verdict, and the listing is its line. (A step, facts and a part have no place for a verdict: they need a walk or a record that
 -- was found. Export goes by the framing alone, as document 02 has it.) Ruled out: a reader that hands over what came before the
--- fault (`hands-over`).
+-- fault (`hands_over`).
 pub record NotAtAll (p : Operations) (s : List ℕ) : Type 0 where
   pub begin : (n : ℕ) → p.begin s n ≡ beginning_of (NotBegun (p.check s))
   pub find : (n r : ℕ) (old : List ℕ) → p.find s n r old ≡ no_record (p.check s) old
@@ -89,23 +89,23 @@ pub record NotAtAll (p : Operations) (s : List ℕ) : Type 0 where
 
 pub record Demand2 (p : Operations) : Type 0 where
   -- "2. A set is accepted exactly when its image, labels, marks, blocks and cross-checks follow ECMA-13, fourth edition, as cut
-  -- down in document 01;" Ruled out: a checker that refuses all sets (`refuses-all`), or accepts all (`accepts-all`), or names a
-  -- later item (`later-fault`).
+  -- down in document 01;" Ruled out: a checker that refuses all sets (`refuses_all`), or accepts all (`accepts_all`), or names a
+  -- later item (`later_fault`).
   pub accepted : (s : List ℕ) → (p.check s ≡ verdict 0 0 0) ↔ Accepted s
   pub first_wrong : (s : List ℕ) → (Accepted s → ⊥) → FirstFault s (p.check s)
   pub whole : (s : List ℕ) → (Accepted s → ⊥) → NotAtAll p s
   -- "the records handed out are exactly those it holds, in order." Each file of the meaning by its number, with its records by a
   -- walk and by number; 13 for any other. The definitions that the promises cite decide where a file stands and, from any walk
-  -- whatever, what a step gives. Ruled out: a walk that stays at the first record (`stands-still`), one file for another (the
-  -- edit `first_file_for_each`), a buffer asked for where the record is one unit (`joins-all`), a step that hands out all of an
-  -- image, whatever it is (`hands-over-all`).
+  -- whatever, what a step gives. Ruled out: a walk that stays at the first record (`stands_still`), one file for another (the
+  -- edit `first_file_for_each`), a buffer asked for where the record is one unit (`joins_all`), a step that hands out all of an
+  -- image, whatever it is (`hands_over_all`).
   pub files : (s : List ℕ) (ds : List File) (d : File) (es : List File) → Accepted s → (content s).files ≡ ds ++ (d ∷ es)
       → FileGiven p s (length ds + 1) d
   pub no_file : (s : List ℕ) (n : ℕ) → Accepted s → OutOf (length (content s).files) n
       → (p.begin s n ≡ beginning_of (NotBegun (verdict 13 0 0)))
       × ((r : ℕ) (old : List ℕ) → p.find s n r old ≡ no_record (verdict 13 0 0) old)
   pub begin : (s : List ℕ) (n : ℕ) → p.begin s n ≡ beginning_of (begun_at s n)
-  -- From file to file it is the same way as by their numbers. Ruled out: a search that stays at its file (`same-file-again`).
+  -- From file to file it is the same way as by their numbers. Ruled out: a search that stays at its file (`same_file_again`).
   pub first : (s : List ℕ) → Accepted s → p.first s ≡ p.begin s 1
   pub further : (s : List ℕ) (n : ℕ) → (p.begin s n).verdict.number ≡ 0
       → p.further s (p.begin s n).hdr1 (p.begin s n).hdr2 ≡ p.begin s (n + 1)
@@ -118,7 +118,7 @@ pub record Demand2 (p : Operations) : Type 0 where
       → p.step s w old ≡ record { answer = stepped_of w (step_at s (length old) w); left = join_at s old w }
   -- Steps at once are steps one by one, as many as both lists have room for, up to the first that gives no part of the image:
   -- they put these parts, and nothing else, at the front of the lists.
-  -- Ruled out: one that takes no step (`Takes-none`).
+  -- Ruled out: one that takes no step (`takes_none`).
   pub steps : (s : List ℕ) (w : Walk) (places lengths : List ℕ)
       → p.steps s w places lengths ≡ listing places lengths (row_by p s (min (length places) (length lengths)) w)
   pub facts : (s : List ℕ) (w : Walk) → p.facts s w ≡ facts_of (records_at s w)
@@ -126,13 +126,13 @@ pub record Demand2 (p : Operations) : Type 0 where
   pub listed : (s out : List ℕ) → Accepted s → p.list s out ≡ fitted (listing_of (content s)) out
   -- "The reel writer turns any order sheet that it doesn't refuse into the image fixed there, which reads back as an accepted set
   -- with that sheet's meaning." It does not refuse a legal one whose image has room. Ruled out: an idle writer (`idle`), one that
-  -- refuses all (`refuses-sheets`), a made-up trailer count (`made-up-count`), 10 for every refusal (`ten-for-all`).
+  -- refuses all (`refuses_sheets`), a made-up trailer count (`made_up_count`), 10 for every refusal (`ten_for_all`).
   pub written : (x : Flat) (out : List ℕ) → sheet_number x ≡ 0 → Fits (sheet_of x) (length out) → (p.write x out).number ≡ 0
   pub outcome : (x : Flat) (out : List ℕ) → WriteOutcome (sheet_number x) (sheet_of x) out (p.write x out)
   pub reads_back : (x : Flat) (out : List ℕ) → (p.write x out).number ≡ 0
       → Means (take (p.write x out).len (p.write x out).out) (sheet_of x).meaning
   -- "Document 01 defines meaning and rewriting": the writer on the sheet with the set's meaning. Ruled out: a rewriter that fills
-  -- the buffer behind its image (`fills-behind`).
+  -- the buffer behind its image (`fills_behind`).
   pub rewritten : (s : List ℕ) (quota : ℕ) (names out : List ℕ) → Accepted s
       → (w : Written) × WriteOutcome (reels_number quota names) (sheet_from s quota names) out w
       × (p.rewrite s quota names out ≡ placed w)
@@ -143,7 +143,7 @@ pub record Demand2 (p : Operations) : Type 0 where
 -- One accepted set rewritten into buffer o.
 pub record Normal (p : Operations) (s : List ℕ) (quota : ℕ) (names o : List ℕ) : Type 0 where
   -- "Then rewriting refuses neither set, whatever the buffers lent to write into held before." Ruled out: a rewriter that says 12
-  -- always (`twelve`), or 10 where the buffer begins with 0 (`ten-at-zero`).
+  -- always (`twelve`), or 10 where the buffer begins with 0 (`ten_at_zero`).
   pub done : (p.rewrite s quota names o).verdict ≡ verdict 0 0 0
   -- "Each written image is an accepted set with the same meaning, records included, as the set it was written from." Ruled out:
   -- one fixed set (`fixed`).

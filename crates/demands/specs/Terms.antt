@@ -4,8 +4,7 @@ use Rattle.base.specs.If.{if_b}
 use Rattle.base.specs.Answer.{verdict}
 use Rattle.base.specs.declared.Verdict.{Verdict}
 use Rattle.image.specs.Item.{Item, encode}
-use Rattle.image.specs.Framing.{items, head, most_image}
-use Rattle.volume.specs.State.{start}
+use Rattle.image.specs.Framing.{head, most_image}
 use Rattle.content.specs.Walk.{whole, Record, split, record_at}
 use Rattle.base.specs.Part.{part, put_at}
 use Rattle.output.specs.Output.{Written, refused}

@@ -3,7 +3,7 @@
 -- 16,777,215 the end of the reel; any other length is wrong.
 --
 -- Read first: `shape`, what stands at the head of some bytes; `decode`, the items of the bytes behind the five-byte head, of
--- which `decode-none` and `decode-more` (proofs/Items.antt) are the equations; `encode`, the bytes of items.
+-- which `decode_none` and `decode_more` (proofs/Items.antt) are the equations; `encode`, the bytes of items.
 -- A wrong length, or an item cut short, is the item `broken`, behind which nothing is read: `decode` is total.
 use Rattle.std.specs.Prelude.{List, [], ◌∷◌, ◌++◌, ℕ, zero, suc, ◌+◌, ◌*◌, ◌/◌, ◌%◌, leb, eqb, length, drop, get_or}
 use Rattle.base.specs.If.{if_b}

@@ -28,7 +28,7 @@ unfoldable pub opened_at : List ℕ → Walk → ℕ → Opened
 opened_at s w n = opened_by w (begun_at s n)
 
 -- file n opened from nowhere, and the facts of the records from there on; with a refusal that is nowhere, and there are none
--- (`nowhere-none`, proofs/Places.antt)
+-- (`nowhere_none`, proofs/Places.antt)
 unfoldable pub count_at : List ℕ → ℕ → FileFacts
 count_at s n = record { verdict = (opened_at s no_walk n).verdict; facts = facts_of (records_at s (opened_at s no_walk n).walk) }
 

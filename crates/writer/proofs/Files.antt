@@ -24,7 +24,7 @@ use Rattle.sections.specs.Section.{headers, file_end}
 use Rattle.writer.specs.declared.pen.Pen.{Pen}
 use Rattle.writer.specs.declared.source.Cursor.{Cursor}
 use Rattle.writer.specs.declared.body.Body.{Body}
-use Rattle.writer.specs.Code.Pass.{reels_at, Job, job, ink_at, lacks, inked, PassEnd, behind, inked_at, outcome, rest_of, ends, laid_from, EndsWithin, between, fill_of, after_of, fill_due, left_due, penned}
+use Rattle.writer.specs.Code.Pass.{reels_at, Job, job, ink_at, inked, PassEnd, behind, inked_at, outcome, rest_of, ends, laid_from, EndsWithin, between, fill_of, after_of, fill_due, left_due, penned}
 use Rattle.writer.specs.Code.Pens.{CanClose, DidClose}
 use Rattle.writer.specs.Code.Bodies.{CanPutRecords, DidPutRecords}
 use Rattle.writer.specs.Code.Files.{CanBegin, begun, DidBegin, CanEnd, DidEnd, CanPutEnd, DidPutEnd}

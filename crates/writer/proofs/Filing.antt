@@ -12,7 +12,7 @@ use Rattle.volume.specs.Meaning.{File}
 use Rattle.reading.specs.Legal.{format_from, block_length_from, record_length_from, legal_files}
 use Rattle.writing.specs.Pack.{blocks_of}
 use Rattle.writing.specs.Code.Room.{RoomEach}
-use Rattle.writing.specs.Lay.{short, put, Sequel, rest, lay_files}
+use Rattle.writing.specs.Lay.{put, Sequel, rest, lay_files}
 use Rattle.sections.specs.Section.{headers}
 use Rattle.writing.proofs.Packing.{by_test}
 use Rattle.writing.proofs.PackedFiles.{Suited, legal_room}

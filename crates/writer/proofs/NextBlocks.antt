@@ -8,7 +8,7 @@ use native.Mathlib.Numerals.{add-one}
 use borrow.Author.Rules.{rules}
 use lib.ListN.{length}
 use Rattle.image.specs.Item.{block}
-use Rattle.writing.specs.Lay.{Laid, short, put, Sequel, rest}
+use Rattle.writing.specs.Lay.{Laid, put, Sequel, rest}
 use Rattle.sections.proofs.Lengths.{length_block}
 use Rattle.writer.specs.declared.pen.Pen.{Pen}
 use Rattle.writer.specs.Code.Pass.{reels_at, Job, inked, PassEnd, outcome, rest_of, ends, EndsWithin, Sound}

@@ -12,7 +12,7 @@ use Rattle.base.specs.If.{if_b}
 use Rattle.base.proofs.Ifs.{if_true, if_false}
 use Rattle.base.specs.Part.{put_in}
 use Rattle.image.specs.Item.{three}
-use Rattle.writing.specs.Lay.{short, Sequel}
+use Rattle.writing.specs.Lay.{Sequel}
 use Rattle.writing.proofs.Packing.{by_test}
 use Rattle.image.proofs.Words.{length_word_put}
 use Rattle.base.proofs.Copies.{kept_in}

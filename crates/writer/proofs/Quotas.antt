@@ -10,7 +10,6 @@ use lib.Dec.{eqb, leb}
 use lib.ListN.{length, take, drop, get_or, replicate, length-drop, length-take, get_or-replicate}
 use Rattle.base.proofs.Ifs.{if_true, if_false}
 use Rattle.base.specs.Part.{put_at}
-use Rattle.base.specs.Answer.{verdict}
 use Rattle.base.specs.declared.Verdict.{Verdict}
 use Rattle.volume.specs.Run.{image_verdict}
 use Rattle.reading.specs.Legal.{fresh_names, legal_names, legal_quota}

@@ -10,8 +10,8 @@ use Rattle.base.proofs.Ifs.{if_true}
 use Rattle.base.specs.Part.{part}
 use Rattle.base.proofs.Parts.{length_part, part_within}
 use Rattle.writing.specs.Pack.{Left, going, start_of, blocks_left}
-use Rattle.block.specs.Room.{enters, taken}
-use Rattle.writing.specs.Lay.{rest, Sequel}
+use Rattle.block.specs.Room.{taken}
+use Rattle.writing.specs.Lay.{Sequel}
 use Rattle.writing.proofs.Packing.{by_test}
 use Rattle.writer.specs.declared.pen.Pen.{Pen}
 use Rattle.writer.specs.declared.pack.Flow.{Flow}

@@ -11,13 +11,13 @@ use Rattle.base.proofs.Ifs.{if_true, if_false, if_same}
 use Rattle.image.specs.Item.{Item, encode}
 use Rattle.reading.specs.Legal.{format_from, block_length_from}
 use Rattle.writing.specs.Pack.{Left, finished, start_of, blocks_left, blocks_f, weight, blocks_of}
-use Rattle.writing.specs.Lay.{Laid, laid, short, Sequel, rest}
+use Rattle.writing.specs.Lay.{Laid, Sequel, rest}
 use Rattle.sections.specs.Section.{headers, file_end}
 use Rattle.writing.proofs.Packing.{by_test}
 use Rattle.writer.specs.declared.pen.Pen.{Pen}
 use Rattle.writer.specs.declared.source.Cursor.{Cursor}
 use Rattle.writer.specs.declared.body.Body.{Body}
-use Rattle.writer.specs.Code.Pass.{reels_at, Job, lacks, PassEnd, behind, rest_of, ends, laid_from, EndsWithin, Sound, between, fill_of, after_of, fill_due, left_due, penned}
+use Rattle.writer.specs.Code.Pass.{reels_at, Job, PassEnd, behind, rest_of, ends, laid_from, EndsWithin, Sound, between, fill_of, after_of, fill_due, left_due, penned}
 use Rattle.writer.specs.Code.Source.{records_of}
 use Rattle.writer.specs.Code.Bodies.{CanPutRecords, DidPutRecords}
 use Rattle.writer.specs.Code.Files.{CanBegin, begun, DidBegin, CanPutEnd, DidPutEnd, file_laid, filed_from, next_from, CanPutFile, DidPutFile}

@@ -3,7 +3,7 @@
 --
 -- The three formats differ in three numbers: the bytes of a control word, whether a unit enters the open block, and how many
 -- bytes it takes.
--- `fill` is the open block from here on, `after` is what is left behind it; `blocks-going` (proofs/Packing.antt) is the equation
+-- `fill` is the open block from here on, `after` is what is left behind it; `blocks_going` (proofs/Packing.antt) is the equation
 -- of `blocks_left`.
 use Rattle.std.specs.Prelude.{List, [], ◌∷◌, ◌++◌, ℕ, zero, suc, ◌+◌, eqb, length, take, drop}
 use Rattle.base.specs.If.{if_b}

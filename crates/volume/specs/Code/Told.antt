@@ -1,5 +1,5 @@
 -- The verdict as a walk finds it: reading goes on to the first wrong item, and from that item on the framing is asked for. All
--- before it was read without fault and is well framed, so this is the verdict on the whole image: `told-whole`
+-- before it was read without fault and is well framed, so this is the verdict on the whole image: `told_whole`
 -- (proofs/Reels.antt).
 use Rattle.std.specs.Prelude.{Bool, false, not, List, [], ◌∷◌, ℕ, ◌+◌, ◌-◌, eqb, length}
 use Rattle.base.specs.If.{if_b}
