@@ -1,21 +1,76 @@
 """Rattle and antt as words: what `.ci/contracts` and `.ci/believed` read in a source file."""
 import re
+import shutil
+import subprocess
 import sys
+from pathlib import Path
+from typing import NamedTuple
 
-CLAUSES = {"requires", "ensures", "ghost"}
-
-QUOTED = r'"(?:\\.|[^"\\])*"'
-HIDDEN = {
-    ".antt": re.compile(QUOTED + r"|(?<![^\s(){}.;,@])--(?![^\s-])[^\n]*|\{-.*?-\}", re.S),
-    ".rt": re.compile(QUOTED + r"|\bb'(?:\\.[^']*|[^\\])'|//[^\n]*|/\*.*?\*/", re.S),
-}
-RATTLE = re.compile(r"\w+|::|\S")
+CODE = re.compile(r"\w+|::|\S")
 ANTT = re.compile(r"«[^»]*»|[(){}.;,@]|[^\s(){}.;,@«»]+")
 
 
-def bare(file):
-    """The text of a file, with its comments and quoted texts blank, so that all else stays at its place."""
-    return HIDDEN[file.suffix].sub(lambda hidden: re.sub(r"\S", " ", hidden[0]), file.read_text())
+class Ghost(NamedTuple):
+    """A text of antt in a file of Rattle: a clause, a ghost item, or what stands behind `ghost use`."""
+
+    kind: str  # the word that it begins with: requires, ensures, ghost, use; = and by for what follows the type of a ghost item
+    name: str
+    place: int
+    words: list
+
+
+class Source:
+    """A file with its comments and quoted texts blank, so that all else stays on its line.
+
+    Of a file of Rattle `code` has what is Rattle's, at the places of `text`, and `ghosts` the texts of antt.
+    """
+
+    def __init__(self, file, data, tokens):
+        text, code, place, end = [], [], 0, 0
+        # the head of the ghost text that is open, with the place of each of its words, and where its body begins
+        head, body, bodies = [], None, []
+        for start, stop, kind in [*tokens, (len(data), len(data), b"Code")]:
+            gap, word = blank(data[end:start]), (blank if kind in (b"Literal", b"Text") else bytes.decode)(data[start:stop])
+            at, end = place + len(gap), stop
+            if body is not None and (kind == b"End" or head[0][0] == "use" and (kind, word) == (b"Code", ";")):
+                bodies.append((head, body, at))
+                head, body = [], None
+            elif kind == b"Head":
+                head.append((word, at))
+            place = at + len(word)
+            if kind == b"Head" and word in ("{", "use"):
+                body = place
+            text += [gap, word]
+            code += [gap, word if kind in (b"Code", b"Literal") and not head else re.sub(r"[^\n]", " ", word)]
+        self.file, self.text, self.code = file, "".join(text), "".join(code)
+        self.ghosts = []
+        for head, start, stop in bodies:
+            names = [word for word, _ in head[1:] if word not in ("*", ":", "=", "{")]
+            self.ghosts.append(Ghost(head[0][0], names[0] if names else "", head[0][1], antt(self.text, start, stop)))
+
+    def line(self, place):
+        return self.text.count("\n", 0, place) + 1
+
+
+def blank(data):
+    return re.sub(rb"[^\n]", b" ", data).decode()
+
+
+def read(files):
+    """The files, read by the tokens that the kit's formatter prints: as a check reads them, and no comment or clause otherwise."""
+    if not files:
+        return []
+    rattle = Path(shutil.which("rt") or sys.exit("`rt` is not on the path")).resolve().parent / "rattle"
+    if not rattle.is_file():
+        sys.exit("`rattle` does not stand beside `rt`")
+    run = subprocess.run([rattle, "fmt", "--tokens", *files], capture_output=True)
+    if run.returncode:
+        sys.exit(f"`rattle fmt --tokens` cannot read the files: {run.stderr.decode()}")
+    sources = []
+    for file, rows in zip(files, re.split(rb"^file \d+\n", run.stdout, flags=re.M)[1:]):
+        rows = (row.split(b" ", 4) for row in rows.splitlines())
+        sources.append(Source(file, file.read_bytes(), [(int(start), int(stop), kind) for _, start, stop, kind, _ in rows]))
+    return sources
 
 
 def antt(text, start=0, end=sys.maxsize):
@@ -48,40 +103,61 @@ def brought(words):
 
 
 def use_lines(text, words):
-    """The words behind each `use`, up to the next line of the header or of the declarations."""
-    for i, (word, _) in enumerate(words):
-        if word == "use":
-            behind, depth = [], 0
-            for word, place in words[i + 1 :]:
-                if depth == 0 and text[place - 1] == "\n":
-                    break
-                depth += (word == "{") - (word == "}")
-                behind.append((word, place))
+    """The words behind each `use` of a header, up to the next line of the header or of the declarations."""
+    for i, is_open in uses(words):
+        behind, depth = [], 0
+        for word, place in words[i + 1 :]:
+            if is_open or depth == 0 and text[place - 1] == "\n":
+                break
+            depth += (word == "{") - (word == "}")
+            behind.append((word, place))
+        if not is_open:
             yield behind
 
 
-def functions(text):
-    """Each function of a text in Rattle: its name, its place, whether it is public, its parameters, and its clauses by kind, place and words."""
-    words = list(RATTLE.finditer(text))
+def opened(words):
+    """The words in the braces of each `open .. use {..}`, the fields of a record that it brings in; or its `*`, which is all of them."""
+    for i, is_open in uses(words):
+        behind, depth = [], 0
+        for word, place in words[i + 1 :] if is_open else []:
+            depth += (word == "{") - (word == "}")
+            behind.append((word, place))
+            if depth == 0:
+                break
+        if is_open:
+            yield behind
+
+
+def uses(words):
+    """The place of each `use` among the words, and whether it is that of an `open`."""
+    is_open = False
+    for i, (word, _) in enumerate(words):
+        if word == "use":
+            yield i, is_open
+        is_open = word == "open" or is_open and word != "use"
+
+
+def functions(source):
+    """Each function of a file: its name, its place, whether it is public, its parameters, and its clauses."""
+    words = list(CODE.finditer(source.code))
     for i, word in enumerate(words):
-        if word[0] == "fn":
+        # a `fn` that no name follows is of the type of a pointer
+        if word[0] == "fn" and re.match(r"\w", words[i + 1][0]):
             before = i - 1
             while words[before][0] in ("extern", "unsafe", "const"):
                 before -= 1
-            yield words[i + 1][0], word.start(), words[before][0] == "pub", *head(text, words[i + 1 :])
+            parameters, end = head(words[i + 1 :])
+            clauses = [ghost for ghost in source.ghosts if word.start() < ghost.place < end]
+            yield words[i + 1][0], word.start(), words[before][0] == "pub", parameters, clauses
 
 
-def head(text, words):
-    """The parameters and the clauses of a function, from the words of its head on. The first brace that opens no clause opens its body."""
-    parameters, clauses, depth, clause, brace = [], [], 0, None, None
+def head(words):
+    """The parameters of a function, from the words of its head on, and where the head ends: at the body's brace, or at a `;`."""
+    parameters, depth = [], 0
     for last, word in zip(words, words[1:]):
-        if depth == 0 and (word[0] == ";" or word[0] == "{" and last[0] not in CLAUSES):
+        if depth == 0 and word[0] in (";", "{"):
             break
-        if depth == 0 and word[0] == "{":
-            clause, brace = last, word
-        if depth == 1 and word[0] == ":" and not clause:
+        if depth == 1 and word[0] == ":":
             parameters.append((last[0], last.start()))
         depth += (word[0] in ("(", "[", "{")) - (word[0] in (")", "]", "}"))
-        if depth == 0 and word[0] == "}":
-            clauses.append((clause[0], clause.start(), antt(text, brace.end(), word.start())))
-    return parameters, clauses
+    return parameters, word.start()
