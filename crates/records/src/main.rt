@@ -4,6 +4,7 @@
 #![tactic(auto)]
 
 ghost use Rattle.std.specs.Prelude.{◌≡◌, length, IfOk};
+ghost use Rattle.content.specs.Walk.{join_at};
 ghost use Rattle.reader.specs.Read.{read_at};
 
 use base::{Verdict, part_of};
@@ -26,9 +27,10 @@ fn write_refusal<W: Write>(out: &mut W, v: Verdict) -> io::Result<()> {
     out.write_all(part_of(&line, 0, r.len as usize))
 }
 
-// The record at a place, and the place behind it.
+// The record at a place, and the place behind it. Where the output fails, the record stands joined in the buffer all the same.
 fn write_next<W: Write>(out: &mut W, image: &[u8], walk: Walk, join: &mut [u8]) -> io::Result<Walk>
-    ensures { IfOk result (λ w. w ≡ (read_at image.now (length join.old) walk).walk) }
+    ensures value { IfOk result (λ w. w ≡ (read_at image.now (length join.old) walk).walk) }
+    ensures join_after { join.new ≡ join_at image.now join.old walk }
 {
     let x = next_at(image, walk, join);
     let found = x.found;
