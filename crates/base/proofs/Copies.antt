@@ -2,11 +2,11 @@
 use mathlib.Core.Path.{◌≡◌, refl, sym, ap, ap₂, ◌∙◌}
 use mathlib.Core.Bool.{Bool, true, false}
 use mathlib.Core.List.{List, [], ◌∷◌, ◌++◌}
-use Prim.Native.Nat.{ℕ, ◌+◌, ◌-◌, ◌%◌, ◌≤◌, ◌<◌}
+use Prim.Native.Nat.{ℕ, ◌+◌, ◌-◌, ◌≤◌, ◌<◌}
 use native.Mathlib.Omega.{arith}
 use native.Mathlib.Numerals.{add-one}
 use borrow.Author.Rules.{rules}
-use borrow.Author.Tests.{le-leb, lt-leb, leb-true}
+use borrow.Author.Tests.{le-leb, leb-true}
 use lib.Dec.{leb}
 use lib.ListN.{length, take, drop, get_or, set, length-take, length-drop, length-set, take-append-drop, drop_of_length-le}
 use lib.Seq.{drop-cons, drop-drop, get_or-drop, length-take-le, take-add, take_all, take-take}
@@ -55,36 +55,6 @@ pub ruleset copying = (copying_none, copying_more, copying_all, rules)
 
 -- ---- words: the bytes of one, side by side
 
-first_eight : (t : List ℕ) → 8 ≤ length t
-    → get_or t 0 0 ∷ get_or t 1 0 ∷ get_or t 2 0 ∷ get_or t 3 0 ∷ get_or t 4 0 ∷ get_or t 5 0 ∷ get_or t 6 0 ∷ get_or t 7 0 ∷ [] ≡ take 8 t
-first_eight [] h = absurd (omega arith)
-first_eight (a ∷ []) h = absurd (omega arith)
-first_eight (a ∷ b ∷ []) h = absurd (omega arith)
-first_eight (a ∷ b ∷ c ∷ []) h = absurd (omega arith)
-first_eight (a ∷ b ∷ c ∷ d ∷ []) h = absurd (omega arith)
-first_eight (a ∷ b ∷ c ∷ d ∷ e ∷ []) h = absurd (omega arith)
-first_eight (a ∷ b ∷ c ∷ d ∷ e ∷ f ∷ []) h = absurd (omega arith)
-first_eight (a ∷ b ∷ c ∷ d ∷ e ∷ f ∷ g ∷ []) h = absurd (omega arith)
-first_eight (a ∷ b ∷ c ∷ d ∷ e ∷ f ∷ g ∷ i ∷ t) h = refl
-
-pub eight_read : (s : List ℕ) (a : ℕ) → a + 8 ≤ length s
-    → get_or s a 0 ∷ get_or s (a + 1) 0 ∷ get_or s (a + 2) 0 ∷ get_or s (a + 3) 0 ∷ get_or s (a + 4) 0 ∷ get_or s (a + 5) 0 ∷
-    get_or s (a + 6) 0 ∷ get_or s (a + 7) 0 ∷ []
-    ≡ part a 8 s
-unfolding part
-eight_read s a h =
-    let here : a + 0 ≡ a = omega arith in
-    let e0 : get_or (drop a s) 0 0 ≡ get_or s a 0 = get_or-drop a s 0 0 ∙ ap (λ (k : ℕ). get_or s k 0) here in
-    let e1 : get_or (drop a s) 1 0 ≡ get_or s (a + 1) 0 = get_or-drop a s 1 0 in
-    let e2 : get_or (drop a s) 2 0 ≡ get_or s (a + 2) 0 = get_or-drop a s 2 0 in
-    let e3 : get_or (drop a s) 3 0 ≡ get_or s (a + 3) 0 = get_or-drop a s 3 0 in
-    let e4 : get_or (drop a s) 4 0 ≡ get_or s (a + 4) 0 = get_or-drop a s 4 0 in
-    let e5 : get_or (drop a s) 5 0 ≡ get_or s (a + 5) 0 = get_or-drop a s 5 0 in
-    let e6 : get_or (drop a s) 6 0 ≡ get_or s (a + 6) 0 = get_or-drop a s 6 0 in
-    let e7 : get_or (drop a s) 7 0 ≡ get_or s (a + 7) 0 = get_or-drop a s 7 0 in
-    let all = first_eight (drop a s) (simp length-drop (omega arith)) in
-    cc
-
 first_four : (t : List ℕ) → 4 ≤ length t → get_or t 0 0 ∷ get_or t 1 0 ∷ get_or t 2 0 ∷ get_or t 3 0 ∷ [] ≡ take 4 t
 first_four [] h = absurd (omega arith)
 first_four (a ∷ []) h = absurd (omega arith)
@@ -123,70 +93,40 @@ put_meet o s at i m h k l =
     ∙ put_put o at front (drop m s) (omega arith)
     ∙ ap (put_at o at) (take-append-drop m s)
 
--- ---- two words, one behind the other, are one of twice the width
+-- ---- words one behind the other
 
-module _ (v w : ℕ) (o s : List ℕ) (at from : ℕ) (twice : v ≡ w + w) where
-  pub half_first : from + v ≤ length s → from + w ≤ length s
-  half_first h = omega arith
+-- w bytes more behind the first v
+pub put_next : (v w : ℕ) (o s : List ℕ) (at from : ℕ) → from + (v + w) ≤ length s → at + (v + w) ≤ length o → (p q : List ℕ)
+    → p ≡ put_at o at (part from v s) → q ≡ put_at p (at + v) (part (from + v) w s) → q ≡ put_at o at (part from (v + w) s)
+unfolding part
+put_next v w o s at from h k p q e f =
+    let wide : length (take v (drop from s)) ≡ v = length-take-le v (drop from s) (simp length-drop (omega arith)) in
+    let place : at + v ≡ at + length (take v (drop from s)) = omega arith in
+    f
+    ∙ ap₂ (λ (l : List ℕ) (n : ℕ). put_at l n (take w (drop (from + v) s))) e place
+    ∙ put_put o at (take v (drop from s)) (take w (drop (from + v) s)) (omega arith)
+    ∙ ap (put_at o at) (ap (λ (t : List ℕ). take v (drop from s) ++ take w t) (sym (drop-drop v from s)) ∙ sym (take-add v w (drop from s)))
 
-  pub half_last : from + v ≤ length s → from + w + w ≤ length s
-  half_last h = omega arith
+-- four words are 64 bytes
+pub put_four : (o s : List ℕ) (at from : ℕ) → from + 64 ≤ length s → at + 64 ≤ length o → (p q r t : List ℕ)
+    → p ≡ put_at o at (part from 16 s) → q ≡ put_at p (at + 16) (part (from + 16) 16 s)
+    → r ≡ put_at q (at + 32) (part (from + 32) 16 s) → t ≡ put_at r (at + 48) (part (from + 48) 16 s) → t ≡ put_at o at (part from 64 s)
+put_four o s at from h k p q r t a b c d =
+    put_next 48 16 o s at from h k r t
+    (put_next 32 16 o s at from (omega arith) (omega arith) q r (put_next 16 16 o s at from (omega arith) (omega arith) p q a b) c) d
 
-  pub half_room : at + v ≤ length o → at + w ≤ length o
-  half_room k = omega arith
-
-  pub half_behind : at + v ≤ length o → (p : List ℕ) → length p ≡ length o → at + w + w ≤ length p
-  half_behind k p e = omega arith
-
-  pub put_twice : from + v ≤ length s → at + v ≤ length o → (x z p q : List ℕ) → x ≡ part from w s → z ≡ part (from + w) w s
-      → p ≡ put_at o at x
-      → q ≡ put_at p (at + w) z → q ≡ put_at o at (part from v s)
-  unfolding part
-  put_twice h k x z p q i j e f =
-      let wide : length x ≡ w = ap length i ∙ length-take-le w (drop from s) (simp length-drop (omega arith)) in
-      let place : at + w ≡ at + length x = omega arith in
-      f
-      ∙ ap₂ (λ (l : List ℕ) (n : ℕ). put_at l n z) e place
-      ∙ put_put o at x z (omega arith)
-      ∙ ap (put_at o at) (ap₂ ◌++◌ i (j ∙ ap (take w) (sym (drop-drop w from s))) ∙ sym (take-add w w (drop from s))
-      ∙ ap (λ (n : ℕ). take n (drop from s)) (sym twice))
-
-pub ruleset doubled = (half_first, half_last, half_room, half_behind, put_twice, four_read, eight_read, rules)
+pub ruleset words = (put_four, rules)
 
 -- ---- two words, which may meet, are all of it
 
-module _ (v w : ℕ) (o s : List ℕ) (at : ℕ) (y : Short v w (length s)) where
-  pub ends_behind : length s - w + w ≤ length s
-  ends_behind = omega (arith, y.last)
-
-  pub ends_least : w ≤ length s
-  ends_least = y.last
-
-  pub ends_front : 0 + v ≤ length s
-  ends_front = omega (arith, y.first)
-
-  module _ (h : at + length s ≤ length o) where
-    pub ends_room : at + v ≤ length o
-    ends_room = omega (arith, y.first)
-
-    pub ends_last : at + (length s - w) + w ≤ length o
-    ends_last = omega (arith, y.last)
-
-    pub put_ends : (x z p q : List ℕ) → x ≡ part 0 v s → z ≡ part (length s - w) w s → p ≡ put_at o at x
-        → q ≡ put_at p (at + (length s - w)) z → q ≡ put_at o at s
-    unfolding part
-    put_ends x z p q i j e f =
-        let rest : length (drop (length s - w) s) ≡ length s - (length s - w) = length-drop (length s - w) s in
-        f
-        ∙ ap₂ (λ (l t : List ℕ). put_at l (at + (length s - w)) t) (e ∙ ap (put_at o at) i)
-        (j ∙ take_all w (drop (length s - w) s) (omega (arith, y.last)))
-        ∙ put_meet o s at v (length s - w) (omega (arith, y.most)) y.first h
-
-    pub put_both : (p q : List ℕ) → p ≡ put_at o at (part 0 v s) → q ≡ put_at p (at + (length s - w)) (part (length s - w) w s)
-        → q ≡ put_at o at s
-    put_both p q e f = put_ends _ _ p q refl refl e f
-
-pub ruleset ends = (put_ends, put_both, ends_behind, ends_least, ends_front, ends_room, ends_last, rules)
+pub put_both : (v w : ℕ) (o s : List ℕ) (at : ℕ) → Short v w (length s) → at + length s ≤ length o → (p q : List ℕ)
+    → p ≡ put_at o at (part 0 v s) → q ≡ put_at p (at + (length s - w)) (part (length s - w) w s) → q ≡ put_at o at s
+unfolding part
+put_both v w o s at y h p q e f =
+    let rest : length (drop (length s - w) s) ≡ length s - (length s - w) = length-drop (length s - w) s in
+    f
+    ∙ ap₂ (λ (l t : List ℕ). put_at l (at + (length s - w)) t) e (take_all w (drop (length s - w) s) (omega (arith, y.last)))
+    ∙ put_meet o s at v (length s - w) (omega (arith, y.most)) y.first h
 
 -- ---- words of 64 bytes, one behind the other
 
@@ -213,18 +153,6 @@ chunked_two o at s k p q h fits small e f =
     the_rest : (n : ℕ) → n + 64 - n ≡ 64
     the_rest n = omega arith
 
--- the place of that word
-pub step_small : (at : ℕ) → 16 - at % 16 ≤ 16
-step_small at = omega arith
-
-pub step_room : (at k : ℕ) (s o : List ℕ) → 128 ≤ length s → at + length s ≤ length o → k ≤ 16 → at + k + 64 ≤ length o
-step_room at k s o h fits small = omega arith
-
-pub step_inside : (k : ℕ) (s : List ℕ) → 128 ≤ length s → k ≤ 16 → k + 64 ≤ length s
-step_inside k s h small = omega arith
-
-pub ruleset firsts = (chunked_two, step_small, step_room, step_inside, rules)
-
 -- what is written stands there, and may be written again with all the rest
 pub chunked_again : (o : List ℕ) (at : ℕ) (s p : List ℕ) (i : ℕ) → Chunked o at s p i → Chunked p at s p i
 chunked_again o at s p i c =
@@ -246,17 +174,12 @@ chunked_over o at s p i q c e =
     let wide : length (take i s) ≡ i = length-take-le i s c.within in
     e ∙ ap (λ (l : List ℕ). put_at l at s) c.is ∙ put_again o at (take i s) s (omega (arith, c.within)) c.fits
 
-pub ruleset wholes = (chunked_again, chunked_over, rules)
-
 module _ (old : List ℕ) (at : ℕ) (s out : List ℕ) (i : ℕ) (c : Chunked old at s out i) where
   pub chunk_room : i < length s - 64 → at + i + 64 ≤ length out
   chunk_room h = omega (arith, c.fits, c.size)
 
   pub chunk_behind : at + (length s - 64) + 64 ≤ length out
   chunk_behind = omega (arith, c.fits, c.size, c.least)
-
-  pub chunk_last : length s - 64 + 64 ≤ length s
-  chunk_last = omega (arith, c.least)
 
   module _ (p : List ℕ) (h : i < length s - 64) (e : p ≡ put_at out (at + i) (part i 64 s)) where
     pub chunked_more : Chunked old at s p (i + 64)
@@ -289,17 +212,7 @@ module _ (old : List ℕ) (at : ℕ) (s out : List ℕ) (i : ℕ) (c : Chunked o
       (take_all 64 (drop (length s - 64) s) (omega (arith, c.least)))
       ∙ put_meet old s at i (length s - 64) h c.within c.fits
 
-  pub chunked_kept : length out ≡ length old
-  chunked_kept = c.size
-
-pub chunk_index : (s : List ℕ) (i : ℕ) → i < length s - 64 → i + 64 ≤ length s
-chunk_index s i h = omega arith
-
-pub chunk_less : (n i : ℕ) → i < n → n - (i + 64) < n - i
-chunk_less n i h = omega arith
-
-pub ruleset chunks =
-    (chunk_room, chunk_behind, chunk_last, chunked_more, chunked_all, chunked_kept, chunk_index, chunk_less, rules)
+pub ruleset chunks = (chunk_room, chunk_behind, chunked_more, chunked_all, rules)
 
 -- ---- a write that has room, or is not made
 
@@ -336,15 +249,3 @@ pub kept_in : (o : List ℕ) (at : ℕ) (bs q : List ℕ) → q ≡ put_in o at 
 kept_in o at bs q e = ap length e ∙ length_put_in o at bs
 
 pub ruleset roomy = (put_over, put_right, room_left, rules)
-
--- the test of room, by what is left behind the bytes
-pub room_none : (size at n : ℕ) → size < n → false ≡ leb (at + n) size
-room_none size at n h = sym (lt-leb (at + n) size (omega arith))
-
-pub room_less : (size at n : ℕ) → n ≤ size → size - n < at → false ≡ leb (at + n) size
-room_less size at n h k = sym (lt-leb (at + n) size (omega arith))
-
-pub room_enough : (size at n : ℕ) → n ≤ size → at ≤ size - n → true ≡ leb (at + n) size
-room_enough size at n h k = sym (le-leb (at + n) size (omega arith))
-
-pub ruleset room = (room_none, room_less, room_enough, rules)

@@ -1,8 +1,9 @@
 -- Laws of parts of lists and of lists put over others. Assumes nothing.
-use mathlib.Core.Path.{◌≡◌, sym, ap, ◌∙◌}
+use mathlib.Core.Path.{◌≡◌, sym, ap, ap₂, ◌∙◌}
 use mathlib.Core.List.{List, [], ◌∷◌, ◌++◌, append_assoc, append-nil}
 use Prim.Native.Nat.{ℕ, zero, suc, ◌+◌, ◌-◌, ◌≤◌}
 use native.Mathlib.Omega.{arith}
+use borrow.Rule.Slice.PartMut.{put_mid}
 use lib.ListN.{length, take, drop, length-append, length-take, length-drop, take-append-drop, drop_of_length-le}
 use lib.Seq.{length-take-le, take_all, take_at, drop_at, drop-drop, take-take, take-append_seam, take-nil}
 use Rattle.base.specs.Part.{part, put_at}
@@ -130,6 +131,14 @@ put_before old at xs ys h =
     ∙ ap (λ (l : List ℕ). l ++ drop (at + length xs + length ys) old) (append_assoc (take at old) xs ys)
     ∙ ap (λ (k : ℕ). take at old ++ (xs ++ ys) ++ drop k old) behind
 
+-- through a borrow of k places, as many as there are bytes
+pub put_mid_at : (old : List ℕ) (at k : ℕ) (xs ys : List ℕ) → length ys ≡ k → xs ≡ ys → put_mid at k old xs ≡ put_at old at ys
+unfolding put_at
+put_mid_at old at k xs ys h e =
+    ap₂ (λ (l : List ℕ) (n : ℕ). take at old ++ (l ++ drop n (drop at old))) e (sym h)
+    ∙ ap (λ (l : List ℕ). take at old ++ (ys ++ l)) (drop-drop (length ys) at old)
+    ∙ sym (append_assoc (take at old) ys (drop (at + length ys) old))
+
 -- ---- the three ways in which `part_of` cuts a part
 
 pub part_past : (a n : ℕ) (s : List ℕ) → length s ≤ a → take (0 - 0) (drop 0 s) ≡ part a n s
@@ -144,3 +153,5 @@ part_rest a n s h = part_to_end a s ∙ sym (take_all n (drop a s) (simp length-
 pub part_within : (a n : ℕ) (s : List ℕ) → take (a + n - a) (drop a s) ≡ part a n s
 unfolding part
 part_within a n s = let e : a + n - a ≡ n = omega arith in rw e
+
+pub ruleset ways = (part_past, part_rest, part_within)

@@ -8,6 +8,7 @@ mod copy; // copy.rt: bytes into a lent buffer
 ghost use Rattle.std.specs.Prelude.{◌≡◌, ◌<◌, eqb};
 ghost use Rattle.base.specs.Part.{part, same};
 ghost use Rattle.base.specs.Sum.{sum};
+ghost use Rattle.base.specs.Answer.{verdict};
 
 pub use copy::{has_room, put_few, put_in, put_short};
 
@@ -34,6 +35,20 @@ pub struct Verdict {
     pub byte: u32,
 }
 
+impl Verdict {
+    // A number at an item, with no byte of its own.
+    #[tactic(auto, unfolding(crate::specs::Answer::verdict))]
+    pub fn at(number: u32, item: u32) -> Verdict
+        ensures { result ≡ verdict number item 0 }
+    {
+        Verdict {
+            number,
+            item,
+            byte: 0,
+        }
+    }
+}
+
 // A byte as a number.
 pub fn wide(b: u8) -> usize
     ensures { (result ≡ b) × (result < 256) }
@@ -42,6 +57,7 @@ pub fn wide(b: u8) -> usize
 }
 
 // The n bytes of s from place a on, as many of them as there are.
+#[tactic(auto, using(crate::proofs::Parts::ways))]
 pub fn part_of(s: &[u8], a: usize, n: usize) -> &[u8]
     ensures { result.now ≡ part a n s.now }
 {
@@ -56,34 +72,24 @@ pub fn part_of(s: &[u8], a: usize, n: usize) -> &[u8]
 }
 
 // Whether two byte strings are the same.
+#[tactic(auto, using(crate::proofs::Bytes::same_pointwise))]
 pub fn equal(a: &[u8], b: &[u8]) -> bool
     ensures { result ≡ same a.now b.now }
 {
-    if a.len() != b.len() {
-        return false;
-    }
-    let mut i = 0;
-    while i < a.len() {
-        if a[i] != b[i] {
-            return false;
-        }
-        i += 1;
-    }
-    true
+    a == b
 }
 
 // Whether numbers add up to a total: each is taken from what is left over of it, so that nothing can overflow.
+#[tactic(auto, using(crate::proofs::Sums::pieces))]
 pub fn add_up_to(numbers: &[u64], total: usize) -> bool
     ensures { result ≡ eqb (sum numbers.now) total }
 {
     let mut left = total as u64;
-    let mut i: usize = 0;
-    while i < numbers.len() {
-        if left < numbers[i] {
+    for n in numbers {
+        if left < *n {
             return false;
         }
-        left -= numbers[i];
-        i += 1;
+        left -= *n;
     }
     left == 0
 }

@@ -8,8 +8,7 @@ use Prim.Native.Nat.{ℕ, ◌+◌, ◌*◌, ◌-◌, ◌^◌, ◌≤◌, ◌<◌
 use mir.Syntax.{w64}
 use mir.Val.{Fits}
 use native.Mathlib.Omega.{arith}
-use borrow.Author.Rules.{rules}
-use borrow.Author.Tests.{leb-true, eqb-true, eqb-false, ne_eqb, le-leb, lt-leb}
+use borrow.Author.Tests.{leb-true, leb-false, eqb-true, eqb-false, ne_eqb, le-leb, lt-leb}
 use lib.Dec.{leb, eqb}
 use lib.ListN.{length, drop, get_or, length-drop, drop_of_length-le}
 use lib.Seq.{drop-drop, get_or-drop}
@@ -64,43 +63,25 @@ word_at s at =
     let first : get_or (drop at s) 0 0 ≡ get_or s at 0 = get_or-drop at s 0 0 ∙ ap (λ (k : ℕ). get_or s k 0) here in
     omega (arith, first, get_or-drop at s 1 0, get_or-drop at s 2 0)
 
--- where three bytes are left, the word and what is left behind it decide
-led_at : (s : List ℕ) (at w : ℕ) (p : Shape) → p ≡ led_by w (length s - at - 3) → 3 ≤ length s - at → w ≡ word (drop at s)
-    → p ≡ shape (drop at s)
+-- as the code makes it, of two bytes or of three
+pub word_low : (s : List ℕ) (at b c : ℕ) → get_or s at 0 ≡ 0 → b ≡ get_or s (at + 1) 0 → c ≡ get_or s (at + 2) 0
+    → word (drop at s) ≡ b * 256 + c
+word_low s at b c i j k = omega (arith, word_at s at)
+
+pub word_whole : (s : List ℕ) (at a b c : ℕ) → a ≡ get_or s at 0 → b ≡ get_or s (at + 1) 0 → c ≡ get_or s (at + 2) 0
+    → word (drop at s) ≡ a * 65536 + (b * 256 + c)
+word_whole s at a b c i j k = omega (arith, word_at s at)
+
+-- what is made of the shape at a place, where it is made of the word there and of how much stands behind it
+pub by_word : {A : Type 0} (f : Shape → A) (s : List ℕ) (at : ℕ) (x : A) → (length s - at < 3 → x ≡ f Broken)
+    → (3 ≤ length s - at → x ≡ f (led_by (word (drop at s)) (length s - at - 3))) → x ≡ f (shape (drop at s))
 unfolding shape
-led_at s at w p e h l =
-    let room : length s - at - 3 ≡ length (drop 3 (drop at s)) = simp length-drop (omega arith) in
-    e ∙ ap₂ led_by l room ∙ sym (if_true _ _ _ (le-leb 3 (length (drop at s)) (simp length-drop h)))
-
--- the word as the code makes it, of two bytes or of three
-pub shape_low : (s : List ℕ) (at b c : ℕ) (p : Shape) → p ≡ led_by (b * 256 + c) (length s - at - 3)
-    → 3 ≤ length s - at → get_or s at 0 ≡ 0 → b ≡ get_or s (at + 1) 0 → c ≡ get_or s (at + 2) 0 → p ≡ shape (drop at s)
-shape_low s at b c p e h i j k = led_at s at (b * 256 + c) p e h (omega (arith, word_at s at))
-
-pub shape_led : (s : List ℕ) (at a b c : ℕ) (p : Shape) → p ≡ led_by (a * 65536 + (b * 256 + c)) (length s - at - 3)
-    → 3 ≤ length s - at → a ≡ get_or s at 0 → b ≡ get_or s (at + 1) 0 → c ≡ get_or s (at + 2) 0 → p ≡ shape (drop at s)
-shape_led s at a b c p e h i j k = led_at s at (a * 65536 + (b * 256 + c)) p e h (omega (arith, word_at s at))
-
-pub ruleset shapes = (shape_past, shape_short, shape_low, shape_led, rules)
-
--- the length of the block that stands at a place
-pub length_past : (s : List ℕ) (at : ℕ) → length s ≤ at → 0 ≡ block_length (shape (drop at s))
-unfolding block_length
-length_past s at h = ap block_length (shape_past s at h)
-
-pub length_short : (s : List ℕ) (at : ℕ) → length s - at < 3 → 0 ≡ block_length (shape (drop at s))
-unfolding block_length
-length_short s at h = ap block_length (shape_short s at h)
-
-pub length_low : (s : List ℕ) (at b c n : ℕ) → n ≡ block_length (led_by (b * 256 + c) (length s - at - 3)) → 3 ≤ length s - at
-    → get_or s at 0 ≡ 0
-    → b ≡ get_or s (at + 1) 0 → c ≡ get_or s (at + 2) 0 → n ≡ block_length (shape (drop at s))
-length_low s at b c n e h i j k = e ∙ ap block_length (shape_low s at b c _ refl h i j k)
-
-pub length_led : (s : List ℕ) (at a b c n : ℕ) → n ≡ block_length (led_by (a * 65536 + (b * 256 + c)) (length s - at - 3))
-    → 3 ≤ length s - at
-    → a ≡ get_or s at 0 → b ≡ get_or s (at + 1) 0 → c ≡ get_or s (at + 2) 0 → n ≡ block_length (shape (drop at s))
-length_led s at a b c n e h i j k = e ∙ ap block_length (shape_led s at a b c _ refl h i j k)
+by_word f s at x cut led =
+    let long : length (drop at s) ≡ length s - at = length-drop at s in
+    let behind : length (drop 3 (drop at s)) ≡ length s - at - 3 = simp length-drop (omega arith) in
+    if_case (λ (p : Shape). x ≡ f p) (leb 3 (length (drop at s))) _ _
+    (λ e. led (omega (arith, leb-true 3 (length (drop at s)) e)) ∙ ap (λ (n : ℕ). f (led_by (word (drop at s)) n)) (sym behind))
+    (λ e. cut (omega (arith, leb-false 3 (length (drop at s)) e)))
 
 -- what a length word leads
 pub length_whole : (w n : ℕ) → w ≤ 99999 → w ≤ n → w ≡ block_length (led_by w n)
@@ -131,7 +112,7 @@ block_there Mark n e h = absurd (h e)
 block_there ReelEnd n e h = absurd (h e)
 block_there Broken n e h = absurd (h e)
 
-pub ruleset lengths = (length_past, length_short, length_low, length_led, length_whole, length_cut, length_over, rules)
+pub ruleset lengths = (length_whole, length_cut, length_over)
 
 -- ---- what a shape says of the bytes at whose head it stands
 

@@ -169,8 +169,6 @@ unfolding put_below
 put_below_lem {most = most} o a bs p r e l q =
     record { place = e; held = q ∙ sym (if_true _ _ _ (lt-ltb (a + length bs) most (omega arith))) }
 
-pub ruleset writing = (put_most, put_below_lem, rules)
-
 length_put_below : (most : ℕ) (o : List ℕ) (a : ℕ) (bs : List ℕ) → length (put_below most o a bs) ≡ length o
 unfolding put_below
 length_put_below most o a bs =

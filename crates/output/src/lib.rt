@@ -18,17 +18,11 @@ pub struct Written {
 }
 
 // A refusal with place 0.
+#[tactic(auto, unfolding(crate::specs::Output::refusal_of))]
 pub fn refusal(number: u32) -> Written
     ensures { result ≡ refusal_of number }
 {
-    Written {
-        verdict: Verdict {
-            number,
-            item: 0,
-            byte: 0,
-        },
-        len: 0,
-    }
+    refused(Verdict::at(number, 0))
 }
 
 // A refusal with its place.
@@ -39,15 +33,12 @@ pub fn refused(v: Verdict) -> Written
 }
 
 // So many bytes are written.
+#[tactic(auto, unfolding(crate::specs::Output::written_of))]
 pub fn done(len: usize) -> Written
     ensures { result ≡ written_of len }
 {
     Written {
-        verdict: Verdict {
-            number: 0,
-            item: 0,
-            byte: 0,
-        },
+        verdict: Verdict::at(0, 0),
         len: len as u64,
     }
 }
@@ -56,38 +47,23 @@ pub fn done(len: usize) -> Written
 pub fn behind(at: usize, n: usize, most: usize) -> usize
     ensures { result ≡ min (at + n) most }
 {
-    if most <= at {
-        return most;
-    }
-    if most - at <= n {
-        return most;
-    }
-    at + n
+    at.saturating_add(n).min(most)
 }
 
 // Writes s at a place if all of it has room there before place `most`, and gives the place behind.
+#[tactic(auto, using(crate::proofs::Writing::put_most))]
 pub fn put_bytes(out: &mut [u8], at: usize, s: &[u8], most: usize) -> usize
     ensures { Put most out.old at s.now out.new result }
 {
     let end = behind(at, s.len(), most);
-    if most <= end {
-        return end;
+    if end < most {
+        put_in(out, at, s);
     }
-    put_in(out, at, s);
     end
 }
 
-// A number, or 9,999 where it is more.
-fn up_to_four_digits(n: usize) -> u32
-    ensures { result ≡ min n 9999 }
-{
-    if n < 9999 {
-        return n as u32;
-    }
-    9999
-}
-
 // The hundreds of a number below 10,000 and, 16 bits further up, what they leave of it. The product is a hundredth, rounded down.
+#[tactic(auto, using(crate::proofs::Writing::figures))]
 fn halves(n: u32) -> u32
     requires { n < 10000 }
     ensures { result ≡ n / 100 + n % 100 * 65536 }
@@ -97,6 +73,7 @@ fn halves(n: u32) -> u32
 }
 
 // The tens of both halves, where they stand, by one product, which is a tenth of each, rounded down.
+#[tactic(auto, using(crate::proofs::Writing::figures))]
 fn tens_of(both: u32) -> u32
     requires both_bound { both % 65536 < 100 }
     requires both_bound_2 { both / 65536 < 100 }
@@ -108,20 +85,17 @@ fn tens_of(both: u32) -> u32
 
 // The four digits of a number below 10,000; a larger one counts as 9,999. They are found side by side in one word, since a
 // control word is written for each of millions of records.
+#[tactic(auto, using(crate::proofs::Writing::figures))]
 pub fn figures(n: usize) -> [u8; 4]
     ensures { result ≡ digits 4 (min n 9999) }
 {
-    let both = halves(up_to_four_digits(n));
+    let both = halves(n.min(9999) as u32);
     let word = both * 256 - tens_of(both) * 2559 + 808464432;
-    [
-        (word % 256) as u8,
-        (word / 256 % 256) as u8,
-        (word / 65536 % 256) as u8,
-        (word / 16777216) as u8,
-    ]
+    word.to_le_bytes()
 }
 
 // The last four digits of a number.
+#[tactic(auto, using(crate::proofs::Writing::figures))]
 pub fn four_digits(n: usize) -> [u8; 4]
     ensures { result ≡ digits 4 n }
 {

@@ -55,6 +55,7 @@ const IMAGE_HEAD: usize = 5;
 pub const HEAD: usize = IMAGE_HEAD + LABEL_ITEM;
 
 // A label as an item.
+#[tactic(auto, using(crate::proofs::Filled::made))]
 fn label_item(l: &[u8; 80]) -> [u8; LABEL_ITEM]
     ensures { result ≡ encode (block l.now ∷ []) }
 {
@@ -64,20 +65,13 @@ fn label_item(l: &[u8; 80]) -> [u8; LABEL_ITEM]
     made
 }
 
-// A byte as a number.
-fn number(b: u8) -> u32
-    ensures { result ≡ b }
-{
-    b as u32
-}
-
 // A file's two labels with those names, and the mark behind them.
 fn pair(first: &[u8], second: &[u8], labels: &Labels, section: u32, count: u32) -> [u8; HEADERS]
     ensures { result ≡ encode (pair_of first.now second.now labels.now section count) }
 {
     let entry = part_of(labels, 0, ENTRY);
     let set = part_of(labels, SET, SET_ENTRY);
-    let sequence = number(labels[SEQUENCE]);
+    let sequence = u32::from(labels[SEQUENCE]);
     let l = label_item(&first_label(first, set, entry, section, sequence, count));
     let m = label_item(&second_label(second, entry));
     let mut made = [0u8; HEADERS];
@@ -88,6 +82,7 @@ fn pair(first: &[u8], second: &[u8], labels: &Labels, section: u32, count: u32) 
 }
 
 // A mark, a file's two trailer labels with those names, and a mark.
+#[tactic(auto, using(crate::proofs::Filled::made))]
 fn trailers(
     first: &[u8],
     second: &[u8],
@@ -105,6 +100,7 @@ fn trailers(
 }
 
 // The head of an image, and the volume label of its first reel.
+#[tactic(auto, using(crate::proofs::Filled::made))]
 pub fn image_head(name: &[u8]) -> [u8; HEAD]
     ensures { result ≡ image_head name.now }
 {
@@ -116,6 +112,7 @@ pub fn image_head(name: &[u8]) -> [u8; HEAD]
 }
 
 // HDR1, HDR2 and a mark.
+#[tactic(auto, using(crate::proofs::Filled::made))]
 pub fn headers(labels: &Labels, section: u32) -> [u8; HEADERS]
     ensures { result ≡ encode (headers (set_in labels.now) (entry_in labels.now) section (sequence_in labels.now)) }
 {
@@ -123,6 +120,7 @@ pub fn headers(labels: &Labels, section: u32) -> [u8; HEADERS]
 }
 
 // A mark, EOF1, EOF2 and a mark.
+#[tactic(auto, using(crate::proofs::Filled::made))]
 pub fn file_end(labels: &Labels, section: u32, count: u32) -> [u8; FILE_END]
     ensures { result ≡ encode (file_end (set_in labels.now) (entry_in labels.now) section (sequence_in labels.now) count) }
 {
@@ -130,6 +128,7 @@ pub fn file_end(labels: &Labels, section: u32, count: u32) -> [u8; FILE_END]
 }
 
 // The second mark behind the last labels of a reel, and the reel's end.
+#[tactic(auto, using(crate::proofs::Filled::made))]
 pub fn reel_end() -> [u8; REEL_END]
     ensures { result ≡ encode (mark ∷ reel_end ∷ []) }
 {

@@ -1,5 +1,5 @@
 -- The check of all files of a set: those that are left answer as all of them. Assumes nothing.
-use mathlib.Core.Path.{◌≡◌, refl, sym, ap, ◌∙◌}
+use mathlib.Core.Path.{◌≡◌, refl, sym, ap, ◌∙◌, subst}
 use mathlib.Core.Bool.{Bool, true, false}
 use mathlib.Core.List.{List, [], ◌∷◌, map, flatten as end_to_end}
 use Prim.Native.Nat.{ℕ, ◌+◌, ◌-◌, ◌^◌, ◌≤◌, ◌<◌}
@@ -16,16 +16,16 @@ use Rattle.base.specs.If.{if_b}
 use Rattle.base.proofs.Ifs.{if_true, if_false}
 use Rattle.base.specs.Sum.{sum, cut_by}
 use Rattle.base.specs.Answer.{verdict}
+use Rattle.std.specs.Prelude.{Result, Ok, Err}
+use Rattle.std.specs.Result.{IsErrAnd}
 use Rattle.base.specs.declared.Verdict.{Verdict}
 use Rattle.base.proofs.Sums.{sum_at}
 use Rattle.image.specs.Item.{Item, encode as image_bytes}
 use Rattle.image.proofs.RoundTrip.{encode_append}
 use Rattle.simh.specs.declared.import.Scan.{Scan}
-use Rattle.simh.specs.declared.import.Measure.{Measure}
 use Rattle.simh.specs.Tape.{decode}
-use Rattle.simh.specs.Set.{torn, reel_verdict, reels_verdict, reels_in, is_few, tape_verdict}
-use Rattle.simh.specs.Code.Passes.{items_in, DidScan, DidMeasure}
-use Rattle.simh.proofs.Reels.{reels_close, close_reels}
+use Rattle.simh.specs.Set.{reel_verdict, reels_verdict, reels_in, is_few, tape_verdict}
+use Rattle.simh.specs.Code.Passes.{items_in, Answered, Right, Wrong, Scanned, Measured}
 use Rattle.simh.proofs.Sizes.{no_bytes}
 
 -- the files from number i on, which begin at a place
@@ -106,56 +106,54 @@ module _ (tape lengths : List ℕ) (from item len i : ℕ) (m : Measuring tape l
       → item + length (take (from + get_or lengths i 0 - from) (drop from tape)) < 18446744073709551616
   scan_fits f = omega (arith, m.counted, room, file_long tape from (get_or lengths i 0) room)
 
-  module _ (r : Scan) (x : DidScan item (take (from + get_or lengths i 0 - from) (drop from tape)) r) where
+  module _ (r : Scan) (x : Scanned item (take (from + get_or lengths i 0 - from) (drop from tape)) r) where
     long : length (take (from + get_or lengths i 0 - from) (drop from tape)) ≡ get_or lengths i 0
     long = file_long tape from (get_or lengths i 0) room
 
     pub lens_fit : length tape < 2 ^ 64 → Fits w64 (len + r.len)
     lens_fit f = record { fits = omega (arith, m.short, x.less, long, room) }
 
-    pub measuring_more : r.torn ≡ false → Measuring tape lengths (from + get_or lengths i 0) r.item (len + r.len) (i + 1)
+    pub measuring_more : reel_verdict item (decode (take (from + get_or lengths i 0 - from) (drop from tape))) ≡ verdict 0 0 0
+        → Measuring tape lengths (from + get_or lengths i 0) r.item (len + r.len) (i + 1)
     unfolding reels_verdict verdict
     measuring_more f =
         let here : List ℕ = take (from + get_or lengths i 0 - from) (drop from tape) in
         let rest : List (List Item) = reels_from tape lengths (from + get_or lengths i 0) (i + 1) in
         let at : reels_from tape lengths from i ≡ decode here ∷ rest = reels_at_lem tape lengths from i h in
-        let none : (reel_verdict item (decode here)).number ≡ 0 = ap (λ (v : Verdict). v.number) (x.right f) in
+        let none : (reel_verdict item (decode here)).number ≡ 0 = ap (λ (v : Verdict). v.number) f in
         let size = ap (λ (rs : List (List Item)). length (image_bytes (end_to_end rs))) at ∙ reels_bytes (decode here) rest in
         record {
           between = between_more tape lengths from i m.between h;
           counted = omega (arith, m.counted, x.few, long);
           short = omega (arith, m.short, x.less, long);
           left =
-              ap (λ (k : ℕ). reels_verdict k rest) (x.all f)
+              ap (λ (k : ℕ). reels_verdict k rest) x.all
               ∙ sym (ap (reels_verdict item) at ∙ if_true _ _ _ (eq-eqb _ 0 none))
               ∙ m.left;
-          bytes = omega (arith, m.bytes, size, x.bytes f);
+          bytes = omega (arith, m.bytes, size, x.bytes);
         }
 
-    pub measured_torn : (v : Verdict) → r.torn ≡ true → v ≡ torn r.item
-        → DidMeasure (reels_verdict 0 (reels_in tape lengths)) tape lengths (record { verdict = v; len = 0 })
-    unfolding reels_verdict torn verdict
-    measured_torn v t e =
-        let here : List ℕ = take (from + get_or lengths i 0 - from) (drop from tape) in
-        let wrong : reel_verdict item (decode here) ≡ torn r.item = x.wrong t in
-        let number : (reel_verdict item (decode here)).number ≡ 15 = ap (λ (u : Verdict). u.number) wrong in
-        let said : v.number ≡ 15 = ap (λ (u : Verdict). u.number) e in
-        record {
-          said =
-              e ∙ sym (ap (reels_verdict item) (reels_at_lem tape lengths from i h)
-              ∙ if_false _ _ _ (ne_eqb (reel_verdict item (decode here)).number 0 (λ z. absurd (omega arith))) ∙ wrong)
-              ∙ m.left;
-          bytes = λ z. absurd (omega arith);
-        }
+  -- a file in which something is wrong answers for all
+  pub measured_torn : (v : Verdict) → Wrong (reel_verdict item (decode (take (from + get_or lengths i 0 - from) (drop from tape)))) v
+      → Wrong (reels_verdict 0 (reels_in tape lengths)) v
+  unfolding reels_verdict
+  measured_torn v x =
+      let here : List ℕ = take (from + get_or lengths i 0 - from) (drop from tape) in
+      record {
+        said =
+            x.said ∙ sym (ap (reels_verdict item) (reels_at_lem tape lengths from i h)
+            ∙ if_false _ _ _ (ne_eqb (reel_verdict item (decode here)).number 0 (λ z. x.number (ap (λ (u : Verdict). u.number) x.said ∙ z))))
+            ∙ m.left;
+        number = x.number;
+      }
 
-pub measured_all : (tape lengths : List ℕ) (from item len i : ℕ) (v : Verdict) → Measuring tape lengths from item len i
-    → length lengths ≤ i
-    → v ≡ verdict 0 0 0 → DidMeasure (reels_verdict 0 (reels_in tape lengths)) tape lengths (record { verdict = v; len = len })
+pub measured_all : (tape lengths : List ℕ) (from item len i : ℕ) → Measuring tape lengths from item len i → length lengths ≤ i
+    → Right (reels_verdict 0 (reels_in tape lengths)) (Measured tape lengths) len
 unfolding reels_verdict
-measured_all tape lengths from item len i v m h e =
+measured_all tape lengths from item len i m h =
     let gone : reels_from tape lengths from i ≡ [] = reels_past tape lengths from i h in
     let size = ap (λ (rs : List (List Item)). length (image_bytes (end_to_end rs))) gone ∙ no_reels in
-    record { said = e ∙ sym (ap (reels_verdict item) gone) ∙ m.left; bytes = λ _. omega (arith, m.bytes) }
+    record { said = sym m.left ∙ ap (reels_verdict item) gone; is = omega (arith, m.bytes) }
 
 pub file_start : (from n : ℕ) → from ≤ from + n
 file_start from n = omega arith
@@ -163,50 +161,48 @@ file_start from n = omega arith
 pub ruleset measures =
     (measuring_none, measuring_more, measured_torn, measured_all, file_within, file_fits, file_start, scan_fits, lens_fit, rules)
 
+-- a refusal that is handed on, as it was
+pub passed_on : {A : Type 0} (v : Verdict) (found : A → Type 0) (r : Result A Verdict) (e : Verdict) → IsErrAnd r (λ (u : Verdict). u ≡ e)
+    → Wrong v e → Answered v found r
+passed_on v found (Ok x) e h w = absurd h
+passed_on v found (Err u) e h w = subst (Wrong v) (sym h) w
+
 -- ---- the answer on the set
 
 pub sums_right : (b : Bool) (tape lengths : List ℕ) → b ≡ eqb (sum lengths) (length tape) → b ≡ true → sum lengths ≡ length tape
 sums_right b tape lengths e h = eqb-true (sum lengths) (length tape) (sym e ∙ h)
 
 pub checked_sum : (b : Bool) (tape lengths : List ℕ) (v : Verdict) → b ≡ eqb (sum lengths) (length tape) → b ≡ false
-    → v ≡ verdict 15 0 0
-    → DidMeasure (tape_verdict tape lengths) tape lengths (record { verdict = v; len = 0 })
+    → v ≡ verdict 15 0 0 → Wrong (tape_verdict tape lengths) v
 unfolding tape_verdict verdict
 checked_sum b tape lengths v e h q =
     let said : v.number ≡ 15 = ap (λ (u : Verdict). u.number) q in
-    record { said = q ∙ sym (if_false _ _ _ (sym e ∙ h)); bytes = λ z. absurd (omega arith) }
+    record { said = q ∙ sym (if_false _ _ _ (sym e ∙ h)); number = λ z. absurd (omega arith) }
 
-module _ (b : Bool) (tape lengths : List ℕ) (m : Measure) (e : b ≡ eqb (sum lengths) (length tape)) (h : b ≡ true)
-    (x : DidMeasure (reels_verdict 0 (reels_in tape lengths)) tape lengths m) where
-  pub checked_torn : (m.verdict.number ≡ 0 → ⊥) → DidMeasure (tape_verdict tape lengths) tape lengths m
+module _ (b : Bool) (tape lengths : List ℕ) (e : b ≡ eqb (sum lengths) (length tape)) (h : b ≡ true) where
+  pub checked_torn : (v : Verdict) → Wrong (reels_verdict 0 (reels_in tape lengths)) v → Wrong (tape_verdict tape lengths) v
   unfolding tape_verdict
-  checked_torn z =
+  checked_torn v x =
       record {
         said =
             x.said ∙ sym (if_true _ _ _ (sym e ∙ h)
-            ∙ if_false _ _ _ (ne_eqb _ 0 (λ q. z (ap (λ (v : Verdict). v.number) x.said ∙ q))));
-        bytes = x.bytes;
+            ∙ if_false _ _ _ (ne_eqb _ 0 (λ q. x.number (ap (λ (u : Verdict). u.number) x.said ∙ q))));
+        number = x.number;
       }
 
-  module _ (z : m.verdict.number ≡ 0) where
+  module _ (n : ℕ) (x : Right (reels_verdict 0 (reels_in tape lengths)) (Measured tape lengths) n) (few : Bool)
+      (k : few ≡ is_few (length lengths)) where
     found : tape_verdict tape lengths ≡ if_b (is_few (length lengths)) (verdict 0 0 0) (verdict 2 0 0)
-    unfolding tape_verdict
-    found = if_true _ _ _ (sym e ∙ h) ∙ if_true _ _ _ (eq-eqb _ 0 (sym (ap (λ (v : Verdict). v.number) x.said) ∙ z))
+    unfolding tape_verdict verdict
+    found = if_true _ _ _ (sym e ∙ h) ∙ if_true _ _ _ (eq-eqb _ 0 (ap (λ (u : Verdict). u.number) x.said))
 
-    zero : m.verdict ≡ verdict 0 0 0
-    zero =
-        x.said ∙ close_reels 0 (reels_in tape lengths)
-        (reels_close 0 (reels_in tape lengths) (sym (ap (λ (v : Verdict). v.number) x.said) ∙ z))
+    pub checked_few : few ≡ true → Right (tape_verdict tape lengths) (Measured tape lengths) n
+    checked_few l = record { said = found ∙ if_true _ _ _ (sym k ∙ l); is = x.is }
 
-    pub checked_few : (few : Bool) → few ≡ is_few (length lengths) → few ≡ true
-        → DidMeasure (tape_verdict tape lengths) tape lengths m
-    checked_few few k l = record { said = zero ∙ sym (found ∙ if_true _ _ _ (sym k ∙ l)); bytes = x.bytes }
-
-    pub checked_many : (few : Bool) (v : Verdict) → few ≡ is_few (length lengths) → few ≡ false → v ≡ verdict 2 0 0
-        → DidMeasure (tape_verdict tape lengths) tape lengths (record { verdict = v; len = 0 })
+    pub checked_many : (v : Verdict) → few ≡ false → v ≡ verdict 2 0 0 → Wrong (tape_verdict tape lengths) v
     unfolding verdict
-    checked_many few v k l q =
+    checked_many v l q =
         let said : v.number ≡ 2 = ap (λ (u : Verdict). u.number) q in
-        record { said = q ∙ sym (found ∙ if_false _ _ _ (sym k ∙ l)); bytes = λ y. absurd (omega arith) }
+        record { said = q ∙ sym (found ∙ if_false _ _ _ (sym k ∙ l)); number = λ z. absurd (omega arith) }
 
 pub ruleset checks = (sums_right, checked_sum, checked_torn, checked_few, checked_many, rules)

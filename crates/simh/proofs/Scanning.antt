@@ -1,38 +1,36 @@
 -- The check of one file: what is left of it answers as the whole. Assumes nothing.
 use mathlib.Core.Path.{◌≡◌, refl, sym, ap, ◌∙◌, subst}
-use mathlib.Core.Bool.{true, false, false≢true}
 use mathlib.Core.List.{List, [], ◌∷◌}
 use Prim.Native.Nat.{ℕ, ◌+◌, ◌^◌, ◌≤◌, ◌<◌, min}
 use native.Mathlib.Omega.{arith}
 use mir.Syntax.{w64}
 use mir.Val.{Fits}
 use borrow.Author.Rules.{rules}
-use borrow.Author.Tests.{ltb-true, ltb-false}
-use lib.Dec.{ltb}
 use lib.ListN.{length, drop}
 use Rattle.base.specs.Part.{part}
 use Rattle.base.specs.Answer.{verdict}
+use Rattle.base.specs.declared.Verdict.{Verdict}
+use Rattle.std.specs.Prelude.{Ok, Err}
 use Rattle.base.proofs.Parts.{length_part}
 use Rattle.image.specs.Item.{Item, block, mark, reel_end, most_bytes, encode as image_bytes}
 use Rattle.image.specs.declared.Shape.{Shape}
 use Rattle.image.specs.declared.Shape.TheVariants.{Block, Mark, ReelEnd, Broken}
 use Rattle.simh.specs.Tape.{span_of, shape, decode}
-use Rattle.simh.specs.Set.{most_item, torn, reel_verdict}
-use Rattle.simh.specs.Code.Passes.{DidScan}
+use Rattle.simh.specs.Set.{torn, reel_verdict}
+use Rattle.simh.specs.Code.Passes.{Answered, Scanned}
 use Rattle.simh.proofs.Files.{block_at, block_within, mark_within, end_within, decode_past, decode_at, decode_block, decode_mark, decode_end, decode_broken}
 use Rattle.simh.proofs.Sizes.{no_bytes, image_block, image_mark, image_end_lem}
 
 -- ---- the place of 15
 
-pub torn_low : (n : ℕ) → n ≤ most_item → record { number = 15; item = n; byte = 0 } ≡ torn n
+pub torn_place : (n k : ℕ) → k ≡ min n 4294967295 → verdict 15 k 0 ≡ torn n
 unfolding torn verdict
-torn_low n h = let e : n ≡ min n most_item = omega arith in ap (λ (k : ℕ). verdict 15 k 0) e
+torn_place n k e = ap (λ (i : ℕ). verdict 15 i 0) e
 
-pub torn_high : (n : ℕ) → most_item < n → record { number = 15; item = 4294967295; byte = 0 } ≡ torn n
+-- and it is a refusal
+torn_wrong : (v : Verdict) (n : ℕ) → v ≡ torn n → v.number ≡ 0 → ⊥
 unfolding torn verdict
-torn_high n h = let e : 4294967295 ≡ min n most_item = omega arith in ap (λ (k : ℕ). verdict 15 k 0) e
-
-pub ruleset torns = (torn_low, torn_high, rules)
+torn_wrong v n e z = let said : v.number ≡ 15 = ap (λ (u : Verdict). u.number) e in absurd (omega arith)
 
 -- ---- one file: at a place, with items and their bytes passed
 
@@ -86,52 +84,55 @@ module _ (first : ℕ) (s : List ℕ) (at item len : ℕ) (p : Shape) (w : Scann
         bytes = omega (arith, w.bytes);
       }
 
-  -- the end of the medium: bytes behind it are wrong
-  pub scanned_end : p ≡ ReelEnd → DidScan first s (record { torn = ltb (at + 4) (length s); item = item + 1; len = len + 3 })
+  -- the end of the medium, with nothing behind it
+  pub scanned_end : p ≡ ReelEnd → length s ≤ at + 4
+      → Answered (reel_verdict first (decode s)) (Scanned first s) (Ok (record { item = item + 1; len = len + 3 }))
   unfolding reel_verdict
-  scanned_end q =
+  scanned_end q k =
       let there : shape (drop at s) ≡ ReelEnd = sym e ∙ q in
       let room : at + 4 ≤ length s = end_within s at there in
-      let d : decode (drop at s) ≡ reel_end ∷ decode (drop (at + 4) s) = decode_end s at h there in
-      let gone : ltb (at + 4) (length s) ≡ false → decode (drop (at + 4) s) ≡ [] = λ f. decode_past s (at + 4) (ltb-false (at + 4) (length s) f) in
-      let last : ltb (at + 4) (length s) ≡ false → decode (drop at s) ≡ reel_end ∷ [] = λ f. d ∙ ap (λ (xs : List Item). reel_end ∷ xs) (gone f) in
+      let last : decode (drop at s) ≡ reel_end ∷ []
+      = decode_end s at h there ∙ ap (λ (xs : List Item). reel_end ∷ xs) (decode_past s (at + 4) k) in
       record {
-        wrong =
-            λ t. sym w.left ∙ ap (reel_verdict item) (d
-            ∙ ap (λ (xs : List Item). reel_end ∷ xs)
-            (decode_at s (at + 4) (shape (drop (at + 4) s)) (ltb-true (at + 4) (length s) t) refl));
-        right = λ f. sym w.left ∙ ap (reel_verdict item) (last f);
-        all = λ f. omega (arith, w.all, ap length (last f));
-        bytes = λ f. omega (arith, w.bytes, ap (λ (xs : List Item). length (image_bytes xs)) (last f) ∙ image_end_lem [], no_bytes);
-        few = omega (arith, w.counted);
-        less = omega (arith, w.short);
+        said = sym w.left ∙ ap (reel_verdict item) last;
+        is =
+            record {
+              all = omega (arith, w.all, ap length last);
+              bytes = omega (arith, w.bytes, ap (λ (xs : List Item). length (image_bytes xs)) last ∙ image_end_lem [], no_bytes);
+              few = omega (arith, w.counted);
+              less = omega (arith, w.short);
+            };
       }
 
-  pub scanned_broken : p ≡ Broken → DidScan first s (record { torn = true; item = item; len = len })
+  -- bytes behind it are wrong
+  pub scanned_over : (v : Verdict) → v ≡ torn (item + 1) → p ≡ ReelEnd → at + 4 < length s
+      → Answered (reel_verdict first (decode s)) (Scanned first s) (Err v)
   unfolding reel_verdict
-  scanned_broken q =
+  scanned_over v t q k =
+      let d : decode (drop at s) ≡ reel_end ∷ decode (drop (at + 4) s) = decode_end s at h (sym e ∙ q) in
       record {
-        wrong = λ _. sym w.left ∙ ap (reel_verdict item) (decode_broken s at h (sym e ∙ q));
-        right = λ f. absurd (false≢true (sym f));
-        all = λ f. absurd (false≢true (sym f));
-        bytes = λ f. absurd (false≢true (sym f));
-        few = omega (arith, w.counted);
-        less = omega (arith, w.short);
+        said =
+            t ∙ sym (sym w.left ∙ ap (reel_verdict item) (d
+            ∙ ap (λ (xs : List Item). reel_end ∷ xs) (decode_at s (at + 4) (shape (drop (at + 4) s)) k refl)));
+        number = torn_wrong v (item + 1) t;
+      }
+
+  -- so is what is no item
+  pub scanned_broken : (v : Verdict) → v ≡ torn item → p ≡ Broken
+      → Answered (reel_verdict first (decode s)) (Scanned first s) (Err v)
+  unfolding reel_verdict
+  scanned_broken v t q =
+      record {
+        said = t ∙ sym (sym w.left ∙ ap (reel_verdict item) (decode_broken s at h (sym e ∙ q)));
+        number = torn_wrong v item t;
       }
 
 -- no end of the medium
 pub scanned_open : (first : ℕ) (s : List ℕ) (at item len : ℕ) → Scanning first s at item len → length s ≤ at
-    → DidScan first s (record { torn = true; item = item; len = len })
+    → (v : Verdict) → v ≡ torn item → Answered (reel_verdict first (decode s)) (Scanned first s) (Err v)
 unfolding reel_verdict
-scanned_open first s at item len w h =
-    record {
-      wrong = λ _. sym w.left ∙ ap (reel_verdict item) (decode_past s at h);
-      right = λ f. absurd (false≢true (sym f));
-      all = λ f. absurd (false≢true (sym f));
-      bytes = λ f. absurd (false≢true (sym f));
-      few = omega (arith, w.counted, w.within);
-      less = omega (arith, w.short, w.within);
-    }
+scanned_open first s at item len w h v t =
+    record { said = t ∙ sym (sym w.left ∙ ap (reel_verdict item) (decode_past s at h)); number = torn_wrong v item t }
 
 -- what the sums of a turn want
 pub block_most : (s : List ℕ) (at n : ℕ) (p : Shape) → p ≡ shape (drop at s) → p ≡ Block n → n ≤ most_bytes
@@ -154,4 +155,4 @@ pub end_fits : (s : List ℕ) (at : ℕ) (p : Shape) → p ≡ shape (drop at s)
 end_fits s at p e q h = let room : at + 4 ≤ length s = end_within s at (sym e ∙ q) in record { fits = omega arith }
 
 pub ruleset scans =
-    (scanning_none, scanning_block, scanning_mark, scanned_end, scanned_broken, scanned_open, block_most, place_fits, len_fits, mark_fits, end_fits, rules)
+    (scanning_none, scanning_block, scanning_mark, scanned_end, scanned_over, scanned_broken, scanned_open, block_most, place_fits, len_fits, mark_fits, end_fits, rules)

@@ -9,6 +9,7 @@ use mir.Val.{Fits}
 use borrow.Author.Rules.{rules}
 use lib.ListN.{length, drop}
 use Rattle.base.specs.Answer.{verdict}
+use Rattle.std.specs.Prelude.{Result}
 use Rattle.base.specs.Part.{part}
 use Rattle.base.specs.declared.Verdict.{Verdict}
 use Rattle.base.proofs.Parts.{length_part}
@@ -20,7 +21,7 @@ use Rattle.image.proofs.Items.{block_at, block_within, block_fits, decode_past, 
 use Rattle.image.proofs.Frames.{FramedUpTo, walked_none, walked_block, walked_mark, walked_reel_end, walked_full, walked_broken, walked_closed, walked_open, opens_small, framing_opened, framing_shut}
 use Rattle.simh.specs.declared.export.Size.{Size}
 use Rattle.simh.specs.Tape.{span_of, encode}
-use Rattle.simh.specs.Code.Passes.{lengths_from, DidSize, wrong_item, size_of}
+use Rattle.simh.specs.Code.Passes.{lengths_from, Answered, Right, Wrong, Sized}
 use Rattle.simh.proofs.Lengths.{lengths_alike}
 use Rattle.simh.proofs.Sizes.{no_file, file_block, file_mark, file_end_lem}
 
@@ -91,43 +92,36 @@ module _ (s : List ℕ) (at n r : ℕ) (closed : Bool) (len : ℕ) (p : Shape) (
 
 -- ---- the returns
 
--- an answer that is a refusal tells nothing of a size
-sized_refused : (s : List ℕ) (z : Size) (n : ℕ) → z ≡ wrong_item n → z.verdict ≡ framed_from 0 0 false (items s)
-    → DidSize (framed_from 0 0 false (items s)) s z
-unfolding wrong_item verdict
-sized_refused s z n e a =
-    let two : z.verdict.number ≡ 2 = ap (λ (y : Size). y.verdict.number) e in
-    record { said = a; bytes = λ q. absurd (omega arith); reels = λ q. absurd (omega arith) }
-
-answer_of_lem : (z : Size) (n : ℕ) → z ≡ wrong_item n → z.verdict ≡ verdict 2 n 0
-unfolding wrong_item
-answer_of_lem z n e = ap (λ (y : Size). y.verdict) e
+-- number 2 is a refusal
+two_wrong : (s : List ℕ) (v : Verdict) (n : ℕ) → v ≡ verdict 2 n 0 → v ≡ framed_from 0 0 false (items s)
+    → Wrong (framed_from 0 0 false (items s)) v
+unfolding verdict
+two_wrong s v n e a =
+    let two : v.number ≡ 2 = ap (λ (u : Verdict). u.number) e in
+    record { said = a; number = λ q. absurd (omega arith) }
 
 module _ (s : List ℕ) (at n r : ℕ) (closed : Bool) (len : ℕ) (w : Sizing s at n r closed len) where
-  pub sized_full : (z : Size) → z ≡ wrong_item n → at < length s → r ≡ most_reels → DidSize (framed_from 0 0 false (items s)) s z
-  sized_full z e h q = sized_refused s z n e (walked_full s _ at n r closed z.verdict (answer_of_lem z n e) w.walked h q)
+  pub sized_full : (v : Verdict) → v ≡ verdict 2 n 0 → at < length s → r ≡ most_reels → Wrong (framed_from 0 0 false (items s)) v
+  sized_full v e h q = two_wrong s v n e (walked_full s _ at n r closed v e w.walked h q)
 
-  pub sized_broken : (p : Shape) (z : Size) → z ≡ wrong_item n → at < length s → p ≡ shape (drop at s) → p ≡ Broken
-      → DidSize (framed_from 0 0 false (items s)) s z
-  sized_broken p z e h k q =
-      sized_refused s z n e (walked_broken s _ at n r closed p z.verdict (answer_of_lem z n e) w.walked h k q)
+  pub sized_broken : (p : Shape) (v : Verdict) → v ≡ verdict 2 n 0 → at < length s → p ≡ shape (drop at s) → p ≡ Broken
+      → Wrong (framed_from 0 0 false (items s)) v
+  sized_broken p v e h k q = two_wrong s v n e (walked_broken s _ at n r closed p v e w.walked h k q)
 
-  pub sized_open : (z : Size) → z ≡ wrong_item n → length s ≤ at → closed ≡ false → DidSize (framed_from 0 0 false (items s)) s z
-  sized_open z e h q = sized_refused s z n e (walked_open s _ at n r closed z.verdict (answer_of_lem z n e) w.walked h q)
+  pub sized_open : (v : Verdict) → v ≡ verdict 2 n 0 → length s ≤ at → closed ≡ false → Wrong (framed_from 0 0 false (items s)) v
+  sized_open v e h q = two_wrong s v n e (walked_open s _ at n r closed v e w.walked h q)
 
-  pub sized_closed : (z : Size) → z ≡ size_of len r → length s ≤ at → closed ≡ true
-      → DidSize (framed_from 0 0 false (items s)) s z
-  unfolding size_of verdict lengths_from
-  sized_closed z e h q =
+  pub sized_closed : length s ≤ at → closed ≡ true
+      → Right (framed_from 0 0 false (items s)) (Sized s) (record { len = len; files = r })
+  unfolding lengths_from
+  sized_closed h q =
       let gone : decode (drop at s) ≡ [] = decode_past s at h in
       let none = ap (λ (ys : List Item). length (encode ys)) gone ∙ no_file in
       let over = ap (λ (ys : List Item). length (lengths_from 0 ys)) gone in
-      subst (DidSize (framed_from 0 0 false (items s)) s) (sym e)
-      (record {
-        said = walked_closed s _ at n r closed (verdict 0 0 0) refl w.walked h q;
-        bytes = λ _. omega (arith, w.bytes);
-        reels = λ _. omega (arith, w.count);
-      })
+      record {
+        said = sym (walked_closed s _ at n r closed (verdict 0 0 0) refl w.walked h q);
+        is = record { bytes = omega (arith, w.bytes); reels = omega (arith, w.count) };
+      }
 
   pub len_fits : (p : Shape) (m k : ℕ) → p ≡ shape (drop at s) → p ≡ Block m → k ≡ span_of m → length s ≤ most_image
       → Fits w64 (len + k)
@@ -143,14 +137,12 @@ pub ruleset sizes =
 
 -- ---- any image
 
-pub framed_opened : (s : List ℕ) (b : Bool) (z : Size) → b ≡ opens s → b ≡ true → DidSize (framed_from 0 0 false (items s)) s z
-    → DidSize (framing s) s z
-framed_opened s b z e h x = record { said = x.said ∙ sym (framing_opened s (sym e ∙ h)); bytes = x.bytes; reels = x.reels }
+pub framed_opened : (s : List ℕ) (b : Bool) (z : Result Size Verdict) → b ≡ opens s → b ≡ true
+    → Answered (framed_from 0 0 false (items s)) (Sized s) z → Answered (framing s) (Sized s) z
+framed_opened s b z e h = subst (λ (v : Verdict). Answered v (Sized s) z) (sym (framing_opened s (sym e ∙ h)))
 
-pub framed_shut : (s : List ℕ) (b : Bool) (v : Verdict) → b ≡ opens s → b ≡ false → v ≡ framing s
-    → DidSize (framing s) s (record { verdict = v; len = 0; files = 0 })
+pub framed_shut : (s : List ℕ) (b : Bool) (v : Verdict) → b ≡ opens s → b ≡ false → v ≡ framing s → Wrong (framing s) v
 framed_shut s b v e h q =
-    let wrong : v.number ≡ 0 → ⊥ = λ z. framing_shut s (sym e ∙ h) (sym (ap (λ (u : Verdict). u.number) q) ∙ z) in
-    record { said = q; bytes = λ z. absurd (wrong z); reels = λ z. absurd (wrong z) }
+    record { said = q; number = λ z. framing_shut s (sym e ∙ h) (sym (ap (λ (u : Verdict). u.number) q) ∙ z) }
 
 pub ruleset frames = (framed_opened, framed_shut, opens_small, rules)

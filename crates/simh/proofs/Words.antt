@@ -2,16 +2,20 @@
 use mathlib.Core.Path.{◌≡◌, sym, ap, ap₂, ◌∙◌}
 use mathlib.Core.Bool.{Bool, true, false, ◌&&◌}
 use mathlib.Core.List.{List, [], ◌∷◌, ◌++◌}
-use Prim.Native.Nat.{ℕ, ◌+◌, ◌*◌, ◌-◌, ◌/◌, ◌%◌, ◌≤◌, ◌<◌}
+use Prim.Native.Nat.{ℕ, ◌+◌, ◌*◌, ◌-◌, ◌%◌, ◌≤◌, ◌<◌, min}
 use native.Mathlib.Omega.{arith}
 use borrow.Author.Rules.{rules}
 use borrow.Author.Tests.{eq-eqb, ne_eqb, eqb-true, eqb-false, le-leb, lt-leb}
 use lib.Dec.{leb, eqb}
-use lib.ListN.{length, take, drop, get_or, set, length-append, length-drop, length-set}
+use mir.Syntax.{w32}
+use borrow.Rule.Slice.PartMut.{put_mid}
+use Rattle.std.specs.Int.{to_le_bytes}
+use Rattle.base.proofs.Numbers.{low_first}
+use lib.ListN.{length, take, drop, get_or, set, length-append, length-drop}
 use lib.Seq.{drop-cons, drop-drop, get_or-drop}
 use Rattle.base.proofs.Ifs.{if_true, if_false, if_case, and_left, and_right, if_itself}
 use Rattle.base.specs.Part.{part, put_at, all_are, put_in}
-use Rattle.base.proofs.Parts.{part_drop, length_put, put_none, put_put}
+use Rattle.base.proofs.Parts.{part_drop, put_mid_at, length_put, put_none, put_put}
 use Rattle.image.specs.Item.{block, three, bytes_of as image_item}
 use Rattle.image.specs.declared.Shape.{Shape}
 use Rattle.image.specs.declared.Shape.TheVariants.{Broken}
@@ -105,28 +109,20 @@ pub ruleset shapes = (word_read, shape_past, shape_short, shape_led, word_within
 
 -- ---- writing
 
-pub four_put : (o : List ℕ) (at n : ℕ) → at + 4 ≤ length o
-    → set (set (set (set o at (n % 256)) (at + 1) (n / 256 % 256)) (at + 2) (n / 65536 % 256)) (at + 3) (n / 16777216)
-    ≡ put_at o at (four n)
-unfolding four
-four_put o at n h =
-    let a : List ℕ = set o at (n % 256) in
-    let b : List ℕ = set a (at + 1) (n / 256 % 256) in
-    let c : List ℕ = set b (at + 2) (n / 65536 % 256) in
-    let la : length a ≡ length o = length-set o at (n % 256) in
-    let lb : length b ≡ length a = length-set a (at + 1) (n / 256 % 256) in
-    let lc : length c ≡ length b = length-set b (at + 2) (n / 65536 % 256) in
-    let second : at + 1 + 1 ≡ at + 2 = omega arith in
-    let third : at + 2 + 1 ≡ at + 3 = omega arith in
-    sym (put_first o at (n % 256) _ (omega arith)
-    ∙ put_first a (at + 1) (n / 256 % 256) _ (omega arith)
-    ∙ ap (λ (k : ℕ). put_at b k (n / 65536 % 256 ∷ n / 16777216 ∷ [])) second
-    ∙ put_first b (at + 2) (n / 65536 % 256) _ (omega arith)
-    ∙ ap (λ (k : ℕ). put_at c k (n / 16777216 ∷ [])) third
-    ∙ put_first c (at + 3) (n / 16777216) [] (omega arith)
-    ∙ put_none _ _)
+pub three_put : (o xs : List ℕ) (at n : ℕ) → n < 16777216 → xs ≡ three (min n 16777215)
+    → put_mid at (at + 3 - at) o xs ≡ put_at o at (three n)
+unfolding three
+three_put o xs at n h e =
+    let all : min n 16777215 ≡ n = omega arith in
+    let wide : 3 ≡ at + 3 - at = omega arith in
+    put_mid_at o at (at + 3 - at) xs (three n) wide (e ∙ ap three all)
 
-pub ruleset words = (four_put, rules)
+pub four_put : (o xs : List ℕ) (at n : ℕ) → n < 4294967296 → xs ≡ to_le_bytes w32 n
+    → put_mid at (at + 4 - at) o xs ≡ put_at o at (four n)
+unfolding four
+four_put o xs at n h e =
+    let wide : 4 ≡ at + 4 - at = omega arith in
+    put_mid_at o at (at + 4 - at) xs (four n) wide (e ∙ low_first n h)
 
 pub length_pad : (n : ℕ) → length (pad n) ≡ n % 2
 unfolding pad

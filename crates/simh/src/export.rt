@@ -5,7 +5,7 @@ ghost use Rattle.base.specs.Part.{put_at};
 ghost use Rattle.image.specs.Framing.{most_image, framed_from, items, framing};
 ghost use Rattle.simh.specs.Tape.{encode};
 ghost use Rattle.simh.specs.Set.{Converts, to_simh};
-ghost use Rattle.simh.specs.Code.Passes.{DidSize, FilesFit, wrong_item, size_of, short_of, lengths_from};
+ghost use Rattle.simh.specs.Code.Passes.{Answered, Sized, FilesFit, short_of, lengths_from};
 
 use crate::put::{put_four, put_record};
 use crate::tape::{END_WORD, span};
@@ -22,59 +22,30 @@ pub struct Tapes {
     pub files: u64,
 }
 
-// The answer on the framing of an image, and with 0 the bytes of its files and their number.
+// An image with a good framing: the bytes of its files and their number.
 #[derive(Clone, Copy)]
 pub struct Size {
-    pub verdict: Verdict,
     pub len: usize,
     pub files: usize,
 }
 
 // ---- the check
 
-// Number 2 at an item.
-fn wrong_item(item: u32) -> Size
-    ensures { result ≡ wrong_item item }
-{
-    Size {
-        verdict: Verdict {
-            number: 2,
-            item,
-            byte: 0,
-        },
-        len: 0,
-        files: 0,
-    }
-}
-
-// Number 0, with the size.
-fn good(len: usize, files: usize) -> Size
-    ensures { result ≡ size_of len files }
-{
-    Size {
-        verdict: Verdict {
-            number: 0,
-            item: 0,
-            byte: 0,
-        },
-        len,
-        files,
-    }
-}
-
 // The items of an image that opens as one.
-fn size_of_items(image: &[u8]) -> Size
+#[tactic(auto, using(crate::proofs::Sizing::sizes))]
+fn size_of_items(image: &[u8]) -> Result<Size, Verdict>
     requires { length image.now ≤ most_image }
-    ensures { DidSize (framed_from 0 0 false (items image.now)) image.now result }
+    ensures { Answered (framed_from 0 0 false (items image.now)) (Sized image.now) result }
 {
     let mut at: usize = 5;
     let mut item: u32 = 0;
     let mut files: usize = 0;
     let mut closed = false;
     let mut len: usize = 0;
+    // Kept by hand: each item says where the next stands; an iterator over them would be this loop, with a contract of its own.
     while at < image.len() {
         if files == MOST_REELS {
-            return wrong_item(item);
+            return Err(Verdict::at(2, item));
         }
         match shape_at(image, at) {
             Shape::Block(n) => {
@@ -96,32 +67,30 @@ fn size_of_items(image: &[u8]) -> Size
                 closed = true;
                 len += 4;
             }
-            Shape::Broken => return wrong_item(item),
+            Shape::Broken => return Err(Verdict::at(2, item)),
         }
     }
     if closed {
-        return good(len, files);
+        return Ok(Size { len, files });
     }
-    wrong_item(item)
+    Err(Verdict::at(2, item))
 }
 
 // The framing of an image, and the size of its files.
-fn size_of_image(image: &[u8]) -> Size
-    ensures { DidSize (framing image.now) image.now result }
+#[tactic(auto, using(crate::proofs::Sizing::frames))]
+fn size_of_image(image: &[u8]) -> Result<Size, Verdict>
+    ensures { Answered (framing image.now) (Sized image.now) result }
 {
     if image::opens(image) {
         return size_of_items(image);
     }
-    Size {
-        verdict: image::framing(image),
-        len: 0,
-        files: 0,
-    }
+    Err(image::framing(image))
 }
 
 // ---- the files
 
 // Writes the items of an image with a good framing as files, and the length of each file into the list.
+#[tactic(auto, using(crate::proofs::Laying::lays))]
 fn put_files(image: &[u8], out: &mut [u8], lengths: &mut [u64])
     requires { FilesFit (items image.now) (length out.old) (length lengths.old) }
     ensures out_after { out.new ≡ put_at out.old 0 (encode (items image.now)) }
@@ -131,6 +100,7 @@ fn put_files(image: &[u8], out: &mut [u8], lengths: &mut [u64])
     let mut to: usize = 0;
     let mut from: usize = 0;
     let mut file: usize = 0;
+    // Kept by hand: each item says where the next stands; an iterator over them would be this loop, with a contract of its own.
     while at < image.len() {
         match shape_at(image, at) {
             Shape::Block(n) => {
@@ -158,19 +128,23 @@ fn put_files(image: &[u8], out: &mut [u8], lengths: &mut [u64])
     }
 }
 
-// Number 10.
-fn too_short() -> Tapes
-    ensures { result ≡ short_of }
+// A refusal.
+fn refused(verdict: Verdict) -> Tapes
+    ensures { result ≡ record { verdict = verdict; len = 0; files = 0 } }
 {
     Tapes {
-        verdict: Verdict {
-            number: 10,
-            item: 0,
-            byte: 0,
-        },
+        verdict,
         len: 0,
         files: 0,
     }
+}
+
+// Number 10.
+#[tactic(auto, unfolding(crate::specs::Code::Passes::short_of))]
+fn too_short() -> Tapes
+    ensures { result ≡ short_of }
+{
+    refused(Verdict::at(10, 0))
 }
 
 // Converts an image into tape files, one a reel, end to end at the front of a lent buffer, their lengths at the front of a lent
@@ -179,25 +153,20 @@ fn too_short() -> Tapes
 pub fn to_simh(image: &[u8], out: &mut [u8], lengths: &mut [u64]) -> Tapes
     ensures { Converts (to_simh image.now out.old lengths.old) result out.new lengths.new }
 {
-    let z = size_of_image(image);
-    let verdict = z.verdict;
-    if verdict.number != 0 {
-        return Tapes {
-            verdict,
-            len: 0,
-            files: 0,
-        };
-    }
-    if out.len() < z.len {
+    let size = match size_of_image(image) {
+        Ok(size) => size,
+        Err(verdict) => return refused(verdict),
+    };
+    if out.len() < size.len {
         return too_short();
     }
-    if lengths.len() < z.files {
+    if lengths.len() < size.files {
         return too_short();
     }
     put_files(image, out, lengths);
     Tapes {
-        verdict,
-        len: z.len as u64,
-        files: z.files as u64,
+        verdict: Verdict::at(0, 0),
+        len: size.len as u64,
+        files: size.files as u64,
     }
 }

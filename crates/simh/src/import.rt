@@ -3,11 +3,10 @@
 ghost use Rattle.std.specs.Prelude.{◌≡◌, ◌+◌, ◌<◌, length};
 ghost use Rattle.base.specs.Sum.{sum};
 ghost use Rattle.base.specs.Part.{put_at};
-ghost use Rattle.base.specs.Answer.{verdict};
 ghost use Rattle.image.specs.Item.{encode as image_bytes};
 ghost use Rattle.output.specs.Output.{AnswersAt};
-ghost use Rattle.simh.specs.Set.{torn, reels_verdict, reels_in, is_few, tape_verdict, from_simh};
-ghost use Rattle.simh.specs.Code.Passes.{DidScan, DidMeasure, FittingItems, Storable, items_in};
+ghost use Rattle.simh.specs.Set.{torn, reel_verdict, reels_verdict, reels_in, is_few, tape_verdict, from_simh};
+ghost use Rattle.simh.specs.Code.Passes.{Answered, Scanned, Measured, FittingItems, Storable, items_in};
 ghost use Rattle.simh.specs.Tape.{decode};
 
 use crate::put::{put_block, put_three};
@@ -22,27 +21,26 @@ const MOST_BEHIND: usize = 16777210;
 const MOST_FILES: usize = 16;
 
 // The most that a place can say.
-const MOST_PLACE: u32 = 4294967295;
+const MOST_PLACE: usize = 4294967295;
 
 // ---- the check
 
-// What one file holds: whether it is torn, the number of the item at which it is, or of that behind its last, and the bytes of
-// its items in an image.
+// What one file holds in which nothing is wrong: the number of the item behind its last, and the bytes of its items in an image.
 #[derive(Clone, Copy)]
 pub struct Scan {
-    pub torn: bool,
     pub item: usize,
     pub len: usize,
 }
 
 // One file, whose first item has this number.
-fn scan_reel(reel: &[u8], first: usize) -> Scan
+fn scan_reel(reel: &[u8], first: usize) -> Result<Scan, Verdict>
     requires { first + length reel.now < 18446744073709551616 }
-    ensures { DidScan first reel.now result }
+    ensures { Answered (reel_verdict first (decode reel.now)) (Scanned first reel.now) result }
 {
     let mut at: usize = 0;
     let mut item = first;
     let mut len: usize = 0;
+    // Kept by hand: each item says where the next stands; an iterator over them would be this loop, with a contract of its own.
     while at < reel.len() {
         match shape_at(reel, at) {
             Shape::Block(n) => {
@@ -56,127 +54,73 @@ fn scan_reel(reel: &[u8], first: usize) -> Scan
                 len += 3;
             }
             Shape::ReelEnd => {
-                return Scan {
-                    torn: at + 4 < reel.len(),
+                if at + 4 < reel.len() {
+                    return Err(torn_at(item + 1));
+                }
+                return Ok(Scan {
                     item: item + 1,
                     len: len + 3,
-                };
+                });
             }
-            Shape::Broken => {
-                return Scan {
-                    torn: true,
-                    item,
-                    len,
-                };
-            }
+            Shape::Broken => return Err(torn_at(item)),
         }
     }
-    Scan {
-        torn: true,
-        item,
-        len,
-    }
+    Err(torn_at(item))
 }
 
 // 15 at an item.
+#[tactic(auto, using(crate::proofs::Scanning::torn_place))]
 fn torn_at(item: usize) -> Verdict
     ensures { result ≡ torn item }
 {
-    if item <= MOST_PLACE as usize {
-        return Verdict {
-            number: 15,
-            item: item as u32,
-            byte: 0,
-        };
-    }
-    Verdict {
-        number: 15,
-        item: MOST_PLACE,
-        byte: 0,
-    }
+    Verdict::at(15, item.min(MOST_PLACE) as u32)
 }
 
-// An answer without a place.
-fn placeless(number: u32) -> Verdict
-    ensures { result ≡ verdict number 0 0 }
-{
-    Verdict {
-        number,
-        item: 0,
-        byte: 0,
-    }
-}
-
-// The answer on files, and with 0 the bytes of their items in an image.
-#[derive(Clone, Copy)]
-pub struct Measure {
-    pub verdict: Verdict,
-    pub len: usize,
-}
-
-// All files, which their lengths tell.
-fn measure_reels(tape: &[u8], lengths: &[u64]) -> Measure
+// All files, which their lengths tell, by the bytes of their items in an image.
+fn measure_reels(tape: &[u8], lengths: &[u64]) -> Result<usize, Verdict>
     requires { sum lengths.now ≡ length tape.now }
-    ensures { DidMeasure (reels_verdict 0 (reels_in tape.now lengths.now)) tape.now lengths.now result }
+    ensures { Answered (reels_verdict 0 (reels_in tape.now lengths.now)) (Measured tape.now lengths.now) result }
 {
     let mut from: usize = 0;
     let mut item: usize = 0;
     let mut len: usize = 0;
-    let mut i: usize = 0;
-    while i < lengths.len() {
-        let end = from + lengths[i] as usize;
-        let s = scan_reel(&tape[from..end], item);
-        if s.torn {
-            return Measure {
-                verdict: torn_at(s.item),
-                len: 0,
-            };
-        }
+    for n in lengths {
+        let end = from + *n as usize;
+        let s = scan_reel(&tape[from..end], item)?;
         from = end;
         item = s.item;
         len += s.len;
-        i += 1;
     }
-    Measure {
-        verdict: placeless(0),
-        len,
-    }
+    Ok(len)
 }
 
 // Whether a set has as many files.
+#[tactic(auto, unfolding(crate::specs::Set::is_few))]
 fn is_few(n: usize) -> bool
     ensures { result ≡ is_few n }
 {
     1 <= n && n <= MOST_FILES
 }
 
-// 15 for the lengths, then for what stands in the files, then 2.
-fn check(tape: &[u8], lengths: &[u64]) -> Measure
-    ensures { DidMeasure (tape_verdict tape.now lengths.now) tape.now lengths.now result }
+// 15 for the lengths, then for what stands in the files, then 2; or the bytes of their items in an image.
+#[tactic(auto, using(crate::proofs::Measuring::checks))]
+fn check(tape: &[u8], lengths: &[u64]) -> Result<usize, Verdict>
+    ensures { Answered (tape_verdict tape.now lengths.now) (Measured tape.now lengths.now) result }
 {
-    if add_up_to(lengths, tape.len()) {
-        let m = measure_reels(tape, lengths);
-        let v = m.verdict;
-        if v.number != 0 {
-            return m;
-        }
-        if is_few(lengths.len()) {
-            return m;
-        }
-        return Measure {
-            verdict: placeless(2),
-            len: 0,
-        };
+    if !add_up_to(lengths, tape.len()) {
+        return Err(Verdict::at(15, 0));
     }
-    Measure {
-        verdict: placeless(15),
-        len: 0,
+    let len = measure_reels(tape, lengths)?;
+    if !is_few(lengths.len()) {
+        return Err(Verdict::at(2, 0));
     }
+    Ok(len)
 }
 
 // ---- the image
 
 // Writes the items of one file, in which nothing is wrong, and gives the place behind them.
+#[tactic(auto, using(crate::proofs::Storing::fills))]
 fn put_reel(reel: &[u8], out: &mut [u8], to: usize) -> usize
     requires { FittingItems (decode reel.now) (length out.old) to }
     ensures value { result ≡ to + length (image_bytes (decode reel.now)) }
@@ -184,6 +128,7 @@ fn put_reel(reel: &[u8], out: &mut [u8], to: usize) -> usize
 {
     let mut at: usize = 0;
     let mut place = to;
+    // Kept by hand: each item says where the next stands; an iterator over them would be this loop, with a contract of its own.
     while at < reel.len() {
         let n = word_at(reel, at);
         if n == 0 {
@@ -206,18 +151,17 @@ fn put_reel(reel: &[u8], out: &mut [u8], to: usize) -> usize
 }
 
 // Writes the items of all files behind the head of an image.
+#[tactic(auto, using(crate::proofs::Storing::stores))]
 fn put_reels(tape: &[u8], lengths: &[u64], out: &mut [u8])
     requires { Storable tape.now lengths.now (length out.old) }
     ensures { out.new ≡ put_at out.old 5 (image_bytes (items_in tape.now lengths.now)) }
 {
     let mut from: usize = 0;
     let mut to: usize = 5;
-    let mut i: usize = 0;
-    while i < lengths.len() {
-        let end = from + lengths[i] as usize;
+    for n in lengths {
+        let end = from + *n as usize;
         to = put_reel(&tape[from..end], out, to);
         from = end;
-        i += 1;
     }
 }
 
@@ -227,15 +171,14 @@ fn put_reels(tape: &[u8], lengths: &[u64], out: &mut [u8])
 pub fn from_simh(tape: &[u8], lengths: &[u64], out: &mut [u8]) -> Written
     ensures { AnswersAt (from_simh tape.now lengths.now out.old) result out.new }
 {
-    let m = check(tape, lengths);
-    let verdict = m.verdict;
-    if verdict.number != 0 {
-        return refused(verdict);
-    }
-    if MOST_BEHIND < m.len {
+    let behind = match check(tape, lengths) {
+        Ok(len) => len,
+        Err(verdict) => return refused(verdict),
+    };
+    if MOST_BEHIND < behind {
         return refusal(14);
     }
-    let len = m.len + 5;
+    let len = behind + 5;
     if out.len() < len {
         return refusal(10);
     }

@@ -5,20 +5,20 @@ ghost use Rattle.image.specs.Item.{block, three, bytes_of as image_item};
 ghost use Rattle.simh.specs.Tape.{four, pad, span_of, bytes_of};
 
 use base::put_few;
+use image::length_word;
 
-// A length word of an image: three bytes, the high byte first. Short blocks come by the million, and all of them were measured:
-// `image::put_length`, which asks for room, takes a twelfth longer over them.
+// A length word of an image. Short blocks come by the million, and all of them were measured: `image::put_length`, which asks for
+// room, takes a twelfth longer over them.
 pub(crate) fn put_three(out: &mut [u8], at: usize, n: usize)
     requires at_in_bounds { at + 3 ≤ length out.old }
     requires n_bound { n < 16777216 }
     ensures { out.new ≡ put_at out.old at (three n) }
 {
-    out[at] = (n / 65536) as u8;
-    out[at + 1] = (n / 256 % 256) as u8;
-    out[at + 2] = (n % 256) as u8;
+    out[at..at + 3].copy_from_slice(&length_word(n));
 }
 
 // A block of an image.
+#[tactic(auto, using(crate::proofs::Words::puts))]
 pub(crate) fn put_block(out: &mut [u8], at: usize, s: &[u8])
     requires s_in_bounds { at + 3 + length s.now ≤ length out.old }
     requires s_len_bound { length s.now < 16777216 }
@@ -34,13 +34,11 @@ pub(crate) fn put_four(out: &mut [u8], at: usize, n: usize)
     requires n_bound { n < 4294967296 }
     ensures { out.new ≡ put_at out.old at (four n) }
 {
-    out[at] = (n % 256) as u8;
-    out[at + 1] = (n / 256 % 256) as u8;
-    out[at + 2] = (n / 65536 % 256) as u8;
-    out[at + 3] = (n / 16777216) as u8;
+    out[at..at + 4].copy_from_slice(&(n as u32).to_le_bytes());
 }
 
 // The pad byte of an odd count.
+#[tactic(auto, using(crate::proofs::Words::puts))]
 fn put_pad(out: &mut [u8], at: usize, n: usize)
     requires { at + n % 2 ≤ length out.old }
     ensures { out.new ≡ put_at out.old at (pad n) }
@@ -51,6 +49,7 @@ fn put_pad(out: &mut [u8], at: usize, n: usize)
 }
 
 // A block of a file: its length before it and behind it, padded to an even count.
+#[tactic(auto, using(crate::proofs::Words::puts))]
 pub(crate) fn put_record(out: &mut [u8], at: usize, s: &[u8])
     requires s_in_bounds { at + span_of (length s.now) ≤ length out.old }
     requires s_len_bound { length s.now < 4294967296 }

@@ -1,17 +1,5 @@
-use Rattle.output.proofs.Writing.{writing}
+use Rattle.output.proofs.Writing.{put_below_lem}
 use Rattle.output.proofs.put_bytes.Goals as goal
 
-pub behind-end-requires : goal.behind-end-requires
-behind-end-requires c = search writing
-
-pub returns-then-most-end : goal.returns-then-most-end
-returns-then-most-end c = search writing
-
-pub put_in-requires : goal.put_in-requires
-put_in-requires c = search writing
-
-pub shape_of-out : goal.shape_of-out
-shape_of-out c = search writing
-
-pub returns : goal.returns
-returns c = search writing
+pub returns-then-end-most : goal.returns-then-end-most
+returns-then-end-most c = put_below_lem _ _ _ _ _ c.behind-end.ensures c.if-end-most.true c.put_in.ensures
