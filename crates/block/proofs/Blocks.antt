@@ -1,8 +1,8 @@
 -- Whole records are in turn where nothing is open; and with that, the answer on a block of each format. Assumes nothing.
+use Rattle.std.specs.Prelude.{Option, Some, None}
 use mathlib.Core.Path.{◌≡◌, refl, sym, ap, ◌∙◌}
 use mathlib.Core.Bool.{Bool, true, false, false≢true}
 use mathlib.Core.List.{List, [], ◌∷◌}
-use mathlib.Core.Option.{Option, none, some}
 use Prim.Native.Nat.{ℕ, zero, suc, ◌+◌, ◌≤◌, ◌<◌}
 use native.Mathlib.Omega.{arith}
 use borrow.Author.Rules.{rules}
@@ -18,7 +18,6 @@ use Rattle.block.specs.Unit.{unit_of}
 use Rattle.block.specs.Cut.{Segment, segment_of, onto, cut_one, cut_f, cut, some_units, is_cut, units}
 use Rattle.block.specs.Turn.{outcome, open_after, turns_from, turned, block_outcome}
 use Rattle.block.specs.declared.Unit.{Unit}
-use Rattle.block.specs.declared.Unit.TheVariants.{Of, None}
 use Rattle.block.specs.declared.Outcome.{Outcome}
 use Rattle.block.proofs.Units.{unit_stands}
 use Rattle.block.proofs.Cuts.{cut_end}
@@ -34,24 +33,24 @@ pub data Wholes (r : ℕ) : List Segment → Type 0 where
 
 -- what is said of the units is said where there are any
 abbrev pub IfCut : (List Segment → Type 0) → Option (List Segment) → Type 0
-IfCut P none = None ≡ None
-IfCut P (some xs) = P xs
+IfCut P None = ◌≡◌ {A = Option (List Segment)} None None
+IfCut P (Some xs) = P xs
 
 onto_wholes : (r : ℕ) (x : Segment) (c : Option (List Segment)) → x.indicator ≡ 0 → length x.bytes ≤ r → IfCut (Wholes r) c
     → IfCut (Wholes r) (onto x c)
 unfolding onto
-onto_wholes r x none i n h = refl
-onto_wholes r x (some xs) i n h = whole i n h
+onto_wholes r x None i n h = refl
+onto_wholes r x (Some xs) i n h = whole i n h
 
-one_whole : (f r : ℕ) (s : List ℕ) (u : Unit) (g : List ℕ → Option (List Segment)) → (f ≡ 83 → ⊥) → unit_of f r s ≡ u
+one_whole : (f r : ℕ) (s : List ℕ) (u : Option Unit) (g : List ℕ → Option (List Segment)) → (f ≡ 83 → ⊥) → unit_of f r s ≡ u
     → ((t : List ℕ) → IfCut (Wholes r) (g t)) → IfCut (Wholes r) (cut_one u s g)
 unfolding cut_one
-one_whole f r s (Of i w n) g z e h =
-    let c = unit_stands f r s i w n e in
+one_whole f r s (Some u) g z e h =
+    let c = unit_stands f r s u.indicator u.word u.len e in
     let m = c.short z in
-    let l = length_part w n s c.within in
-    onto_wholes r (segment_of i (part w n s)) (g (drop (w + n) s)) (c.whole z) (omega arith) (h (drop (w + n) s))
-one_whole f r s None g z e h = if_case (IfCut (Wholes r)) (all_are 94 s) (some []) none (λ t. no_more) (λ t. refl)
+    let l = length_part u.word u.len s c.within in
+    onto_wholes r (segment_of u.indicator (part u.word u.len s)) (g (drop (u.word + u.len) s)) (c.whole z) (omega arith) (h (drop (u.word + u.len) s))
+one_whole f r s None g z e h = if_case (IfCut (Wholes r)) (all_are 94 s) (Some []) None (λ t. no_more) (λ t. refl)
 
 fuel_wholes : (k f r : ℕ) (s : List ℕ) → (f ≡ 83 → ⊥) → IfCut (Wholes r) (cut_f k f r s)
 unfolding cut_f
@@ -96,13 +95,13 @@ turns_answer r (suc q) x xs h =
 turned_whole : (r q : ℕ) (c : Option (List Segment)) → IfCut (Wholes r) c
     → turned r q true (some_units c) ≡ whole_answer (is_cut (some_units c)) q
 unfolding turned some_units is_cut
-turned_whole r q none h = sym (if_false _ _ _ refl)
-turned_whole r q (some []) h = sym (if_false _ _ _ refl)
-turned_whole r q (some (x ∷ xs)) h = turns_answer r q x xs h ∙ sym (if_true _ _ _ refl)
+turned_whole r q None h = sym (if_false _ _ _ refl)
+turned_whole r q (Some []) h = sym (if_false _ _ _ refl)
+turned_whole r q (Some (x ∷ xs)) h = turns_answer r q x xs h ∙ sym (if_true _ _ _ refl)
 
 -- ---- the block
 
-none_in : (f r : ℕ) → some_units (cut f r []) ≡ none
+none_in : (f r : ℕ) → some_units (cut f r []) ≡ None
 unfolding some_units
 none_in f r = ap some_units (cut_nothing f r)
 
@@ -111,7 +110,7 @@ units_fit : (f b r o : ℕ) (s : List ℕ) → length s ≤ b → units f b r o 
 unfolding units
 units_fit f b r o s h =
     if_true _ _ _ (le-leb (length s) b h)
-    ∙ if_case (λ (c : Option (List Segment)). c ≡ some_units (cut f r (drop o s))) (leb o (length s)) _ none (λ t. refl)
+    ∙ if_case (λ (c : Option (List Segment)). c ≡ some_units (cut f r (drop o s))) (leb o (length s)) _ None (λ t. refl)
     (λ t. sym (ap (λ (l : List ℕ). some_units (cut f r l)) (drop_of_length-le s (le_of_lt (leb-false o (length s) t))) ∙ none_in f r))
 
 block_fits : (f b r o q : ℕ) (s : List ℕ) → length s ≤ b
@@ -145,7 +144,7 @@ pub block_segments : (b r o q : ℕ) (s : List ℕ) (x : Outcome) → length s �
     → x ≡ turned r q true (some_units (cut 83 r (drop o s))) → x ≡ block_outcome 83 b r o q s
 block_segments b r o q s x h k = k ∙ sym (block_fits 83 b r o q s h)
 
-turned_none : (r q : ℕ) → turned r q true none ≡ outcome 7 0
+turned_none : (r q : ℕ) → turned r q true None ≡ outcome 7 0
 unfolding turned
 turned_none r q = refl
 
@@ -175,7 +174,7 @@ pub variable_passes : (f b r o q : ℕ) (s : List ℕ) (p : Bool) → f ≡ 68 �
 unfolding units is_cut
 variable_passes f b r o q s p e z m t =
     let short : length s ≤ b
-    = leb-true (length s) b (if_case (λ (c : Option (List Segment)). is_cut c ≡ true → leb (length s) b ≡ true) (leb (length s) b) _ none (λ h _. h) (λ _ k. absurd (false≢true k)) (sym m ∙ t)) in
+    = leb-true (length s) b (if_case (λ (c : Option (List Segment)). is_cut c ≡ true → leb (length s) b ≡ true) (leb (length s) b) _ None (λ h _. h) (λ _ k. absurd (false≢true k)) (sym m ∙ t)) in
     block_variable f b r o q s true (outcome 0 0) e short (sym t ∙ m ∙ ap is_cut (units_fit 68 b r o s short))
     (sym (if_true _ _ _ refl ∙ if_true _ _ _ (eq-eqb q 0 z)))
 

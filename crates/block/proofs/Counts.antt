@@ -1,8 +1,8 @@
 -- Laws of the loops that count what a block holds. Assumes nothing.
+use Rattle.std.specs.Prelude.{Option, Some, None}
 use mathlib.Core.Path.{◌≡◌, refl, sym, ap, ◌∙◌}
 use mathlib.Core.Bool.{Bool, true, false}
 use mathlib.Core.List.{List, []}
-use mathlib.Core.Option.{Option, none, some}
 use Prim.Native.Nat.{ℕ, suc, ◌+◌, ◌-◌, ◌*◌, ◌≤◌, ◌<◌}
 use native.Mathlib.Omega.{arith}
 use borrow.Author.Rules.{rules}
@@ -17,12 +17,11 @@ use Rattle.base.proofs.Ifs.{if_true, if_false}
 use Rattle.base.specs.Part.{part, all_are}
 use Rattle.base.specs.Sum.{sum}
 use Rattle.base.proofs.Parts.{length_part}
-use Rattle.block.specs.Unit.{fixed, variable, segment, unit_of, length_of, word_of}
+use Rattle.block.specs.Unit.{fixed, variable, segment, unit_of, length_of, word_of, one_unit}
 use Rattle.block.specs.Cut.{Segment, segment_of, onto, cut, some_units}
 use Rattle.block.specs.Code.Loops.{due_at, held_up_to}
 use Rattle.block.specs.Held.{ends_with, records_ending, segment_bytes, empty, holding, held_by, held_in, Reached}
 use Rattle.block.specs.declared.Unit.{Unit}
-use Rattle.block.specs.declared.Unit.TheVariants.{Of, None}
 use Rattle.block.specs.declared.Held.{Held}
 use Rattle.block.proofs.Units.{unit_stands}
 use Rattle.block.proofs.Cuts.{cut_unit, cut_end}
@@ -35,8 +34,8 @@ use Rattle.block.proofs.Helds.{ends_one, ends_most, suc_times}
 
 -- u units in which n records end, with b bytes of records, and others behind them
 held_after : ℕ → ℕ → ℕ → ℕ → ℕ → ℕ → Option (List Segment) → Held
-held_after w o l u n b none = empty
-held_after w o l u n b (some xs) = holding w o l (u + length xs) (n + records_ending xs) (b + segment_bytes xs)
+held_after w o l u n b None = empty
+held_after w o l u n b (Some xs) = holding w o l (u + length xs) (n + records_ending xs) (b + segment_bytes xs)
 
 pub record Tallying (f r : ℕ) (s : List ℕ) (o at w u n : ℕ) : Type 0 where
   pub room : length s < 18446744073709551616
@@ -48,8 +47,8 @@ pub record Tallying (f r : ℕ) (s : List ℕ) (o at w u n : ℕ) : Type 0 where
 
 after_none : (w o l : ℕ) (c : Option (List Segment)) → held_after w o l 0 0 0 c ≡ held_by w o l c
 unfolding held_after held_by
-after_none w o l none = refl
-after_none w o l (some xs) =
+after_none w o l None = refl
+after_none w o l (Some xs) =
     let u : 0 + length xs ≡ length xs = omega arith in
     let n : 0 + records_ending xs ≡ records_ending xs = omega arith in
     let b : 0 + segment_bytes xs ≡ segment_bytes xs = omega arith in
@@ -76,14 +75,14 @@ tally_none f r s o w h e =
 after_more : (w o l u n b i : ℕ) (bs : List ℕ) (c : Option (List Segment))
     → held_after w o l (u + 1) (n + ends_with i) (b + length bs) c ≡ held_after w o l u n b (onto (segment_of i bs) c)
 unfolding held_after onto records_ending segment_bytes sum
-after_more w o l u n b i bs none = refl
-after_more w o l u n b i bs (some xs) =
+after_more w o l u n b i bs None = refl
+after_more w o l u n b i bs (Some xs) =
     let p : u + 1 + length xs ≡ u + suc (length xs) = omega arith in
     let q : n + ends_with i + records_ending xs ≡ n + (ends_with i + records_ending xs) = omega arith in
     let t : b + length bs + segment_bytes xs ≡ b + (length bs + segment_bytes xs) = omega arith in
     λ j. holding w o l (p j) (q j) (t j)
 
-tally_unit : (f r : ℕ) (s : List ℕ) (o at w u n i c m k e : ℕ) → Tallying f r s o at w u n → unit_of f r (drop at s) ≡ Of i c m
+tally_unit : (f r : ℕ) (s : List ℕ) (o at w u n i c m k e : ℕ) → Tallying f r s o at w u n → unit_of f r (drop at s) ≡ one_unit i c m
     → k ≡ c + m → e ≡ ends_with i
     → Tallying f r s o (at + k) w (u + 1) (n + e)
 tally_unit f r s o at w u n i c m k e t h p q =
@@ -129,7 +128,7 @@ tally_over f r s o at w u n h t e q =
     ∙ by_tests (eqb u 0) (all_are 94 (drop at s))
     ∙ ap (held_after w o (length s) u n (at - o - u * w))
     (sym (ap (λ (y : Option (List Segment)). if_b (eqb u 0) (some_units y) y) (cut_end f r (drop at s) e)
-    ∙ ap (λ (y : Option (List Segment)). if_b (eqb u 0) y (if_b (all_are 94 (drop at s)) (some []) none))
+    ∙ ap (λ (y : Option (List Segment)). if_b (eqb u 0) y (if_b (all_are 94 (drop at s)) (Some []) None))
     (some_padding (all_are 94 (drop at s)))))
     ∙ t.left
   where
@@ -138,7 +137,7 @@ tally_over f r s o at w u n h t e q =
 
     by_tests : (x y : Bool)
         → if_b x empty (if_b y (holding w o (length s) u n b) empty)
-        ≡ held_after w o (length s) u n b (if_b x none (if_b y (some []) none))
+        ≡ held_after w o (length s) u n b (if_b x None (if_b y (Some []) None))
     by_tests true y = unfold if_b held_after in refl
     by_tests false true = unfold if_b held_after records_ending segment_bytes sum in
         let i : u ≡ u + 0 = omega arith in
@@ -152,17 +151,17 @@ record Stood (f r : ℕ) (s : List ℕ) (k : ℕ) : Type 0 where
   i : ℕ
   c : ℕ
   m : ℕ
-  is : unit_of f r s ≡ Of i c m
+  is : unit_of f r s ≡ one_unit i c m
   long : k ≡ c + m
 
-stood : (f r : ℕ) (s : List ℕ) (k : ℕ) (u : Unit) → unit_of f r s ≡ u → k ≡ length_of u → (k ≡ 0 → ⊥) → Stood f r s k
+stood : (f r : ℕ) (s : List ℕ) (k : ℕ) (u : Option Unit) → unit_of f r s ≡ u → k ≡ length_of u → (k ≡ 0 → ⊥) → Stood f r s k
 unfolding length_of
-stood f r s k (Of i c m) e h z = record { i = i; c = c; m = m; is = e; long = h }
+stood f r s k (Some u) e h z = record { i = u.indicator; c = u.word; m = u.len; is = e; long = h }
 stood f r s k None e h z = absurd (z h)
 
-none_stood : (f r : ℕ) (s : List ℕ) (k : ℕ) (u : Unit) → unit_of f r s ≡ u → k ≡ length_of u → k ≡ 0 → unit_of f r s ≡ None
+none_stood : (f r : ℕ) (s : List ℕ) (k : ℕ) (u : Option Unit) → unit_of f r s ≡ u → k ≡ length_of u → k ≡ 0 → unit_of f r s ≡ None
 unfolding length_of
-none_stood f r s k (Of i c m) e h z = let some = (unit_stands f r s i c m e).some in absurd (omega (arith, some))
+none_stood f r s k (Some u) e h z = let some = (unit_stands f r s u.indicator u.word u.len e).some in absurd (omega (arith, some))
 none_stood f r s k None e h z = e
 
 pub tally_end : (f r : ℕ) (s : List ℕ) (o at w u n k : ℕ) (h : Held) → Tallying f r s o at w u n

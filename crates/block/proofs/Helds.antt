@@ -1,8 +1,8 @@
 -- Laws of what a block holds: its four kinds of bytes add up to its length. Assumes nothing.
+use Rattle.std.specs.Prelude.{Option, Some, None}
 use mathlib.Core.Path.{◌≡◌, refl, sym, ap, ◌∙◌, subst}
 use mathlib.Core.Bool.{Bool, true, false, false≢true}
 use mathlib.Core.List.{List, [], ◌∷◌}
-use mathlib.Core.Option.{Option, none, some}
 use Prim.Native.Nat.{ℕ, zero, suc, ◌+◌, ◌-◌, ◌*◌, ◌≤◌}
 use native.Mathlib.Nat.{add-mul, one-mul}
 use native.Mathlib.Omega.{arith}
@@ -21,7 +21,6 @@ use Rattle.block.specs.Cut.{Segment, segment_of, onto, cut_one, cut_f, cut, some
 use Rattle.block.specs.Code.Loops.{held_up_to}
 use Rattle.block.specs.Held.{ends_with, records_ending, segment_bytes, empty, held_by, held_in, total, Reached}
 use Rattle.block.specs.declared.Unit.{Unit}
-use Rattle.block.specs.declared.Unit.TheVariants.{Of, None}
 use Rattle.block.specs.declared.Held.{Held}
 use Rattle.block.proofs.Units.{unit_stands}
 use Rattle.block.proofs.Wholes.{unit_word}
@@ -77,8 +76,8 @@ sized_onto : (w n l i : ℕ) (bs : List ℕ) (c : Option (List Segment)) → len
     → IfCut (Sized w (l - (w + n))) c
     → IfCut (Sized w l) (onto (segment_of i bs) c)
 unfolding onto records_ending segment_bytes sum
-sized_onto w n l i bs none e a b h = refl
-sized_onto w n l i bs (some xs) e a b h =
+sized_onto w n l i bs None e a b h = refl
+sized_onto w n l i bs (Some xs) e a b h =
     let more = suc_times (length xs) w in
     record {
       ending = omega (arith, ends_most i, h.ending);
@@ -86,18 +85,18 @@ sized_onto w n l i bs (some xs) e a b h =
       within = omega (arith, h.within, more);
     }
 
-sized_one : (f r : ℕ) (s : List ℕ) (u : Unit) (g : List ℕ → Option (List Segment)) → unit_of f r s ≡ u
+sized_one : (f r : ℕ) (s : List ℕ) (u : Option Unit) (g : List ℕ → Option (List Segment)) → unit_of f r s ≡ u
     → ((t : List ℕ) → IfCut (Sized (word_of f) (length t)) (g t)) → IfCut (Sized (word_of f) (length s)) (cut_one u s g)
 unfolding cut_one records_ending segment_bytes sum
-sized_one f r s (Of i w n) g e h =
-    let c = unit_stands f r s i w n e in
-    let p = unit_word f r s i w n e in
-    let rest : length (drop (w + n) s) ≡ length s - (word_of f + n) = omega (arith, length-drop (w + n) s, p) in
-    sized_onto (word_of f) n (length s) i (part w n s) (g (drop (w + n) s)) (length_part w n s c.within)
+sized_one f r s (Some u) g e h =
+    let c = unit_stands f r s u.indicator u.word u.len e in
+    let p = unit_word f r s u.indicator u.word u.len e in
+    let rest : length (drop (u.word + u.len) s) ≡ length s - (word_of f + u.len) = omega (arith, length-drop (u.word + u.len) s, p) in
+    sized_onto (word_of f) u.len (length s) u.indicator (part u.word u.len s) (g (drop (u.word + u.len) s)) (length_part u.word u.len s c.within)
     (omega (arith, c.some, p)) (omega (arith, c.within, p))
-    (subst (λ (l : ℕ). IfCut (Sized (word_of f) l) (g (drop (w + n) s))) rest (h (drop (w + n) s)))
+    (subst (λ (l : ℕ). IfCut (Sized (word_of f) l) (g (drop (u.word + u.len) s))) rest (h (drop (u.word + u.len) s)))
 sized_one f r s None g e h =
-    if_case (IfCut (Sized (word_of f) (length s))) (all_are 94 s) (some []) none
+    if_case (IfCut (Sized (word_of f) (length s))) (all_are 94 s) (Some []) None
     (λ _. record { ending = omega arith; some = omega arith; within = omega arith }) (λ _. refl)
 
 sized_fuel : (k f r : ℕ) (s : List ℕ) → IfCut (Sized (word_of f) (length s)) (cut_f k f r s)
@@ -117,9 +116,9 @@ sized_behind f r o s =
 adds_by : (w o l : ℕ) (c : Option (List Segment)) → IfCut (Sized w (l - o)) c → is_cut (some_units c) ≡ true
     → total (held_by w o l (some_units c)) ≡ l
 unfolding some_units is_cut held_by
-adds_by w o l none h t = absurd (false≢true t)
-adds_by w o l (some []) h t = absurd (false≢true t)
-adds_by w o l (some (x ∷ xs)) h t = omega (arith, h.some, h.within)
+adds_by w o l None h t = absurd (false≢true t)
+adds_by w o l (Some []) h t = absurd (false≢true t)
+adds_by w o l (Some (x ∷ xs)) h t = omega (arith, h.some, h.within)
 
 -- The record, control word, padding and offset bytes of a block that can be cut add up to its length.
 pub held_adds : (f r o : ℕ) (s : List ℕ) → is_cut (some_units (cut f r (drop o s))) ≡ true → total (held_in f r o s) ≡ length s
@@ -133,9 +132,9 @@ pub record Fitting (h : Held) (l : ℕ) : Type 0 where
 
 fits_by : (w o l : ℕ) (c : Option (List Segment)) → IfCut (Sized w (l - o)) c → Fitting (held_by w o l (some_units c)) l
 unfolding some_units held_by
-fits_by w o l none h = record { records = omega arith; bytes = omega arith }
-fits_by w o l (some []) h = record { records = omega arith; bytes = omega arith }
-fits_by w o l (some (x ∷ xs)) h =
+fits_by w o l None h = record { records = omega arith; bytes = omega arith }
+fits_by w o l (Some []) h = record { records = omega arith; bytes = omega arith }
+fits_by w o l (Some (x ∷ xs)) h =
     record { records = omega (arith, h.ending, h.some, h.within); bytes = omega (arith, h.some, h.within) }
 
 -- What is counted of a block, be it one that can be cut or not, is no more than its bytes.

@@ -1,4 +1,5 @@
 -- What the length of a unit says of it: 0 is no unit, any other number gives the unit back. Assumes nothing.
+use Rattle.std.specs.Prelude.{Option, Some, None}
 use mathlib.Core.Path.{◌≡◌, refl, sym, ap, ◌∙◌}
 use mathlib.Core.List.{List}
 use Prim.Native.Nat.{ℕ, ◌+◌, ◌-◌, ◌≤◌, ◌<◌}
@@ -12,9 +13,8 @@ use lib.ListN.{length, take, drop, get_or, length-drop}
 use Rattle.base.proofs.Ifs.{if_true, if_false, if_case}
 use Rattle.base.specs.Part.{part, all_are}
 use Rattle.charset.specs.Number.{number_in}
-use Rattle.block.specs.Unit.{fixed, variable, segment, unit_of, length_of}
+use Rattle.block.specs.Unit.{fixed, variable, segment, unit_of, length_of, one_unit}
 use Rattle.block.specs.declared.Unit.{Unit}
-use Rattle.block.specs.declared.Unit.TheVariants.{Of, None}
 use Rattle.block.proofs.Units.{Stands, IfAny, measured_any, fixed_any, variable_any, segment_any}
 use Rattle.block.proofs.Places.{head_at}
 
@@ -37,9 +37,9 @@ unit_segment f r s e =
 
 -- ---- from a length to a unit
 
-none_of : (f r l : ℕ) (u : Unit) (k : ℕ) → IfAny (Stands f r l) u → k ≡ length_of u → k ≡ 0 → None ≡ u
+none_of : (f r l : ℕ) (u : Option Unit) (k : ℕ) → IfAny (Stands f r l) u → k ≡ length_of u → k ≡ 0 → None ≡ u
 unfolding length_of
-none_of f r l (Of i w n) k c e z = let some = c.some in absurd (omega arith)
+none_of f r l (Some u) k c e z = let some = c.some in absurd (omega arith)
 none_of f r l None k c e z = refl
 
 -- an indicator and a control word that are known
@@ -47,18 +47,18 @@ pub record Led (a b i w n : ℕ) : Type 0 where
   pub indicator : i ≡ a
   pub word : w ≡ b
 
-led_of : (a b : ℕ) (u : Unit) (k : ℕ) → IfAny (Led a b) u → k ≡ length_of u → (k ≡ 0 → ⊥) → Of a b (k - b) ≡ u
+led_of : (a b : ℕ) (u : Option Unit) (k : ℕ) → IfAny (Led a b) u → k ≡ length_of u → (k ≡ 0 → ⊥) → one_unit a b (k - b) ≡ u
 unfolding length_of
-led_of a b (Of i w n) k c e z =
+led_of a b (Some u) k c e z =
     let p = c.indicator in
     let q = c.word in
-    let m : k - b ≡ n = omega arith in
-    ap (λ (x : ℕ). Of x b (k - b)) (sym p) ∙ ap (λ (x : ℕ). Of i x (k - b)) (sym q) ∙ ap (Of i w) m
+    let m : k - b ≡ u.len = omega arith in
+    ap (λ (x : ℕ). one_unit x b (k - b)) (sym p) ∙ ap (λ (x : ℕ). one_unit u.indicator x (k - b)) (sym q) ∙ ap (one_unit u.indicator u.word) m
 led_of a b None k c e z = absurd (z e)
 
-least_of : (a b : ℕ) (u : Unit) (k : ℕ) → IfAny (Led a b) u → k ≡ length_of u → (k ≡ 0 → ⊥) → b ≤ k
+least_of : (a b : ℕ) (u : Option Unit) (k : ℕ) → IfAny (Led a b) u → k ≡ length_of u → (k ≡ 0 → ⊥) → b ≤ k
 unfolding length_of
-least_of a b (Of i w n) k c e z = let q = c.word in omega arith
+least_of a b (Some u) k c e z = let q = c.word in omega arith
 least_of a b None k c e z = absurd (z e)
 
 led : (a b : ℕ) {n : ℕ} → Led a b a b n
@@ -74,13 +74,13 @@ unfolding fixed
 fixed_led r s =
     if_case (IfAny (Led 0 0)) (eqb r 0) None _ (λ a. refl)
     (λ a. if_case (IfAny (Led 0 0)) (leb r (length s)) _ None
-    (λ b. if_case (IfAny (Led 0 0)) (all_are 94 (take r s)) None (Of 0 0 r) (λ c. refl) (λ c. led 0 0))
+    (λ b. if_case (IfAny (Led 0 0)) (all_are 94 (take r s)) None (one_unit 0 0 r) (λ c. refl) (λ c. led 0 0))
     (λ b. refl))
 
-pub fixed_of : (f r : ℕ) (s : List ℕ) (k : ℕ) → f ≡ 70 → k ≡ length_of (fixed r s) → (k ≡ 0 → ⊥) → Of 0 0 k ≡ unit_of f r s
+pub fixed_of : (f r : ℕ) (s : List ℕ) (k : ℕ) → f ≡ 70 → k ≡ length_of (fixed r s) → (k ≡ 0 → ⊥) → one_unit 0 0 k ≡ unit_of f r s
 fixed_of f r s k g e z =
     let m : k ≡ k - 0 = omega arith in
-    ap (Of 0 0) m ∙ led_of 0 0 (fixed r s) k (fixed_led r s) e z ∙ sym (unit_fixed f r s g)
+    ap (one_unit 0 0) m ∙ led_of 0 0 (fixed r s) k (fixed_led r s) e z ∙ sym (unit_fixed f r s g)
 
 -- ---- variable-length records
 
@@ -92,7 +92,7 @@ unfolding variable
 variable_led r s = measured_any (Led 0 4) 0 4 r (length s) (number_in (part 0 4 s)) (λ k a b c. led 0 4)
 
 pub variable_of : (f r : ℕ) (s : List ℕ) (k : ℕ) → f ≡ 68 → k ≡ length_of (variable r s) → (k ≡ 0 → ⊥)
-    → Of 0 4 (k - 4) ≡ unit_of f r s
+    → one_unit 0 4 (k - 4) ≡ unit_of f r s
 variable_of f r s k g e z = led_of 0 4 (variable r s) k (variable_led r s) e z ∙ sym (unit_variable f r s g)
 
 pub variable_least : (r : ℕ) (s : List ℕ) (k : ℕ) → k ≡ length_of (variable r s) → (k ≡ 0 → ⊥) → 4 ≤ k
@@ -128,19 +128,19 @@ segment_indicated s =
 
 -- what holds of the indicator and the length where a segment stands
 record Begun (s : List ℕ) (k : ℕ) : Type 0 where
-  is : Of (get_or s 0 0 - 48) 5 (k - 5) ≡ segment s
+  is : one_unit (get_or s 0 0 - 48) 5 (k - 5) ≡ segment s
   low : 48 ≤ get_or s 0 0
   high : get_or s 0 0 ≤ 51
   least : 5 ≤ k
   within : k ≤ length s
 
-begun : (s : List ℕ) (u : Unit) (k : ℕ) → u ≡ segment s → IfAny (Indicated s) u → k ≡ length_of u → (k ≡ 0 → ⊥) → Begun s k
+begun : (s : List ℕ) (u : Option Unit) (k : ℕ) → u ≡ segment s → IfAny (Indicated s) u → k ≡ length_of u → (k ≡ 0 → ⊥) → Begun s k
 unfolding length_of
-begun s (Of i w n) k g c e z =
+begun s (Some u) k g c e z =
     let q = c.led_by_lem.word in
     let m = c.within in
     record {
-      is = led_of (get_or s 0 0 - 48) 5 (Of i w n) k c.led_by_lem e z ∙ g;
+      is = led_of (get_or s 0 0 - 48) 5 (one_unit u.indicator u.word u.len) k c.led_by_lem e z ∙ g;
       low = c.low;
       high = c.high;
       least = omega arith;
@@ -153,8 +153,8 @@ here s at k e z = begun (drop at s) (segment (drop at s)) k refl (segment_indica
 
 -- a segment by the number that the code found: its indicator, and what its control word leaves of its bytes
 pub segment_of_lem : (s : List ℕ) (at k : ℕ) → k ≡ length_of (segment (drop at s)) → (k ≡ 0 → ⊥)
-    → Of (get_or s at 0 - 48) 5 (k - 5) ≡ segment (drop at s)
-segment_of_lem s at k e z = ap (λ (b : ℕ). Of (b - 48) 5 (k - 5)) (sym (head_at s at)) ∙ (here s at k e z).is
+    → one_unit (get_or s at 0 - 48) 5 (k - 5) ≡ segment (drop at s)
+segment_of_lem s at k e z = ap (λ (b : ℕ). one_unit (b - 48) 5 (k - 5)) (sym (head_at s at)) ∙ (here s at k e z).is
 
 -- that number counts the control word
 pub segment_least : (s : List ℕ) (at k : ℕ) → k ≡ length_of (segment (drop at s)) → (k ≡ 0 → ⊥) → 5 ≤ k
@@ -176,7 +176,7 @@ pub ruleset segments_of_lem = (segment_none, segment_of_lem, segment_least, segm
 
 -- ---- any format
 
-pub segment_unit : (f r : ℕ) (s : List ℕ) (u : Unit) → f ≡ 83 → u ≡ segment s → u ≡ unit_of f r s
+pub segment_unit : (f r : ℕ) (s : List ℕ) (u : Option Unit) → f ≡ 83 → u ≡ segment s → u ≡ unit_of f r s
 segment_unit f r s u g e = e ∙ sym (unit_segment f r s g)
 
 pub other_unit : (f r : ℕ) (s : List ℕ) → (f ≡ 70 → ⊥) → (f ≡ 68 → ⊥) → (f ≡ 83 → ⊥) → None ≡ unit_of f r s

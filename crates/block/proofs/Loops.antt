@@ -1,8 +1,8 @@
 -- Laws of the loops over the units of a block: what is left from a place on decides the whole. Assumes nothing.
+use Rattle.std.specs.Prelude.{Option, Some, None}
 use mathlib.Core.Path.{◌≡◌, refl, sym, ap, ◌∙◌, subst}
 use mathlib.Core.Bool.{Bool, true, false}
 use mathlib.Core.List.{List, []}
-use mathlib.Core.Option.{Option, none, some}
 use Prim.Native.Nat.{ℕ, ◌+◌, ◌-◌, ◌≤◌, ◌<◌}
 use native.Mathlib.Omega.{arith}
 use borrow.Author.Rules.{rules}
@@ -19,7 +19,6 @@ use Rattle.block.specs.Unit.{fixed, variable, segment, unit_of, length_of}
 use Rattle.block.specs.Cut.{Segment, segment_of, onto, cut, some_units, is_cut}
 use Rattle.block.specs.Code.Loops.{due_at}
 use Rattle.block.specs.declared.Unit.{Unit}
-use Rattle.block.specs.declared.Unit.TheVariants.{Of, None}
 use Rattle.block.proofs.Units.{unit_stands}
 use Rattle.block.proofs.Lengths.{unit_fixed, unit_variable, unit_segment}
 use Rattle.block.proofs.Cuts.{cut_unit, cut_end}
@@ -31,15 +30,15 @@ record Next (f r : ℕ) (s : List ℕ) (k : ℕ) : Type 0 where
   within : k ≤ length s
   cuts : cut f r s ≡ onto first (cut f r (drop k s))
 
-next : (f r : ℕ) (s : List ℕ) (u : Unit) → unit_of f r s ≡ u → (length_of u ≡ 0 → ⊥) → Next f r s (length_of u)
+next : (f r : ℕ) (s : List ℕ) (u : Option Unit) → unit_of f r s ≡ u → (length_of u ≡ 0 → ⊥) → Next f r s (length_of u)
 unfolding length_of
-next f r s (Of i w n) e z =
-    record { first = segment_of i (part w n s); within = (unit_stands f r s i w n e).within; cuts = cut_unit f r s i w n e }
+next f r s (Some u) e z =
+    record { first = segment_of u.indicator (part u.word u.len s); within = (unit_stands f r s u.indicator u.word u.len e).within; cuts = cut_unit f r s u.indicator u.word u.len e }
 next f r s None e z = absurd (z refl)
 
-no_next : (f r : ℕ) (s : List ℕ) (u : Unit) → unit_of f r s ≡ u → length_of u ≡ 0 → cut f r s ≡ if_b (all_are 94 s) (some []) none
+no_next : (f r : ℕ) (s : List ℕ) (u : Option Unit) → unit_of f r s ≡ u → length_of u ≡ 0 → cut f r s ≡ if_b (all_are 94 s) (Some []) None
 unfolding length_of
-no_next f r s (Of i w n) e z = let some = (unit_stands f r s i w n e).some in absurd (omega arith)
+no_next f r s (Some u) e z = let some = (unit_stands f r s u.indicator u.word u.len e).some in absurd (omega arith)
 no_next f r s None e z = cut_end f r s e
 
 -- what follows a unit of k bytes at place `at`
@@ -77,13 +76,13 @@ segment_less s at k e z = length_less 83 0 s at k (as_segment 0 (drop at s) k e)
 
 pub cut_onto : (x : Segment) (c : Option (List Segment)) → is_cut (onto x c) ≡ is_cut c
 unfolding is_cut onto
-cut_onto x none = refl
-cut_onto x (some xs) = refl
+cut_onto x None = refl
+cut_onto x (Some xs) = refl
 
 pub some_onto : (x : Segment) (c : Option (List Segment)) → some_units (onto x c) ≡ onto x c
 unfolding some_units onto
-some_onto x none = refl
-some_onto x (some xs) = refl
+some_onto x None = refl
+some_onto x (Some xs) = refl
 
 pub due_onto : (head : Bool) (x : Segment) (c : Option (List Segment)) → due_at head (onto x c) ≡ onto x c
 unfolding due_at
@@ -126,19 +125,19 @@ cutting_more f r s from at k c e z =
 
 -- no unit stands there
 over : (f r : ℕ) (s : List ℕ) (at k : ℕ) → k ≡ length_of (unit_of f r (drop at s)) → k ≡ 0
-    → cut f r (drop at s) ≡ if_b (all_are 94 (drop at s)) (some []) none
+    → cut f r (drop at s) ≡ if_b (all_are 94 (drop at s)) (Some []) None
 over f r s at k e z = no_next f r (drop at s) (unit_of f r (drop at s)) refl (sym e ∙ z)
 
-pub some_padding : (p : Bool) → some_units (if_b p (some []) none) ≡ none
+pub some_padding : (p : Bool) → some_units (if_b p (Some []) None) ≡ None
 unfolding some_units
-some_padding p = if_case (λ (c : Option (List Segment)). some_units c ≡ none) p (some []) none (λ t. refl) (λ t. refl)
+some_padding p = if_case (λ (c : Option (List Segment)). some_units c ≡ None) p (Some []) None (λ t. refl) (λ t. refl)
 
-cut_padding : (p : Bool) → is_cut (if_b p (some []) none) ≡ p
+cut_padding : (p : Bool) → is_cut (if_b p (Some []) None) ≡ p
 unfolding is_cut if_b
 cut_padding true = refl
 cut_padding false = refl
 
-none_cut : is_cut none ≡ false
+none_cut : is_cut None ≡ false
 unfolding is_cut
 none_cut = refl
 
@@ -203,12 +202,12 @@ some_more f r s from k p e z q =
 pub ruleset restings = (resting_more, resting_end, some_none, some_more, length_fits, length_less, as_variable, rules)
 
 -- nothing is left behind a unit that ends where the bytes end
-pub cut_nothing : (f r : ℕ) → cut f r [] ≡ some []
+pub cut_nothing : (f r : ℕ) → cut f r [] ≡ Some []
 unfolding all_are
 cut_nothing f r = no_next f r [] (unit_of f r []) refl (none_stands (unit_of f r []) refl) ∙ if_true _ _ _ refl
   where
-    none_stands : (u : Unit) → unit_of f r [] ≡ u → length_of u ≡ 0
-    none_stands (Of i w n) e = let c = unit_stands f r [] i w n e in absurd (omega (arith, c.some, c.within))
+    none_stands : (u : Option Unit) → unit_of f r [] ≡ u → length_of u ≡ 0
+    none_stands (Some u) e = let c = unit_stands f r [] u.indicator u.word u.len e in absurd (omega (arith, c.some, c.within))
     none_stands None e = unfold length_of in refl
 
 pub some_last : (f r : ℕ) (s : List ℕ) (from k : ℕ) → k ≡ length_of (unit_of f r (drop from s)) → (k ≡ 0 → ⊥) → length s ≤ from + k

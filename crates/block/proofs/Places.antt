@@ -1,5 +1,6 @@
 -- What the code reads at a place: a digit, four of them, and from these the length of the unit that stands there. Assumes
 -- nothing.
+use Rattle.std.specs.Prelude.{Option, Some, None}
 use mathlib.Core.Path.{◌≡◌, refl, sym, ap, ◌∙◌}
 use mathlib.Core.Bool.{Bool, true, false, ◌&&◌}
 use mathlib.Core.List.{List, [], ◌∷◌}
@@ -17,11 +18,8 @@ use Rattle.base.specs.Digits.{is_digit, all_digits, value}
 use Rattle.base.proofs.Parts.{part_drop}
 use Rattle.block.proofs.Padding.{all_other_head}
 use Rattle.charset.specs.Number.{number_in}
-use Rattle.charset.specs.declared.Number.{Number}
-use Rattle.charset.specs.declared.Number.TheVariants.{Value, Wrong}
-use Rattle.block.specs.Unit.{fixed, measured, variable, segment, length_of}
+use Rattle.block.specs.Unit.{fixed, measured, variable, segment, length_of, one_unit}
 use Rattle.block.specs.declared.Unit.{Unit}
-use Rattle.block.specs.declared.Unit.TheVariants.{Of, None}
 use Rattle.block.proofs.Units.{measured_short}
 
 -- ---- a digit
@@ -54,9 +52,9 @@ pub wrong_later : (b : ℕ) (p : Bool) (s : List ℕ) → p ≡ is_digit b → p
 unfolding all_digits
 wrong_later b p s e h w = if_true _ _ _ (sym e ∙ h) ∙ w
 
-pub number_wrong : (s : List ℕ) → all_digits s ≡ false → Wrong ≡ number_in s
+pub number_wrong : (s : List ℕ) → all_digits s ≡ false → None ≡ number_in s
 unfolding number_in
-number_wrong s h = sym (if_case (λ (x : Number). x ≡ Wrong) (leb (length s) 9) _ Wrong (λ t. if_false _ _ _ h) (λ t. refl))
+number_wrong s h = sym (if_case (λ (x : Option ℕ). x ≡ None) (leb (length s) 9) _ None (λ t. if_false _ _ _ h) (λ t. refl))
 
 right_none : all_digits [] ≡ true
 unfolding all_digits
@@ -76,13 +74,13 @@ four_least a b c t u v w p q x e₁ h₁ e₂ h₂ e₃ h₃ q₁ q₂ q₃ =
 pub four_right : (a b c d t u v w : ℕ) (p q x y : Bool)
     → p ≡ is_digit a → p ≡ true → q ≡ is_digit b → q ≡ true → x ≡ is_digit c → x ≡ true → y ≡ is_digit d → y ≡ true
     → t ≡ a → u ≡ b → v ≡ c → w ≡ d - 48
-    → Value (t * 1000 + u * 100 + (v * 10 + w) - 53280) ≡ number_in (a ∷ b ∷ c ∷ d ∷ [])
+    → Some (t * 1000 + u * 100 + (v * 10 + w) - 53280) ≡ number_in (a ∷ b ∷ c ∷ d ∷ [])
 unfolding number_in value
 four_right a b c d t u v w p q x y e₁ h₁ e₂ h₂ e₃ h₃ e₄ h₄ q₁ q₂ q₃ q₄ =
     let all : all_digits (a ∷ b ∷ c ∷ d ∷ []) ≡ true = right_here a p _ e₁ h₁ (right_here b q _ e₂ h₂ (right_here c x _ e₃ h₃ (right_here d y [] e₄ h₄ right_none))) in
     let sum : t * 1000 + u * 100 + (v * 10 + w) - 53280 ≡ value 0 (a ∷ b ∷ c ∷ d ∷ [])
     = omega (arith, digit_least a (sym e₁ ∙ h₁), digit_least b (sym e₂ ∙ h₂), digit_least c (sym e₃ ∙ h₃)) in
-    ap Value sum ∙ sym (if_true _ _ _ refl ∙ if_true _ _ _ all)
+    ap Some sum ∙ sym (if_true _ _ _ refl ∙ if_true _ _ _ all)
 
 pub ruleset four = (wrong_here, wrong_later, number_wrong, four_least, four_right, so_true, rules)
 
@@ -105,7 +103,7 @@ unfolding fixed length_of
 fixed_there r s at l z e h =
     let sum : 0 + r ≡ r = omega arith in
     ap length_of (if_false _ _ _ (ne_eqb r 0 z) ∙ if_true _ _ _ (le-leb r (length (drop at s)) (simp length-drop (omega arith))))
-    ∙ ap_if length_of (all_are 94 (take r (drop at s))) None (Of 0 0 r)
+    ∙ ap_if length_of (all_are 94 (take r (drop at s))) None (one_unit 0 0 r)
     ∙ ap (λ (k : ℕ). if_b (all_are 94 (take r (drop at s))) 0 k) sum
 
 pub fixed_other : (r : ℕ) (s : List ℕ) (at l : ℕ) → (r ≡ 0 → ⊥) → l ≡ length s - at → r ≤ l → (get_or s at 0 ≡ 94 → ⊥)
@@ -129,32 +127,32 @@ pub ruleset fixeds = (fixed_zero, fixed_short, fixed_other, fixed_padding, fixed
 
 -- ---- the bytes that a length field says
 
-pub measured_wrong : (i w m l : ℕ) (x : Number) → x ≡ Wrong → 0 ≡ length_of (measured i w m l x)
+pub measured_wrong : (i w m l : ℕ) (x : Option ℕ) → x ≡ None → 0 ≡ length_of (measured i w m l x)
 unfolding measured length_of
-measured_wrong i w m l x e = sym (ap (λ (y : Number). length_of (measured i w m l y)) e)
+measured_wrong i w m l x e = sym (ap (λ (y : Option ℕ). length_of (measured i w m l y)) e)
 
 -- a length field that says n
-measured_value : (i w m l n : ℕ) (x : Number) → x ≡ Value n
-    → measured i w m l x ≡ if_b (leb w n) (if_b (leb n m) (if_b (leb n l) (Of i w (n - w)) None) None) None
+measured_value : (i w m l n : ℕ) (x : Option ℕ) → x ≡ Some n
+    → measured i w m l x ≡ if_b (leb w n) (if_b (leb n m) (if_b (leb n l) (one_unit i w (n - w)) None) None) None
 unfolding measured
 measured_value i w m l n x e = ap (measured i w m l) e
 
-pub measured_low : (i w m l n : ℕ) (x : Number) → x ≡ Value n → n < w → 0 ≡ length_of (measured i w m l x)
+pub measured_low : (i w m l n : ℕ) (x : Option ℕ) → x ≡ Some n → n < w → 0 ≡ length_of (measured i w m l x)
 unfolding length_of
 measured_low i w m l n x e h = sym (ap length_of (measured_value i w m l n x e ∙ if_false _ _ _ (lt-leb w n h)))
 
-pub measured_high : (i w m l n : ℕ) (x : Number) → x ≡ Value n → w ≤ n → m < n → 0 ≡ length_of (measured i w m l x)
+pub measured_high : (i w m l n : ℕ) (x : Option ℕ) → x ≡ Some n → w ≤ n → m < n → 0 ≡ length_of (measured i w m l x)
 unfolding length_of
 measured_high i w m l n x e h k =
     sym (ap length_of (measured_value i w m l n x e ∙ if_true _ _ _ (le-leb w n h) ∙ if_false _ _ _ (lt-leb n m k)))
 
-pub measured_past : (i w m l n : ℕ) (x : Number) → x ≡ Value n → w ≤ n → n ≤ m → l < n → 0 ≡ length_of (measured i w m l x)
+pub measured_past : (i w m l n : ℕ) (x : Option ℕ) → x ≡ Some n → w ≤ n → n ≤ m → l < n → 0 ≡ length_of (measured i w m l x)
 unfolding length_of
 measured_past i w m l n x e h k p =
     sym (ap length_of (measured_value i w m l n x e ∙ if_true _ _ _ (le-leb w n h) ∙ if_true _ _ _ (le-leb n m k)
     ∙ if_false _ _ _ (lt-leb n l p)))
 
-pub measured_some : (i w m l n : ℕ) (x : Number) → x ≡ Value n → w ≤ n → n ≤ m → n ≤ l → n ≡ length_of (measured i w m l x)
+pub measured_some : (i w m l n : ℕ) (x : Option ℕ) → x ≡ Some n → w ≤ n → n ≤ m → n ≤ l → n ≡ length_of (measured i w m l x)
 unfolding length_of
 measured_some i w m l n x e h k p =
     let sum : n ≡ w + (n - w) = omega arith in
@@ -164,17 +162,17 @@ measured_some i w m l n x e h k p =
 pub ruleset measureds = (measured_wrong, measured_low, measured_high, measured_past, measured_some, rules)
 
 -- the indicator has no part in the length
-measured_alike : (i j w m l : ℕ) (x : Number) → length_of (measured i w m l x) ≡ length_of (measured j w m l x)
+measured_alike : (i j w m l : ℕ) (x : Option ℕ) → length_of (measured i w m l x) ≡ length_of (measured j w m l x)
 unfolding measured length_of
-measured_alike i j w m l Wrong = refl
-measured_alike i j w m l (Value n) =
+measured_alike i j w m l None = refl
+measured_alike i j w m l (Some n) =
     ap_if length_of (leb w n) _ None
     ∙ ap (λ (k : ℕ). if_b (leb w n) k 0)
     (ap_if length_of (leb n m) _ None
     ∙ ap (λ (k : ℕ). if_b (leb n m) k 0)
-    (ap_if length_of (leb n l) (Of i w (n - w)) None ∙ sym (ap_if length_of (leb n l) (Of j w (n - w)) None))
-    ∙ sym (ap_if length_of (leb n m) (if_b (leb n l) (Of j w (n - w)) None) None))
-    ∙ sym (ap_if length_of (leb w n) (if_b (leb n m) (if_b (leb n l) (Of j w (n - w)) None) None) None)
+    (ap_if length_of (leb n l) (one_unit i w (n - w)) None ∙ sym (ap_if length_of (leb n l) (one_unit j w (n - w)) None))
+    ∙ sym (ap_if length_of (leb n m) (if_b (leb n l) (one_unit j w (n - w)) None) None))
+    ∙ sym (ap_if length_of (leb w n) (if_b (leb n m) (if_b (leb n l) (one_unit j w (n - w)) None) None) None)
 
 four_bytes : (s : List ℕ) (a b c d : ℕ) → a + 4 ≤ length s → b ≡ suc a → c ≡ suc b → d ≡ suc c
     → get_or s a 0 ∷ get_or s b 0 ∷ get_or s c 0 ∷ get_or s d 0 ∷ [] ≡ part a 4 s
@@ -196,7 +194,7 @@ variable_short r s at l e h =
     sym (ap length_of (measured_short 0 4 r (length (drop at s)) (number_in (part 0 4 (drop at s)))
     (simp length-drop (omega arith))))
 
-pub variable_some : (r : ℕ) (s : List ℕ) (at l : ℕ) (x : Number) (k : ℕ) → l ≡ length s - at → 4 ≤ l
+pub variable_some : (r : ℕ) (s : List ℕ) (at l : ℕ) (x : Option ℕ) (k : ℕ) → l ≡ length s - at → 4 ≤ l
     → x ≡ number_in (get_or s at 0 ∷ get_or s (at + 1) 0 ∷ get_or s (at + 2) 0 ∷ get_or s (at + 3) 0 ∷ [])
     → k ≡ length_of (measured 0 4 r l x) → k ≡ length_of (variable r (drop at s))
 unfolding variable
@@ -207,7 +205,7 @@ variable_some r s at l x k e h q m =
     ∙ ap (λ (j : ℕ). part j 4 s) (sym zero_more) ∙ sym (part_drop at 0 4 s) in
     m
     ∙ ap (λ (j : ℕ). length_of (measured 0 4 r j x)) (e ∙ sym (length-drop at s))
-    ∙ ap (λ (y : Number). length_of (measured 0 4 r (length (drop at s)) y)) (q ∙ ap number_in word)
+    ∙ ap (λ (y : Option ℕ). length_of (measured 0 4 r (length (drop at s)) y)) (q ∙ ap number_in word)
 
 pub ruleset variables = (variable_short, variable_some, rules)
 
@@ -220,8 +218,8 @@ head_at s at = let zero_more : at + 0 ≡ at = omega arith in get_or-drop at s 0
 pub segment_short : (s : List ℕ) (at l : ℕ) → l ≡ length s - at → l < 5 → 0 ≡ length_of (segment (drop at s))
 unfolding segment length_of
 segment_short s at l e h =
-    sym (ap length_of (if_case (λ (u : Unit). u ≡ None) (leb 48 (get_or (drop at s) 0 0)) _ None
-    (λ a. if_case (λ (u : Unit). u ≡ None) (leb (get_or (drop at s) 0 0) 51) _ None
+    sym (ap length_of (if_case (λ (u : Option Unit). u ≡ None) (leb 48 (get_or (drop at s) 0 0)) _ None
+    (λ a. if_case (λ (u : Option Unit). u ≡ None) (leb (get_or (drop at s) 0 0) 51) _ None
     (λ b. measured_short (get_or (drop at s) 0 0 - 48) 5 9999 (length (drop at s)) (number_in (part 1 4 (drop at s)))
     (simp length-drop (omega arith)))
     (λ b. refl))
@@ -238,7 +236,7 @@ segment_high s at h =
     sym (ap length_of (if_true _ _ _ (le-leb 48 (get_or (drop at s) 0 0) (omega arith))
     ∙ if_false _ _ _ (lt-leb (get_or (drop at s) 0 0) 51 (omega arith))))
 
-pub segment_some : (s : List ℕ) (at l : ℕ) (x : Number) (k : ℕ) → l ≡ length s - at → 5 ≤ l → 48 ≤ get_or s at 0 → get_or s at 0 ≤ 51
+pub segment_some : (s : List ℕ) (at l : ℕ) (x : Option ℕ) (k : ℕ) → l ≡ length s - at → 5 ≤ l → 48 ≤ get_or s at 0 → get_or s at 0 ≤ 51
     → x ≡ number_in (get_or s (at + 1) 0 ∷ get_or s (at + 2) 0 ∷ get_or s (at + 3) 0 ∷ get_or s (at + 4) 0 ∷ [])
     → k ≡ length_of (measured 0 5 9999 l x) → k ≡ length_of (segment (drop at s))
 unfolding segment
@@ -249,7 +247,7 @@ segment_some s at l x k e h a b q m =
     m
     ∙ measured_alike 0 (get_or (drop at s) 0 0 - 48) 5 9999 l x
     ∙ ap (λ (j : ℕ). length_of (measured (get_or (drop at s) 0 0 - 48) 5 9999 j x)) (e ∙ sym (length-drop at s))
-    ∙ ap (λ (y : Number). length_of (measured (get_or (drop at s) 0 0 - 48) 5 9999 (length (drop at s)) y)) (q ∙ ap number_in word)
+    ∙ ap (λ (y : Option ℕ). length_of (measured (get_or (drop at s) 0 0 - 48) 5 9999 (length (drop at s)) y)) (q ∙ ap number_in word)
     ∙ sym (ap length_of (if_true _ _ _ (le-leb 48 (get_or (drop at s) 0 0) (omega arith))
     ∙ if_true _ _ _ (le-leb (get_or (drop at s) 0 0) 51 (omega arith))))
 

@@ -1,4 +1,5 @@
 -- The unit that is a whole record: what its one number says of it. Assumes nothing.
+use Rattle.std.specs.Prelude.{Option, Some, None}
 use mathlib.Core.Path.{◌≡◌, refl, sym, ap, ◌∙◌, subst}
 use mathlib.Core.List.{List}
 use Prim.Native.Nat.{ℕ, ◌+◌, ◌-◌, ◌≤◌, ◌<◌}
@@ -9,18 +10,17 @@ use lib.Dec.{leb, eqb}
 use lib.ListN.{length, drop, get_or}
 use Rattle.base.specs.If.{if_b}
 use Rattle.base.proofs.Ifs.{if_true, if_false, if_case}
-use Rattle.block.specs.Unit.{fixed, variable, segment, unit_of, length_of, word_of, whole_of}
+use Rattle.block.specs.Unit.{fixed, variable, segment, unit_of, length_of, word_of, whole_of, one_unit}
 use Rattle.block.specs.declared.Unit.{Unit}
-use Rattle.block.specs.declared.Unit.TheVariants.{Of, None}
 use Rattle.block.proofs.Units.{Stands, IfAny, fixed_any, variable_any}
 use Rattle.block.proofs.Lengths.{Led, Indicated, fixed_led, variable_led, segment_indicated, unit_fixed, unit_variable, unit_segment, segment_none, segment_of_lem, segment_least, segment_first, segment_inside, other_unit}
 
 -- ---- from a length to the number
 
 -- a unit of a format other than S is a whole record
-whole_any : (f r l : ℕ) (u : Unit) → (f ≡ 83 → ⊥) → IfAny (Stands f r l) u → length_of u ≡ whole_of r u
+whole_any : (f r l : ℕ) (u : Option Unit) → (f ≡ 83 → ⊥) → IfAny (Stands f r l) u → length_of u ≡ whole_of r u
 unfolding length_of whole_of
-whole_any f r l (Of i w n) h c = sym (if_true _ _ _ (eq-eqb i 0 (c.whole h)) ∙ if_true _ _ _ (le-leb n r (c.short h)))
+whole_any f r l (Some u) h c = sym (if_true _ _ _ (eq-eqb u.indicator 0 (c.whole h)) ∙ if_true _ _ _ (le-leb u.len r (c.short h)))
 whole_any f r l None h c = refl
 
 pub whole_fixed : (f r : ℕ) (s : List ℕ) (k : ℕ) → f ≡ 70 → k ≡ length_of (fixed r s) → k ≡ whole_of r (unit_of f r s)
@@ -77,8 +77,8 @@ pub ruleset whole_segments = (whole_none, whole_begun, whole_over, whole_some, s
 
 -- ---- from the number to the unit
 
-map_any : (P Q : ℕ → ℕ → ℕ → Type 0) → ((i w n : ℕ) → P i w n → Q i w n) → (u : Unit) → IfAny P u → IfAny Q u
-map_any P Q g (Of i w n) c = g i w n c
+map_any : (P Q : ℕ → ℕ → ℕ → Type 0) → ((i w n : ℕ) → P i w n → Q i w n) → (u : Option Unit) → IfAny P u → IfAny Q u
+map_any P Q g (Some u) c = g u.indicator u.word u.len c
 map_any P Q g None c = refl
 
 -- records of F files have no control word
@@ -113,25 +113,25 @@ unit_worded f r s =
     (segment_indicated s))
     (λ d. refl)))
 
-pub unit_word : (f r : ℕ) (s : List ℕ) (i w n : ℕ) → unit_of f r s ≡ Of i w n → w ≡ word_of f
+pub unit_word : (f r : ℕ) (s : List ℕ) (i w n : ℕ) → unit_of f r s ≡ one_unit i w n → w ≡ word_of f
 unit_word f r s i w n e = subst (IfAny (Worded f)) e (unit_worded f r s)
 
 -- a unit that is a whole record of at most r bytes, k with its control word
-pub record Whole (f r : ℕ) (u : Unit) (k : ℕ) : Type 0 where
-  pub is : u ≡ Of 0 (word_of f) (k - word_of f)
+pub record Whole (f r : ℕ) (u : Option Unit) (k : ℕ) : Type 0 where
+  pub is : u ≡ one_unit 0 (word_of f) (k - word_of f)
   pub least : word_of f ≤ k
   pub short : k - word_of f ≤ r
 
-whole_by : (f r : ℕ) (u : Unit) (k : ℕ) → IfAny (Worded f) u → (k ≡ 0 → ⊥) → k ≡ whole_of r u → Whole f r u k
+whole_by : (f r : ℕ) (u : Option Unit) (k : ℕ) → IfAny (Worded f) u → (k ≡ 0 → ⊥) → k ≡ whole_of r u → Whole f r u k
 unfolding whole_of
-whole_by f r (Of i w n) k c z =
-    if_case (λ (x : ℕ). k ≡ x → Whole f r (Of i w n) k) (eqb i 0) _ 0
-    (λ a. if_case (λ (x : ℕ). k ≡ x → Whole f r (Of i w n) k) (leb n r) (w + n) 0
-    (λ b e. let p = eqb-true i 0 a in
-    let m : n ≡ k - word_of f = omega arith in
-    let q = leb-true n r b in
+whole_by f r (Some u) k c z =
+    if_case (λ (x : ℕ). k ≡ x → Whole f r (one_unit u.indicator u.word u.len) k) (eqb u.indicator 0) _ 0
+    (λ a. if_case (λ (x : ℕ). k ≡ x → Whole f r (one_unit u.indicator u.word u.len) k) (leb u.len r) (u.word + u.len) 0
+    (λ b e. let p = eqb-true u.indicator 0 a in
+    let m : u.len ≡ k - word_of f = omega arith in
+    let q = leb-true u.len r b in
     record {
-      is = ap (λ (x : ℕ). Of x w n) p ∙ ap (λ (x : ℕ). Of 0 x n) c ∙ ap (Of 0 (word_of f)) m;
+      is = ap (λ (x : ℕ). one_unit x u.word u.len) p ∙ ap (λ (x : ℕ). one_unit 0 x u.len) c ∙ ap (one_unit 0 (word_of f)) m;
       least = omega arith;
       short = omega arith;
     })

@@ -2,8 +2,7 @@
 -- bytes.
 -- A record counts in the block in which it ends; a block that cannot be cut holds nothing that counts.
 -- `held_adds` (proofs/Helds.antt): the four kinds of bytes of a block that can be cut add up to its length.
-use Rattle.std.specs.Prelude.{◌≡◌, List, map, ℕ, ◌+◌, ◌-◌, ◌*◌, ◌≤◌, eqb, length, drop}
-use Rattle.std.proofs.Math.Option.{Option, none, some}
+use Rattle.std.specs.Prelude.{◌≡◌, List, map, ℕ, ◌+◌, ◌-◌, ◌*◌, ◌≤◌, eqb, length, drop, Option, Some, None}
 use Rattle.base.specs.If.{if_b}
 use Rattle.base.specs.Sum.{sum}
 use Rattle.block.specs.Unit.{word_of}
@@ -29,8 +28,8 @@ abbrev pub holding : ℕ → ℕ → ℕ → ℕ → ℕ → ℕ → Held
 holding w o l u n b = record { records = n; bytes = b; words = u * w; padding = l - (o + u * w + b); offset = o }
 
 unfoldable pub held_by : ℕ → ℕ → ℕ → Option (List Segment) → Held
-held_by w o l none = empty
-held_by w o l (some xs) = holding w o l (length xs) (records_ending xs) (segment_bytes xs)
+held_by w o l None = empty
+held_by w o l (Some xs) = holding w o l (length xs) (records_ending xs) (segment_bytes xs)
 
 -- what a block holds, in a file of format f, record length r and offset length o
 unfoldable pub held_in : ℕ → ℕ → ℕ → List ℕ → Held

@@ -5,8 +5,7 @@
 -- What is open is 0, or one more than the bytes of the open record so far. A 2 or a 3 stands only at the head of a block and only
 -- where something is open; a 0 or a 1 only where nothing is. So no unit can follow a 1 or a 2 in its block.
 -- Units of F and D have indicator 0 and at most R bytes, so the same turns hold of them.
-use Rattle.std.specs.Prelude.{Bool, true, false, List, [], ◌∷◌, ℕ, ◌+◌, ◌-◌, leb, eqb, length}
-use Rattle.std.proofs.Math.Option.{Option, none, some}
+use Rattle.std.specs.Prelude.{Bool, true, false, List, [], ◌∷◌, ℕ, ◌+◌, ◌-◌, leb, eqb, length, Option, Some, None}
 use Rattle.base.specs.If.{if_b}
 use Rattle.block.specs.Cut.{Segment, units}
 use Rattle.block.specs.declared.Outcome.{Outcome}
@@ -32,8 +31,8 @@ turns_from r o head (x ∷ xs) =
 
 -- number 7 where the block, or what is left of it, cannot be cut
 unfoldable pub turned : ℕ → ℕ → Bool → Option (List Segment) → Outcome
-turned r o head none = outcome 7 0
-turned r o head (some xs) = turns_from r o head xs
+turned r o head None = outcome 7 0
+turned r o head (Some xs) = turns_from r o head xs
 
 -- the answer on a block, in a file of format f, block length b, record length r and offset length o, with q open
 unfoldable pub block_outcome : ℕ → ℕ → ℕ → ℕ → ℕ → List ℕ → Outcome

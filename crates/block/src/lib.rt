@@ -19,7 +19,6 @@ ghost use Rattle.block.specs.Code.Loops.{Turning, held_up_to};
 ghost use Rattle.block.specs.Held.{empty, ends_with, Reached, held_in};
 
 use base::{FIXED, SEGMENTED, VARIABLE};
-use charset::Number;
 pub use room::{enters, indicator, smaller, taken};
 pub use word::put_word;
 
@@ -29,11 +28,12 @@ pub const PAD: u8 = b'^';
 // The bytes that the padding test compares before it looks whether to go on.
 const CHUNK: usize = 128;
 
-// The unit at the head of some bytes: its indicator, the bytes of its control word, the bytes of its record or segment; or None.
+// A unit: its indicator, the bytes of its control word, and the bytes of its record or segment.
 #[derive(Clone, Copy)]
-pub enum Unit {
-    Of(u32, usize, usize),
-    None,
+pub struct Unit {
+    pub indicator: u32,
+    pub word: usize,
+    pub len: usize,
 }
 
 // The answer on a block: 0, 7 or 8, and what is pending behind it: 0, or one more than the bytes of the open record.
@@ -60,10 +60,8 @@ fn chunk_is_padding(s: &[u8]) -> bool
     ensures { result ≡ all_are pad s.now }
 {
     let mut all = true;
-    let mut i = 0;
-    while i < s.len() {
-        all = all & (s[i] == PAD);
-        i += 1;
+    for b in s {
+        all = all & (*b == PAD);
     }
     all
 }
@@ -137,7 +135,7 @@ fn code_of(b: u8) -> u32
 // The number that four digits mean: of products side by side, since a walk waits for it before the next record is found. What the
 // codes of the first three are too high, 48 each, is taken off the sum; the last is a value, or the compiler reads all four into
 // one wide register, for which the walk waits longer.
-fn four_digits(a: u8, b: u8, c: u8, d: u8) -> Number
+fn four_digits(a: u8, b: u8, c: u8, d: u8) -> Option<u32>
     ensures { result ≡ number_in (a ∷ b ∷ c ∷ d ∷ []) }
 {
     if is_digit(a) {
@@ -146,12 +144,12 @@ fn four_digits(a: u8, b: u8, c: u8, d: u8) -> Number
                 if is_digit(d) {
                     let high = code_of(a) * 1000 + code_of(b) * 100;
                     let sum = high + (code_of(c) * 10 + value_of(d));
-                    return Number::Value(sum - 53280);
+                    return Some(sum - 53280);
                 }
             }
         }
     }
-    Number::Wrong
+    None
 }
 
 // The bytes of a control word in a file of that format.
@@ -203,12 +201,12 @@ fn fixed_length(record_length: u32, s: &[u8], at: usize) -> usize
 
 // The bytes of a unit led by a control word of `word` bytes whose length field says `n`, at most `longest`, with `left` bytes
 // there; or 0.
-fn measured_length(word: u32, longest: u32, left: usize, n: Number) -> usize
+fn measured_length(word: u32, longest: u32, left: usize, n: Option<u32>) -> usize
     ensures { result ≡ length_of (measured 0 word longest left n) }
 {
     match n {
-        Number::Wrong => 0,
-        Number::Value(v) => {
+        None => 0,
+        Some(v) => {
             if v < word {
                 return 0;
             }
@@ -255,39 +253,51 @@ pub fn segment_length(s: &[u8], at: usize) -> usize
     measured_length(5, 9999, left, n)
 }
 
-// The segment at a place.
-fn segment_at(s: &[u8], at: usize) -> Unit
+// The segment at a place, if one stands there.
+fn segment_at(s: &[u8], at: usize) -> Option<Unit>
     ensures { result ≡ segment (drop at s.now) }
 {
     let n = segment_length(s, at);
     if n == 0 {
-        return Unit::None;
+        return None;
     }
-    Unit::Of((s[at] - b'0') as u32, 5, n - 5)
+    Some(Unit {
+        indicator: (s[at] - b'0') as u32,
+        word: 5,
+        len: n - 5,
+    })
 }
 
-// The unit at a place, in a file of that format and record length.
-pub fn unit_at(format: u8, record_length: u32, s: &[u8], at: usize) -> Unit
+// The unit at a place, if one stands there, in a file of that format and record length.
+pub fn unit_at(format: u8, record_length: u32, s: &[u8], at: usize) -> Option<Unit>
     ensures { result ≡ unit_of format record_length (drop at s.now) }
 {
     if format == FIXED {
         let n = fixed_length(record_length, s, at);
         if n == 0 {
-            return Unit::None;
+            return None;
         }
-        return Unit::Of(0, 0, n);
+        return Some(Unit {
+            indicator: 0,
+            word: 0,
+            len: n,
+        });
     }
     if format == VARIABLE {
         let n = variable_length(record_length, s, at);
         if n == 0 {
-            return Unit::None;
+            return None;
         }
-        return Unit::Of(0, 4, n - 4);
+        return Some(Unit {
+            indicator: 0,
+            word: 4,
+            len: n - 4,
+        });
     }
     if format == SEGMENTED {
         return segment_at(s, at);
     }
-    Unit::None
+    None
 }
 
 // The bytes of the segment at a place, with its control word, where it is a whole record of at most R bytes; or 0.
@@ -484,17 +494,23 @@ fn segments_outcome(
     loop {
         let unit = segment_at(s, at);
         match unit {
-            Unit::Of(indicator, word, n) => {
-                if !in_turn(record_length, held, at == from, indicator, n) {
+            Some(
+                Unit {
+                    indicator,
+                    word,
+                    len,
+                },
+            ) => {
+                if !in_turn(record_length, held, at == from, indicator, len) {
                     if segments_cut(record_length, s, from) {
                         return answer(8, 0);
                     }
                     return answer(7, 0);
                 }
-                held = open_after(held, indicator, n);
-                at = at + word + n;
+                held = open_after(held, indicator, len);
+                at = at + word + len;
             }
-            Unit::None => {
+            None => {
                 if at == from {
                     return answer(7, 0);
                 }
@@ -522,10 +538,16 @@ pub fn segmented_outcome(
     }
     let unit = segment_at(s, offset);
     match unit {
-        Unit::Of(indicator, word, n) => {
-            if in_turn(record_length, pending, true, indicator, n) {
-                let held = open_after(pending, indicator, n);
-                let at = offset + word + n;
+        Some(
+            Unit {
+                indicator,
+                word,
+                len,
+            },
+        ) => {
+            if in_turn(record_length, pending, true, indicator, len) {
+                let held = open_after(pending, indicator, len);
+                let at = offset + word + len;
                 if s.len() <= at {
                     return answer(0, held);
                 }
@@ -533,7 +555,7 @@ pub fn segmented_outcome(
             }
             segments_outcome(record_length, pending, s, offset, pending, offset)
         }
-        Unit::None => answer(7, 0),
+        None => answer(7, 0),
     }
 }
 

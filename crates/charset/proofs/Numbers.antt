@@ -1,4 +1,5 @@
 -- Laws of number fields, one for every width. Assumes nothing.
+use Rattle.std.specs.Prelude.{Some, None}
 use mathlib.Core.Path.{◌≡◌, refl, sym, ap, ◌∙◌, subst}
 use mathlib.Core.Bool.{true, false}
 use mathlib.Core.List.{List}
@@ -15,31 +16,30 @@ use lib.Seq.{drop-cons}
 use Rattle.base.proofs.Ifs.{if_true, if_false}
 use Rattle.base.specs.Digits.{is_digit, all_digits, value, digits}
 use Rattle.base.proofs.Numbers.{length_digits, value_digits}
-use Rattle.charset.specs.declared.Number.TheVariants.{Value, Wrong}
 use Rattle.charset.specs.Number.{number_in}
 use Rattle.charset.proofs.Digits.{within_digits, below_digits, above_digits, digits_digits}
 use Rattle.charset.proofs.Passed.{each_digit, each_more, each_other, each_end}
 
 -- ---- what a field means
 
-pub number_long : (s : List ℕ) → 9 < length s → number_in s ≡ Wrong
+pub number_long : (s : List ℕ) → 9 < length s → number_in s ≡ None
 unfolding number_in
 number_long s h = if_false _ _ _ (lt-leb (length s) 9 h)
 
-pub number_wrong : (s : List ℕ) → length s ≤ 9 → all_digits s ≡ false → number_in s ≡ Wrong
+pub number_wrong : (s : List ℕ) → length s ≤ 9 → all_digits s ≡ false → number_in s ≡ None
 unfolding number_in
 number_wrong s h e = if_true _ _ _ (le-leb (length s) 9 h) ∙ if_false _ _ _ e
 
 -- at most nine digits are a number, with their value
-pub number_value : (s : List ℕ) → length s ≤ 9 → all_digits s ≡ true → number_in s ≡ Value (value 0 s)
+pub number_value : (s : List ℕ) → length s ≤ 9 → all_digits s ≡ true → number_in s ≡ Some (value 0 s)
 unfolding number_in
 number_value s h e = if_true _ _ _ (le-leb (length s) 9 h) ∙ if_true _ _ _ e
 
 -- a number that fits its width is read back from its digits
-pub number_digits : (w n : ℕ) → w ≤ 9 → n < 10 ^ w → number_in (digits w n) ≡ Value n
+pub number_digits : (w n : ℕ) → w ≤ 9 → n < 10 ^ w → number_in (digits w n) ≡ Some n
 number_digits w n h k =
     number_value (digits w n) (subst (λ (l : ℕ). l ≤ 9) (sym (length_digits w n)) h) (digits_digits w n)
-    ∙ ap Value (value_digits w n k)
+    ∙ ap Some (value_digits w n k)
 
 -- ---- the size of a number: below 10 ^ i behind i digits
 
@@ -82,21 +82,21 @@ read_more s n i c h low high =
       small = power_more n (get_or s i 0 - 48) i c.small (omega arith);
     }
 
-read_other : (s : List ℕ) (n i : ℕ) → Read s n i → length s ≤ 9 → i < length s → is_digit (get_or s i 0) ≡ false → Wrong ≡ number_in s
+read_other : (s : List ℕ) (n i : ℕ) → Read s n i → length s ≤ 9 → i < length s → is_digit (get_or s i 0) ≡ false → None ≡ number_in s
 read_other s n i c l h e = sym (number_wrong s l (sym c.judged ∙ each_other is_digit all_digits each_digit s i h e))
 
-pub read_below : (s : List ℕ) (n i : ℕ) → Read s n i → length s ≤ 9 → i < length s → get_or s i 0 < 48 → Wrong ≡ number_in s
+pub read_below : (s : List ℕ) (n i : ℕ) → Read s n i → length s ≤ 9 → i < length s → get_or s i 0 < 48 → None ≡ number_in s
 read_below s n i c l h e = read_other s n i c l h (below_digits (get_or s i 0) e)
 
-pub read_above : (s : List ℕ) (n i : ℕ) → Read s n i → length s ≤ 9 → i < length s → 57 < get_or s i 0 → Wrong ≡ number_in s
+pub read_above : (s : List ℕ) (n i : ℕ) → Read s n i → length s ≤ 9 → i < length s → 57 < get_or s i 0 → None ≡ number_in s
 read_above s n i c l h e = read_other s n i c l h (above_digits (get_or s i 0) e)
 
-pub read_all : (s : List ℕ) (n i : ℕ) → Read s n i → length s ≤ 9 → length s ≤ i → Value n ≡ number_in s
+pub read_all : (s : List ℕ) (n i : ℕ) → Read s n i → length s ≤ 9 → length s ≤ i → Some n ≡ number_in s
 read_all s n i c l h =
     sym (number_value s l (sym c.judged ∙ each_end is_digit all_digits each_digit s i h)
-    ∙ ap Value (sym c.left ∙ value_end s n i h))
+    ∙ ap Some (sym c.left ∙ value_end s n i h))
 
-pub read_long : (s : List ℕ) → 9 < length s → Wrong ≡ number_in s
+pub read_long : (s : List ℕ) → 9 < length s → None ≡ number_in s
 read_long s h = sym (number_long s h)
 
 -- nine digits fit 32 bits

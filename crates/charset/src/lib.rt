@@ -13,13 +13,6 @@ mod classes;
 
 pub use classes::CLASSES;
 
-// A field of digits: the number that they mean, or Wrong for anything else.
-#[derive(Clone, Copy)]
-pub enum Number {
-    Value(u32),
-    Wrong,
-}
-
 // Whether a byte lies in the range from a to z.
 fn is_between(a: u8, z: u8, b: u8) -> bool
     ensures { result ≡ between a z b }
@@ -97,12 +90,10 @@ fn all_characters_by(table: &[u8; 256], s: &[u8]) -> bool
     requires { RightElsewhere table.now }
     ensures { result ≡ all_a s.now }
 {
-    let mut i = 0;
-    while i < s.len() {
-        if !is_character_by(table, s[i]) {
+    for b in s {
+        if !is_character_by(table, *b) {
             return false;
         }
-        i += 1;
     }
     true
 }
@@ -119,11 +110,8 @@ fn all_by_table(s: &[u8]) -> bool
 pub fn all_characters(s: &[u8]) -> bool
     ensures { result ≡ all_a s.now }
 {
-    let mut i = 0;
-    while i < s.len() {
-        if in_ranges(s[i]) {
-            i += 1;
-        } else {
+    for (i, b) in s.iter().enumerate() {
+        if !in_ranges(*b) {
             return all_by_table(&s[i..]);
         }
     }
@@ -134,37 +122,32 @@ pub fn all_characters(s: &[u8]) -> bool
 pub fn all_digits(s: &[u8]) -> bool
     ensures { result ≡ all_digits s.now }
 {
-    let mut i = 0;
-    while i < s.len() {
-        if !is_digit(s[i]) {
+    for b in s {
+        if !is_digit(*b) {
             return false;
         }
-        i += 1;
     }
     true
 }
 
-// The number that at most nine digits mean. A digit is told by its code, since its value is wanted.
-pub fn number_in(s: &[u8]) -> Number
+// The number that at most nine digits mean, if a field has nothing else. A digit is told by its code, since its value is wanted.
+pub fn number_in(s: &[u8]) -> Option<u32>
     ensures { result ≡ number_in s.now }
 {
     if 9 < s.len() {
-        return Number::Wrong;
+        return None;
     }
     let mut n: u32 = 0;
-    let mut i = 0;
-    while i < s.len() {
-        let b = s[i];
-        if b < b'0' {
-            return Number::Wrong;
+    for b in s {
+        if *b < b'0' {
+            return None;
         }
-        if b'9' < b {
-            return Number::Wrong;
+        if b'9' < *b {
+            return None;
         }
-        n = n * 10 + (b - b'0') as u32;
-        i += 1;
+        n = n * 10 + (*b - b'0') as u32;
     }
-    Number::Value(n)
+    Some(n)
 }
 
 // Whether a byte stands before the year of a date: SPACE or ZERO.
@@ -178,13 +161,13 @@ fn is_century(b: u8) -> bool
 }
 
 // Whether the number of the five digits and that of the last three are a year with a day of it, or ZEROs.
-fn is_year_day(all: Number, day: Number) -> bool
+fn is_year_day(all: Option<u32>, day: Option<u32>) -> bool
     ensures { result ≡ is_year_day all day }
 {
-    let Number::Value(n) = all else {
+    let Some(n) = all else {
         return false;
     };
-    let Number::Value(d) = day else {
+    let Some(d) = day else {
         return false;
     };
     if n == 0 {

@@ -1,8 +1,8 @@
 -- What the blocks of an accepted file hold is what its records come to. Assumes nothing.
+use Rattle.std.specs.Prelude.{Option, Some, None}
 use mathlib.Core.Path.{◌≡◌, refl, sym, ap, ◌∙◌, subst}
 use mathlib.Core.Bool.{Bool, true, false}
 use mathlib.Core.List.{List, [], ◌∷◌, ◌++◌, map}
-use mathlib.Core.Option.{Option, none, some}
 use Prim.Native.Nat.{ℕ, zero, suc, ◌+◌, ◌-◌}
 use native.Mathlib.Omega.{arith}
 use borrow.Author.Tests.{eqb-true, eqb-false}
@@ -23,12 +23,11 @@ use Rattle.block.proofs.Helds.{ends_begun, ends_still, ends_one}
 use Rattle.volume.specs.Meaning.{on_first, joined}
 use Rattle.volume.specs.Step.{segments_of}
 use Rattle.reading.proofs.Assembled.{InTurn, starts, follows, in_turn}
-use Rattle.content.specs.Section.{data_from}
+use Rattle.content.specs.Section.{data_from, extent}
 use Rattle.content.specs.Held.{held_by, held_from}
 use Rattle.content.specs.declared.Walk.{Walk}
 use Rattle.content.specs.declared.holding.FileHeld.{FileHeld}
 use Rattle.content.specs.declared.section.Extent.{Extent}
-use Rattle.content.specs.declared.section.Extent.TheVariants.{At as Block, Nowhere}
 use Rattle.content.specs.declared.unit.Taken.{Taken}
 use Rattle.content.proofs.Cutting.{turns_shut, joined_whole, joined_one, joined_two, open_one, open_two, units_of, units_empty}
 use Rattle.content.proofs.Onward.{Hands}
@@ -132,7 +131,7 @@ pub record Sums (h : Held) (rs : List (List ℕ)) : Type 0 where
   pub bytes : h.bytes ≡ sum (map length rs)
 
 -- what is held from the next data block on
-abbrev pub next_held : List ℕ → Walk → Extent → Held
+abbrev pub next_held : List ℕ → Walk → Option Extent → Held
 next_held s w x = (held_by s w.format w.record_length w.offset 0 x (λ i. held_from s w.format w.record_length w.offset i)).held
 
 pub held_next : (s : List ℕ) (w : Walk) (at : ℕ)
@@ -141,29 +140,29 @@ held_next s w at =
     ap (λ (x : FileHeld). x.held) (held_at s w.format w.record_length w.offset at)
     ∙ anywhere (data_from Data at (decode (drop at s)))
   where
-    anywhere : (x : Extent)
+    anywhere : (x : Option Extent)
         → (held_by s w.format w.record_length w.offset at x (λ i. held_from s w.format w.record_length w.offset i)).held
         ≡ next_held s w x
-    anywhere (Block start n) = unfold held_by in refl
-    anywhere Nowhere = unfold held_by in refl
+    anywhere (Some u) = unfold held_by in refl
+    anywhere None = unfold held_by in refl
 
-hands_goes : (s : List ℕ) (r q : ℕ) (t : Taken) (ys : List Segment) → Hands s r q t (joined ys) → Goes q ys
+hands_goes : (s : List ℕ) (r q : ℕ) (t : Option Taken) (ys : List Segment) → Hands s r q t (joined ys) → Goes q ys
 hands_goes s r zero t ys h z e = z refl
 hands_goes s r (suc k) t ys h z e = subst (Hands s r (suc k) t) e h
 
-held_units : (f r o : ℕ) (l : List ℕ) (x : Segment) (xs : List Segment) → cut f r (drop o l) ≡ some (x ∷ xs)
+held_units : (f r o : ℕ) (l : List ℕ) (x : Segment) (xs : List Segment) → cut f r (drop o l) ≡ Some (x ∷ xs)
     → ((held_in f r o l).records ≡ records_ending (x ∷ xs)) × ((held_in f r o l).bytes ≡ segment_bytes (x ∷ xs))
 unfolding held_in held_of some_units
 held_units f r o l x xs e =
-    let here : held_in f r o l ≡ held_of (word_of f) o (length l) (some (x ∷ xs)) = ap (λ (c : Option (List Segment)). held_of (word_of f) o (length l) (some_units c)) e in
+    let here : held_in f r o l ≡ held_of (word_of f) o (length l) (Some (x ∷ xs)) = ap (λ (c : Option (List Segment)). held_of (word_of f) o (length l) (some_units c)) e in
     (ap (λ (h : Held). h.records) here, ap (λ (h : Held). h.bytes) here)
 
 -- a block, and those behind it
-pub block_sums : (s : List ℕ) (w : Walk) (b start n q : ℕ) (ys : List Segment) (t : Taken)
+pub block_sums : (s : List ℕ) (w : Walk) (b start n q : ℕ) (ys : List Segment) (t : Option Taken)
     → (block_outcome w.format b w.record_length w.offset q (part start n s)).number ≡ 0
     → Hands s w.record_length (block_outcome w.format b w.record_length w.offset q (part start n s)).pending t (joined ys)
     → Sums (next_held s w (data_from Data (start + n) (decode (drop (start + n) s)))) (joined ys)
-    → Sums (next_held s w (Block start n)) (joined (segments_of (units w.format b w.record_length w.offset (part start n s)) ++ ys))
+    → Sums (next_held s w (extent start n)) (joined (segments_of (units w.format b w.record_length w.offset (part start n s)) ++ ys))
 unfolding block_outcome turned segments_of outcome held_by
 block_sums s w b start n q ys t = by_units (units w.format b w.record_length w.offset (part start n s)) refl
   where
@@ -174,10 +173,10 @@ block_sums s w b start n q ys t = by_units (units w.format b w.record_length w.o
         → (turned w.record_length q true c).number ≡ 0
         → Hands s w.record_length (turned w.record_length q true c).pending t (joined ys)
         → Sums (next_held s w (data_from Data (start + n) (decode (drop (start + n) s)))) (joined ys)
-        → Sums (next_held s w (Block start n)) (joined (segments_of c ++ ys))
-    by_units none e h k c = absurd (eqb-false 7 0 refl h)
-    by_units (some []) e h k c = absurd (units_empty w.format b w.record_length w.offset l e)
-    by_units (some (x ∷ xs)) e h k c =
+        → Sums (next_held s w (extent start n)) (joined (segments_of c ++ ys))
+    by_units None e h k c = absurd (eqb-false 7 0 refl h)
+    by_units (Some []) e h k c = absurd (units_empty w.format b w.record_length w.offset l e)
+    by_units (Some (x ∷ xs)) e h k c =
         let u = units_of w.format b w.record_length w.offset l x xs e in
         let here = held_units w.format w.record_length w.offset l x xs u.cuts in
         let rest = held_next s w (start + n) in

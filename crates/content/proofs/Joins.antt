@@ -1,4 +1,5 @@
 -- Laws of joining: segments one by one. Assumes nothing.
+use Rattle.std.specs.Prelude.{Some, Option, None}
 use mathlib.Core.Path.{◌≡◌, refl, sym, ap, ap₂, ◌∙◌}
 use mathlib.Core.Bool.{Bool, true, false, false≢true}
 use mathlib.Core.List.{List, ◌++◌}
@@ -19,7 +20,6 @@ use Rattle.content.specs.Code.Heads.{Inside}
 use Rattle.content.specs.Code.Joining.{is_ended, rest_bytes, bytes_behind, RestFits, record_bytes, is_split, SplitAt}
 use Rattle.content.specs.declared.Walk.{Walk}
 use Rattle.content.specs.declared.unit.Taken.{Taken}
-use Rattle.content.specs.declared.unit.Taken.TheVariants.{One, Nothing}
 use Rattle.content.proofs.Units.{inside_true}
 use Rattle.content.proofs.Rests.{UnitBehind, next_behind, from_behind, rest_at_lem, ended_before, rest_roomy}
 use Rattle.content.proofs.Measures.{unit_falls}
@@ -54,36 +54,36 @@ Ways s i start n v x =
     (i ≡ 3 → rest_bytes x ≡ part start n s)
     × ((i ≡ 3 → ⊥) → (rest_bytes x ≡ part start n s ++ bytes_behind s v) × (is_ended (rest_at s v.record_length v) ≡ true))
 
-goes_by : (s : List ℕ) (room i start n : ℕ) (v : Walk) → room ≤ v.record_length
-    → is_ended (rest_by s room (One i start n v) (λ r u. rest_at s r u)) ≡ true
-    → Ways s i start n v (rest_by s room (One i start n v) (λ r u. rest_at s r u))
+goes_by : (s : List ℕ) (room : ℕ) (one : Taken) → room ≤ one.behind.record_length
+    → is_ended (rest_by s room (Some one) (λ r u. rest_at s r u)) ≡ true
+    → Ways s one.indicator one.start one.len one.behind (rest_by s room (Some one) (λ r u. rest_at s r u))
 unfolding rest_by is_ended rest_bytes
-goes_by s room i start n v small =
-    if_case P (leb n room) _ fails
-    (λ a. if_case P (eqb i 3) (ends (part start n s) v) _ (λ e _. ((λ _. refl), (λ x. absurd (x (eqb-true i 3 e)))))
-    (λ e. if_case P (eqb i 2) (before (part start n s) (rest_at s (room - n) v)) fails
+goes_by s room one small =
+    if_case P (leb one.len room) _ fails
+    (λ a. if_case P (eqb one.indicator 3) (ends (part one.start one.len s) one.behind) _ (λ e _. ((λ _. refl), (λ x. absurd (x (eqb-true one.indicator 3 e)))))
+    (λ e. if_case P (eqb one.indicator 2) (before (part one.start one.len s) (rest_at s (room - one.len) one.behind)) fails
     (λ f q. (
-      (λ x. absurd (eqb-false i 3 e x)),
-      (λ _. goes_on (leb-true n room a)
-          (ended_before (part start n s) (rest_at s (room - n) v) q)),
+      (λ x. absurd (eqb-false one.indicator 3 e x)),
+      (λ _. goes_on (leb-true one.len room a)
+          (ended_before (part one.start one.len s) (rest_at s (room - one.len) one.behind) q)),
     ))
     (λ _ q. absurd (false≢true q))))
     (λ _ q. absurd (false≢true q))
   where
     P : Rest → Type 0
-    P x = is_ended x ≡ true → Ways s i start n v x
+    P x = is_ended x ≡ true → Ways s one.indicator one.start one.len one.behind x
 
-    goes_on : n ≤ room → is_ended (rest_at s (room - n) v) ≡ true
-        → (rest_bytes (before (part start n s) (rest_at s (room - n) v)) ≡ part start n s ++ bytes_behind s v)
-        × (is_ended (rest_at s v.record_length v) ≡ true)
+    goes_on : one.len ≤ room → is_ended (rest_at s (room - one.len) one.behind) ≡ true
+        → (rest_bytes (before (part one.start one.len s) (rest_at s (room - one.len) one.behind)) ≡ part one.start one.len s ++ bytes_behind s one.behind)
+        × (is_ended (rest_at s one.behind.record_length one.behind) ≡ true)
     goes_on k q =
-        let both = ended_roomy s (room - n) v (omega arith) q in
-        (bytes_before (part start n s) (rest_at s (room - n) v) q ∙ ap (λ (l : List ℕ). part start n s ++ l) both.0, both.1)
+        let both = ended_roomy s (room - one.len) one.behind (omega arith) q in
+        (bytes_before (part one.start one.len s) (rest_at s (room - one.len) one.behind) q ∙ ap (λ (l : List ℕ). part one.start one.len s ++ l) both.0, both.1)
 
-pub going : (s : List ℕ) (w : Walk) (at m i start n : ℕ) (v : Walk) (t : Taken) → RestFits s w at m → t ≡ unit_next s w
-    → t ≡ One i start n v → JoinGoing s w i start n v
+pub going : (s : List ℕ) (w : Walk) (at m : ℕ) (one : Taken) (t : Option Taken) → RestFits s w at m → t ≡ unit_next s w
+    → t ≡ Some one → JoinGoing s w one.indicator one.start one.len one.behind
 unfolding bytes_behind
-going s w at m i start n v t c e q = record {
+going s w at m one t c e q = record {
   long = long;
   inside = b.inside;
   some = some;
@@ -91,40 +91,40 @@ going s w at m i start n v t c e q = record {
   more = λ z. (ap rest_bytes k ∙ (ways.1 z).0, (ways.1 z).1);
 }
   where
-    b : UnitBehind s w start n v
-    b = next_behind s w i start n v (sym e ∙ q)
+    b : UnitBehind s w one.start one.len one.behind
+    b = next_behind s w one.indicator one.start one.len one.behind (sym e ∙ q)
 
-    long : length (part start n s) ≡ n
-    long = length_part start n s b.within
+    long : length (part one.start one.len s) ≡ one.len
+    long = length_part one.start one.len s b.within
 
-    k : rest_at s w.record_length w ≡ rest_by s w.record_length (One i start n v) (λ r u. rest_at s r u)
-    k = rest_at_lem s w.record_length w ∙ ap (λ (x : Taken). rest_by s w.record_length x (λ r u. rest_at s r u)) (sym e ∙ q)
+    k : rest_at s w.record_length w ≡ rest_by s w.record_length (Some one) (λ r u. rest_at s r u)
+    k = rest_at_lem s w.record_length w ∙ ap (λ (x : Option Taken). rest_by s w.record_length x (λ r u. rest_at s r u)) (sym e ∙ q)
 
-    small : w.record_length ≤ v.record_length
+    small : w.record_length ≤ one.behind.record_length
     small = omega (arith, b.record_length)
 
-    ways : Ways s i start n v (rest_by s w.record_length (One i start n v) (λ r u. rest_at s r u))
-    ways = goes_by s w.record_length i start n v small (ap is_ended (sym k) ∙ c.ended)
+    ways : Ways s one.indicator one.start one.len one.behind (rest_by s w.record_length (Some one) (λ r u. rest_at s r u))
+    ways = goes_by s w.record_length one small (ap is_ended (sym k) ∙ c.ended)
 
-    by_flag : (x : Bool) → eqb i 3 ≡ x → n ≤ length (rest_bytes (rest_at s w.record_length w))
-    by_flag true z = omega (arith, ap length (ap rest_bytes k ∙ ways.0 (eqb-true i 3 z)), long)
+    by_flag : (x : Bool) → eqb one.indicator 3 ≡ x → one.len ≤ length (rest_bytes (rest_at s w.record_length w))
+    by_flag true z = omega (arith, ap length (ap rest_bytes k ∙ ways.0 (eqb-true one.indicator 3 z)), long)
     by_flag false z =
         omega (
           arith,
-          ap length (ap rest_bytes k ∙ (ways.1 (eqb-false i 3 z)).0),
-          length-append (part start n s)
-              (rest_bytes (rest_at s v.record_length v)),
+          ap length (ap rest_bytes k ∙ (ways.1 (eqb-false one.indicator 3 z)).0),
+          length-append (part one.start one.len s)
+              (rest_bytes (rest_at s one.behind.record_length one.behind)),
           long,
         )
 
-    some : n ≤ length (rest_bytes (rest_at s w.record_length w))
-    some = by_flag (eqb i 3) refl
+    some : one.len ≤ length (rest_bytes (rest_at s w.record_length w))
+    some = by_flag (eqb one.indicator 3) refl
 
-pub not_nothing : (s : List ℕ) (w : Walk) (at m : ℕ) (t : Taken) → RestFits s w at m → t ≡ unit_next s w → t ≡ Nothing → ⊥
+pub not_nothing : (s : List ℕ) (w : Walk) (at m : ℕ) (t : Option Taken) → RestFits s w at m → t ≡ unit_next s w → t ≡ None → ⊥
 unfolding is_ended rest_by
 not_nothing s w at m t c e q =
     false≢true (ap is_ended
-    (sym (rest_at_lem s w.record_length w ∙ ap (λ (x : Taken). rest_by s w.record_length x (λ r u. rest_at s r u)) (sym e ∙ q))) ∙ c.ended)
+    (sym (rest_at_lem s w.record_length w ∙ ap (λ (x : Option Taken). rest_by s w.record_length x (λ r u. rest_at s r u)) (sym e ∙ q))) ∙ c.ended)
 
 -- with what is behind w put from `at` on, the buffer is as with what is behind the first walk put from its place on
 pub record Joining (s old : List ℕ) (place : ℕ) (from : Walk) (out : List ℕ) (at : ℕ) (w : Walk) : Type 0 where
@@ -136,63 +136,63 @@ pub joining_none : (s old : List ℕ) (place : ℕ) (from : Walk) → RestFits s
     → Joining s old place from old place from
 joining_none s old place from h = record { goes = h; long = refl; same = refl }
 
-pub joining_nothing : (s old : List ℕ) (place : ℕ) (from : Walk) (out : List ℕ) (at : ℕ) (w : Walk) (t : Taken)
+pub joining_nothing : (s old : List ℕ) (place : ℕ) (from : Walk) (out : List ℕ) (at : ℕ) (w : Walk) (t : Option Taken)
     → Joining s old place from out at w → t ≡ unit_next s w
-    → t ≡ Nothing → out ≡ put_at old place (bytes_behind s from)
+    → t ≡ None → out ≡ put_at old place (bytes_behind s from)
 joining_nothing s old place from out at w t c e q = absurd (not_nothing s w at (length out) t c.goes e q)
 
 -- a segment has room
-pub segment_room : (s old : List ℕ) (place : ℕ) (from : Walk) (out : List ℕ) (at : ℕ) (w : Walk) (i start n : ℕ) (v : Walk)
-    (t : Taken) (l : List ℕ)
-    → Joining s old place from out at w → t ≡ unit_next s w → t ≡ One i start n v → l ≡ part start n s → at + length l ≤ length out
-segment_room s old place from out at w i start n v t l c e q h =
-    let g = going s w at (length out) i start n v t c.goes e q in
+pub segment_room : (s old : List ℕ) (place : ℕ) (from : Walk) (out : List ℕ) (at : ℕ) (w : Walk) (one : Taken)
+    (t : Option Taken) (l : List ℕ)
+    → Joining s old place from out at w → t ≡ unit_next s w → t ≡ Some one → l ≡ part one.start one.len s → at + length l ≤ length out
+segment_room s old place from out at w one t l c e q h =
+    let g = going s w at (length out) one t c.goes e q in
     let a = g.long in
     let b = g.some in
     let d = c.goes.fits in
-    let k : length l ≡ length (part start n s) = ap length h in
+    let k : length l ≡ length (part one.start one.len s) = ap length h in
     omega arith
 
-pub joining_last : (s old : List ℕ) (place : ℕ) (from : Walk) (out : List ℕ) (at : ℕ) (w : Walk) (i start n : ℕ) (v : Walk)
-    (t : Taken) (l new : List ℕ)
-    → Joining s old place from out at w → t ≡ unit_next s w → t ≡ One i start n v → l ≡ part start n s → new ≡ put_in out at l
-    → i ≡ 3
+pub joining_last : (s old : List ℕ) (place : ℕ) (from : Walk) (out : List ℕ) (at : ℕ) (w : Walk) (one : Taken)
+    (t : Option Taken) (l new : List ℕ)
+    → Joining s old place from out at w → t ≡ unit_next s w → t ≡ Some one → l ≡ part one.start one.len s → new ≡ put_in out at l
+    → one.indicator ≡ 3
     → new ≡ put_at old place (bytes_behind s from)
-joining_last s old place from out at w i start n v t l new c e q h p z =
-    let g = going s w at (length out) i start n v t c.goes e q in
-    p ∙ put_in_lem out at l (segment_room s old place from out at w i start n v t l c e q h) ∙ ap (put_at out at) (h ∙ sym (g.last z)) ∙ c.same
+joining_last s old place from out at w one t l new c e q h p z =
+    let g = going s w at (length out) one t c.goes e q in
+    p ∙ put_in_lem out at l (segment_room s old place from out at w one t l c e q h) ∙ ap (put_at out at) (h ∙ sym (g.last z)) ∙ c.same
 
-pub joining_more : (s old : List ℕ) (place : ℕ) (from : Walk) (out : List ℕ) (at : ℕ) (w : Walk) (i start n : ℕ) (v : Walk)
-    (t : Taken) (l new : List ℕ)
-    → Joining s old place from out at w → t ≡ unit_next s w → t ≡ One i start n v → l ≡ part start n s → new ≡ put_in out at l
-    → (i ≡ 3 → ⊥)
-    → Joining s old place from new (at + n) v
-joining_more s old place from out at w i start n v t l new c e q h p z =
-    let g = going s w at (length out) i start n v t c.goes e q in
+pub joining_more : (s old : List ℕ) (place : ℕ) (from : Walk) (out : List ℕ) (at : ℕ) (w : Walk) (one : Taken)
+    (t : Option Taken) (l new : List ℕ)
+    → Joining s old place from out at w → t ≡ unit_next s w → t ≡ Some one → l ≡ part one.start one.len s → new ≡ put_in out at l
+    → (one.indicator ≡ 3 → ⊥)
+    → Joining s old place from new (at + one.len) one.behind
+joining_more s old place from out at w one t l new c e q h p z =
+    let g = going s w at (length out) one t c.goes e q in
     let a = g.long in
     let fits = c.goes.fits in
     let bytes = (g.more z).0 in
-    let sum : length (bytes_behind s w) ≡ length (part start n s) + length (bytes_behind s v) = ap length bytes ∙ length-append (part start n s) (bytes_behind s v) in
-    let made : new ≡ put_at out at (part start n s)
-    = p ∙ put_in_lem out at l (segment_room s old place from out at w i start n v t l c e q h) ∙ ap (put_at out at) h in
-    let room : at + length (part start n s) ≤ length out = omega arith in
-    let kept : length new ≡ length out = ap length made ∙ length_put out at (part start n s) room in
-    let place' : at + n ≡ at + length (part start n s) = omega arith in
+    let sum : length (bytes_behind s w) ≡ length (part one.start one.len s) + length (bytes_behind s one.behind) = ap length bytes ∙ length-append (part one.start one.len s) (bytes_behind s one.behind) in
+    let made : new ≡ put_at out at (part one.start one.len s)
+    = p ∙ put_in_lem out at l (segment_room s old place from out at w one t l c e q h) ∙ ap (put_at out at) h in
+    let room : at + length (part one.start one.len s) ≤ length out = omega arith in
+    let kept : length new ≡ length out = ap length made ∙ length_put out at (part one.start one.len s) room in
+    let place' : at + one.len ≡ at + length (part one.start one.len s) = omega arith in
     record {
       goes = record { inside = g.inside; ended = (g.more z).1; fits = omega arith };
       long = kept ∙ c.long;
-      same = ap₂ (λ (x : List ℕ) (k : ℕ). put_at x k (bytes_behind s v)) made place'
-          ∙ put_put out at (part start n s) (bytes_behind s v) room
+      same = ap₂ (λ (x : List ℕ) (k : ℕ). put_at x k (bytes_behind s one.behind)) made place'
+          ∙ put_put out at (part one.start one.len s) (bytes_behind s one.behind) room
           ∙ ap (put_at out at) (sym bytes)
           ∙ c.same;
     }
 
-pub joining_fits : (s old : List ℕ) (place : ℕ) (from : Walk) (out : List ℕ) (at : ℕ) (w : Walk) (i start n : ℕ) (v : Walk)
-    (t : Taken)
-    → Joining s old place from out at w → t ≡ unit_next s w → t ≡ One i start n v → length old < 18446744073709551616
-    → Fits w64 (at + n)
-joining_fits s old place from out at w i start n v t c e q h =
-    let g = going s w at (length out) i start n v t c.goes e q in
+pub joining_fits : (s old : List ℕ) (place : ℕ) (from : Walk) (out : List ℕ) (at : ℕ) (w : Walk) (one : Taken)
+    (t : Option Taken)
+    → Joining s old place from out at w → t ≡ unit_next s w → t ≡ Some one → length old < 18446744073709551616
+    → Fits w64 (at + one.len)
+joining_fits s old place from out at w one t c e q h =
+    let g = going s w at (length out) one t c.goes e q in
     let b = g.some in
     let d = c.goes.fits in
     let l = c.long in
@@ -229,23 +229,23 @@ split_bytes_lem bs fails h = absurd (false≢true h)
 abbrev Begins : List ℕ → ℕ → ℕ → Walk → Record → Type 0
 Begins s start n v x = (record_bytes x ≡ part start n s ++ bytes_behind s v) × (is_ended (rest_at s v.record_length v) ≡ true)
 
-begins_by : (s : List ℕ) (r i start n : ℕ) (v : Walk) → r ≤ v.record_length → is_split (begun_by s r (One i start n v)) ≡ true
-    → Begins s start n v (begun_by s r (One i start n v))
+begins_by : (s : List ℕ) (r : ℕ) (one : Taken) → r ≤ one.behind.record_length → is_split (begun_by s r (Some one)) ≡ true
+    → Begins s one.start one.len one.behind (begun_by s r (Some one))
 unfolding begun_by is_split
-begins_by s r i start n v small =
-    if_case P (leb n r) _ nothing
-    (λ a. if_case P (eqb i 0) (whole start n v) _ (λ _ q. absurd (false≢true q))
-    (λ _. if_case P (eqb i 1) (split_by (part start n s) (rest_at s (r - n) v)) nothing
-    (λ _ q. goes_on (split_ended (part start n s) (rest_at s (r - n) v) q)) (λ _ q. absurd (false≢true q))))
+begins_by s r one small =
+    if_case P (leb one.len r) _ nothing
+    (λ a. if_case P (eqb one.indicator 0) (whole one.start one.len one.behind) _ (λ _ q. absurd (false≢true q))
+    (λ _. if_case P (eqb one.indicator 1) (split_by (part one.start one.len s) (rest_at s (r - one.len) one.behind)) nothing
+    (λ _ q. goes_on (split_ended (part one.start one.len s) (rest_at s (r - one.len) one.behind) q)) (λ _ q. absurd (false≢true q))))
     (λ _ q. absurd (false≢true q))
   where
     P : Record → Type 0
-    P x = is_split x ≡ true → Begins s start n v x
+    P x = is_split x ≡ true → Begins s one.start one.len one.behind x
 
-    goes_on : is_ended (rest_at s (r - n) v) ≡ true → Begins s start n v (split_by (part start n s) (rest_at s (r - n) v))
+    goes_on : is_ended (rest_at s (r - one.len) one.behind) ≡ true → Begins s one.start one.len one.behind (split_by (part one.start one.len s) (rest_at s (r - one.len) one.behind))
     goes_on q =
-        let both = ended_roomy s (r - n) v (omega arith) q in
-        (split_bytes_lem (part start n s) (rest_at s (r - n) v) q ∙ ap (λ (l : List ℕ). part start n s ++ l) both.0, both.1)
+        let both = ended_roomy s (r - one.len) one.behind (omega arith) q in
+        (split_bytes_lem (part one.start one.len s) (rest_at s (r - one.len) one.behind) q ∙ ap (λ (l : List ℕ). part one.start one.len s ++ l) both.0, both.1)
 
 -- a record that is not nothing is that which the unit at the walk's place begins
 begun_split : (s : List ℕ) (w : Walk) → is_split (record_at s w) ≡ true
@@ -262,59 +262,59 @@ begun_split s w =
 pub split_inside : (s : List ℕ) (w : Walk) → is_split (record_at s w) ≡ true → Inside s w
 split_inside s w h = (begun_split s w h).0
 
-pub splitting : (s : List ℕ) (w : Walk) (m i start n : ℕ) (v : Walk) (t : Taken) → SplitAt s w m → t ≡ unit_from s w
-    → t ≡ One i start n v → Splitting s w start n v
-splitting s w m i start n v t c e q = record {
-  long = length_part start n s b.within;
+pub splitting : (s : List ℕ) (w : Walk) (m : ℕ) (one : Taken) (t : Option Taken) → SplitAt s w m → t ≡ unit_from s w
+    → t ≡ Some one → Splitting s w one.start one.len one.behind
+splitting s w m one t c e q = record {
+  long = length_part one.start one.len s b.within;
   inside = b.inside;
   ended = ways.1;
   bytes = ap record_bytes k ∙ ways.0;
 }
   where
-    b : UnitBehind s w start n v
-    b = from_behind s w i start n v c.inside (sym e ∙ q)
+    b : UnitBehind s w one.start one.len one.behind
+    b = from_behind s w one.indicator one.start one.len one.behind c.inside (sym e ∙ q)
 
-    k : record_at s w ≡ begun_by s w.record_length (One i start n v)
+    k : record_at s w ≡ begun_by s w.record_length (Some one)
     k = (begun_split s w c.is).1 ∙ ap (begun_by s w.record_length) (sym e ∙ q)
 
-    ways : Begins s start n v (begun_by s w.record_length (One i start n v))
-    ways = begins_by s w.record_length i start n v (omega (arith, b.record_length)) (ap is_split (sym k) ∙ c.is)
+    ways : Begins s one.start one.len one.behind (begun_by s w.record_length (Some one))
+    ways = begins_by s w.record_length one (omega (arith, b.record_length)) (ap is_split (sym k) ∙ c.is)
 
-pub split_not_nothing : (s : List ℕ) (w : Walk) (m : ℕ) (t : Taken) → SplitAt s w m → t ≡ unit_from s w → t ≡ Nothing → ⊥
+pub split_not_nothing : (s : List ℕ) (w : Walk) (m : ℕ) (t : Option Taken) → SplitAt s w m → t ≡ unit_from s w → t ≡ None → ⊥
 unfolding begun_by is_split
 split_not_nothing s w m t c e q =
     false≢true (ap is_split (sym ((begun_split s w c.is).1 ∙ ap (begun_by s w.record_length) (sym e ∙ q))) ∙ c.is)
 
-pub join_nothing : (s old : List ℕ) (w : Walk) (t : Taken) → SplitAt s w (length old) → t ≡ unit_from s w → t ≡ Nothing
+pub join_nothing : (s old : List ℕ) (w : Walk) (t : Option Taken) → SplitAt s w (length old) → t ≡ unit_from s w → t ≡ None
     → old ≡ put_at old 0 (record_bytes (record_at s w))
 join_nothing s old w t c e q = absurd (split_not_nothing s w (length old) t c e q)
 
 -- the record in numbers
-split_sum : (s : List ℕ) (w : Walk) (m i start n : ℕ) (v : Walk) (t : Taken) → SplitAt s w m → t ≡ unit_from s w
-    → t ≡ One i start n v
-    → n + length (bytes_behind s v) ≤ m
-split_sum s w m i start n v t c e q =
-    let g = splitting s w m i start n v t c e q in
+split_sum : (s : List ℕ) (w : Walk) (m : ℕ) (one : Taken) (t : Option Taken) → SplitAt s w m → t ≡ unit_from s w
+    → t ≡ Some one
+    → one.len + length (bytes_behind s one.behind) ≤ m
+split_sum s w m one t c e q =
+    let g = splitting s w m one t c e q in
     let a = g.long in
-    let sum : length (record_bytes (record_at s w)) ≡ length (part start n s) + length (bytes_behind s v)
-    = ap length g.bytes ∙ length-append (part start n s) (bytes_behind s v) in
+    let sum : length (record_bytes (record_at s w)) ≡ length (part one.start one.len s) + length (bytes_behind s one.behind)
+    = ap length g.bytes ∙ length-append (part one.start one.len s) (bytes_behind s one.behind) in
     omega (arith, c.fits)
 
-pub first_within_lem : (s : List ℕ) (w : Walk) (m i start n : ℕ) (v : Walk) (t : Taken) → SplitAt s w m → t ≡ unit_from s w
-    → t ≡ One i start n v → start + n ≤ length s
-first_within_lem s w m i start n v t c e q = (from_behind s w i start n v c.inside (sym e ∙ q)).within
+pub first_within_lem : (s : List ℕ) (w : Walk) (m : ℕ) (one : Taken) (t : Option Taken) → SplitAt s w m → t ≡ unit_from s w
+    → t ≡ Some one → one.start + one.len ≤ length s
+first_within_lem s w m one t c e q = (from_behind s w one.indicator one.start one.len one.behind c.inside (sym e ∙ q)).within
 
-pub rest_goes : (s old : List ℕ) (w : Walk) (i start n : ℕ) (v : Walk) (t : Taken) → SplitAt s w (length old) → t ≡ unit_from s w
-    → t ≡ One i start n v
-    → RestFits s v n (length old)
-rest_goes s old w i start n v t c e q =
-    let g = splitting s w (length old) i start n v t c e q in
-    record { inside = g.inside; ended = g.ended; fits = split_sum s w (length old) i start n v t c e q }
+pub rest_goes : (s old : List ℕ) (w : Walk) (one : Taken) (t : Option Taken) → SplitAt s w (length old) → t ≡ unit_from s w
+    → t ≡ Some one
+    → RestFits s one.behind one.len (length old)
+rest_goes s old w one t c e q =
+    let g = splitting s w (length old) one t c e q in
+    record { inside = g.inside; ended = g.ended; fits = split_sum s w (length old) one t c e q }
 
-pub join_whole : (s old : List ℕ) (w : Walk) (i start n : ℕ) (v : Walk) (t : Taken) (new : List ℕ) → SplitAt s w (length old)
+pub join_whole : (s old : List ℕ) (w : Walk) (one : Taken) (t : Option Taken) (new : List ℕ) → SplitAt s w (length old)
     → t ≡ unit_from s w
-    → t ≡ One i start n v → new ≡ put_at old 0 (part start n s ++ bytes_behind s v) → new ≡ put_at old 0 (record_bytes (record_at s w))
-join_whole s old w i start n v t new c e q p = p ∙ ap (put_at old 0) (sym (splitting s w (length old) i start n v t c e q).bytes)
+    → t ≡ Some one → new ≡ put_at old 0 (part one.start one.len s ++ bytes_behind s one.behind) → new ≡ put_at old 0 (record_bytes (record_at s w))
+join_whole s old w one t new c e q p = p ∙ ap (put_at old 0) (sym (splitting s w (length old) one t c e q).bytes)
 
 pub split_here : (s : List ℕ) (w : Walk) (m : ℕ) → SplitAt s w m → Inside s w
 split_here s w m c = c.inside

@@ -1,5 +1,7 @@
 -- The records of a walk by their numbers, as the code goes over them: the measure of the next one, a split one segment by segment,
 -- and the loop that counts them. Assumes nothing.
+use Rattle.content.specs.declared.measuring.Measured.{Measured}
+use Rattle.std.specs.Prelude.{Option, Some, None}
 use mathlib.Core.Path.{◌≡◌, refl, sym, ap, ◌∙◌, subst}
 use mathlib.Core.Bool.{true}
 use mathlib.Core.List.{List, [], ◌∷◌, map}
@@ -22,10 +24,8 @@ use Rattle.content.specs.Walked.{handed, end_of}
 use Rattle.content.specs.Records.{records_at, facts_of}
 use Rattle.content.specs.declared.Walk.{Walk}
 use Rattle.content.specs.declared.counting.Facts.{Facts}
-use Rattle.content.specs.declared.measuring.Measured.{Measured}
-use Rattle.content.specs.declared.measuring.Measured.TheVariants.{Whole, Split, Nothing as None}
+use Rattle.content.specs.declared.measuring.Measured.TheVariants.{Whole, Split}
 use Rattle.content.specs.declared.unit.Taken.{Taken}
-use Rattle.content.specs.declared.unit.Taken.TheVariants.{One, Nothing}
 use Rattle.content.proofs.Units.{inside_true, inside_is}
 use Rattle.content.proofs.Rests.{from_behind}
 use Rattle.content.proofs.Joins.{JoinGoing, going, not_nothing, Splitting, splitting, split_not_nothing}
@@ -40,7 +40,7 @@ handed_nothing s (whole a m u) e = let z : ◌≡◌ {A = ℕ} 0 1 = cc in absur
 handed_nothing s (split bs u) e = let z : ◌≡◌ {A = ℕ} 0 1 = cc in absurd (omega arith)
 handed_nothing s nothing e = refl
 
-handed_whole : (s : List ℕ) (start n : ℕ) (v : Walk) (x : Record) → measured_by x ≡ Whole start n v
+handed_whole : (s : List ℕ) (start n : ℕ) (v : Walk) (x : Record) → measured_by x ≡ Some (Whole start n v)
     → handed s x ≡ ends (part start n s) v
 unfolding measured_by handed
 handed_whole s start n v (whole a m u) e =
@@ -51,7 +51,7 @@ handed_whole s start n v (whole a m u) e =
 handed_whole s start n v (split bs u) e = let z : ◌≡◌ {A = ℕ} 0 1 = cc in absurd (omega arith)
 handed_whole s start n v nothing e = let z : ◌≡◌ {A = ℕ} 0 1 = cc in absurd (omega arith)
 
-handed_split : (s : List ℕ) (n : ℕ) (v : Walk) (x : Record) → measured_by x ≡ Split n v
+handed_split : (s : List ℕ) (n : ℕ) (v : Walk) (x : Record) → measured_by x ≡ Some (Split n v)
     → (handed s x ≡ ends (record_bytes x) v) × (length (record_bytes x) ≡ n)
 unfolding measured_by handed record_bytes
 handed_split s n v (whole a m u) e = let z : ◌≡◌ {A = ℕ} 0 1 = cc in absurd (omega arith)
@@ -62,44 +62,44 @@ handed_split s n v (split bs u) e =
 handed_split s n v nothing e = let z : ◌≡◌ {A = ℕ} 0 1 = cc in absurd (omega arith)
 
 -- by what `measure` says of it
-pub measured_nothing : (s : List ℕ) (w : Walk) (m : Measured) → m ≡ measured_by (record_at s w) → m ≡ None → records_at s w ≡ []
+pub measured_nothing : (s : List ℕ) (w : Walk) (m : Option Measured) → m ≡ measured_by (record_at s w) → m ≡ None → records_at s w ≡ []
 measured_nothing s w m e q = records_over s w (handed_nothing s (record_at s w) (sym e ∙ q))
 
 -- behind a whole record are the records of the walk behind it
-pub measured_whole : (s : List ℕ) (w : Walk) (start n : ℕ) (v : Walk) (m : Measured) → m ≡ measured_by (record_at s w)
-    → m ≡ Whole start n v
+pub measured_whole : (s : List ℕ) (w : Walk) (start n : ℕ) (v : Walk) (m : Option Measured) → m ≡ measured_by (record_at s w)
+    → m ≡ Some (Whole start n v)
     → records_at s w ≡ part start n s ∷ records_at s v
 measured_whole s w start n v m e q = records_more s w (part start n s) v (handed_whole s start n v (record_at s w) (sym e ∙ q))
 
 -- and so behind a split one
-pub measured_split : (s : List ℕ) (w : Walk) (n : ℕ) (v : Walk) (m : Measured) → m ≡ measured_by (record_at s w) → m ≡ Split n v
+pub measured_split : (s : List ℕ) (w : Walk) (n : ℕ) (v : Walk) (m : Option Measured) → m ≡ measured_by (record_at s w) → m ≡ Some (Split n v)
     → records_at s w ≡ record_bytes (record_at s w) ∷ records_at s v
 measured_split s w n v m e q = records_more s w (record_bytes (record_at s w)) v (handed_split s n v (record_at s w) (sym e ∙ q)).0
 
 -- without a record the walk ends where it stands
-pub measured_end_nothing : (s : List ℕ) (w : Walk) (m : Measured) → m ≡ measured_by (record_at s w) → m ≡ None
+pub measured_end_nothing : (s : List ℕ) (w : Walk) (m : Option Measured) → m ≡ measured_by (record_at s w) → m ≡ None
     → end_of s w ≡ w.at + w.left
 measured_end_nothing s w m e q = end_over s w (handed_nothing s (record_at s w) (sym e ∙ q))
 
 -- a whole record leaves the end of the walk where it is
-pub measured_end_whole : (s : List ℕ) (w : Walk) (start n : ℕ) (v : Walk) (m : Measured) → m ≡ measured_by (record_at s w)
-    → m ≡ Whole start n v → end_of s w ≡ end_of s v
+pub measured_end_whole : (s : List ℕ) (w : Walk) (start n : ℕ) (v : Walk) (m : Option Measured) → m ≡ measured_by (record_at s w)
+    → m ≡ Some (Whole start n v) → end_of s w ≡ end_of s v
 measured_end_whole s w start n v m e q = end_more s w (part start n s) v (handed_whole s start n v (record_at s w) (sym e ∙ q))
 
 -- and so does a split one
-pub measured_end_split : (s : List ℕ) (w : Walk) (n : ℕ) (v : Walk) (m : Measured) → m ≡ measured_by (record_at s w) → m ≡ Split n v
+pub measured_end_split : (s : List ℕ) (w : Walk) (n : ℕ) (v : Walk) (m : Option Measured) → m ≡ measured_by (record_at s w) → m ≡ Some (Split n v)
     → end_of s w ≡ end_of s v
 measured_end_split s w n v m e q = end_more s w (record_bytes (record_at s w)) v (handed_split s n v (record_at s w) (sym e ∙ q)).0
 
 -- a split record is as long as it was measured
-pub split_long : (s : List ℕ) (w : Walk) (n : ℕ) (v : Walk) (m : Measured) → m ≡ measured_by (record_at s w) → m ≡ Split n v
+pub split_long : (s : List ℕ) (w : Walk) (n : ℕ) (v : Walk) (m : Option Measured) → m ≡ measured_by (record_at s w) → m ≡ Some (Split n v)
     → length (record_bytes (record_at s w)) ≡ n
 split_long s w n v m e q = (handed_split s n v (record_at s w) (sym e ∙ q)).1
 
 -- a whole record lies in the image
-abbrev IfWhole : (ℕ → ℕ → Type 0) → Measured → Type 0
-IfWhole P (Whole start n v) = P start n
-IfWhole P (Split n v) = zero ≡ zero
+abbrev IfWhole : (ℕ → ℕ → Type 0) → Option Measured → Type 0
+IfWhole P (Some (Whole start n v)) = P start n
+IfWhole P (Some (Split n v)) = zero ≡ zero
 IfWhole P None = zero ≡ zero
 
 abbrev Within : List ℕ → Record → Type 0
@@ -110,15 +110,15 @@ unfolding split_by measured_by
 split_within s bs (ends cs v) = refl
 split_within s bs fails = refl
 
-begun_within : (s : List ℕ) (w : Walk) (t : Taken) → Inside s w → unit_from s w ≡ t → Within s (begun_by s w.record_length t)
+begun_within : (s : List ℕ) (w : Walk) (t : Option Taken) → Inside s w → unit_from s w ≡ t → Within s (begun_by s w.record_length t)
 unfolding begun_by measured_by
-begun_within s w (One i start n v) h e =
-    if_case (Within s) (leb n w.record_length) _ nothing
-    (λ _. if_case (Within s) (eqb i 0) (whole start n v) _ (λ _. (from_behind s w i start n v h e).within)
-    (λ _. if_case (Within s) (eqb i 1) (split_by (part start n s) (rest_at s (w.record_length - n) v)) nothing
-    (λ _. split_within s (part start n s) (rest_at s (w.record_length - n) v)) (λ _. refl)))
+begun_within s w (Some u) h e =
+    if_case (Within s) (leb u.len w.record_length) _ nothing
+    (λ _. if_case (Within s) (eqb u.indicator 0) (whole u.start u.len u.behind) _ (λ _. (from_behind s w u.indicator u.start u.len u.behind h e).within)
+    (λ _. if_case (Within s) (eqb u.indicator 1) (split_by (part u.start u.len s) (rest_at s (w.record_length - u.len) u.behind)) nothing
+    (λ _. split_within s (part u.start u.len s) (rest_at s (w.record_length - u.len) u.behind)) (λ _. refl)))
     (λ _. refl)
-begun_within s w Nothing h e = refl
+begun_within s w None h e = refl
 
 record_within : (s : List ℕ) (w : Walk) → Within s (record_at s w)
 unfolding record_at measured_by
@@ -128,54 +128,54 @@ record_within s w =
     (λ a. begun_within s w (unit_from s w) (inside_true s w true (sym a) refl) refl) (λ _. refl))
 
 -- a whole record lies inside the image
-pub whole_within : (s : List ℕ) (w : Walk) (start n : ℕ) (v : Walk) (m : Measured) → m ≡ measured_by (record_at s w)
-    → m ≡ Whole start n v → start + n ≤ length s
+pub whole_within : (s : List ℕ) (w : Walk) (start n : ℕ) (v : Walk) (m : Option Measured) → m ≡ measured_by (record_at s w)
+    → m ≡ Some (Whole start n v) → start + n ≤ length s
 whole_within s w start n v m e q = subst (IfWhole (λ a k. a + k ≤ length s)) (sym e ∙ q) (record_within s w)
 
 -- ---- a split record, segment by segment
 
-first_is : (s : List ℕ) (w : Walk) (i start n : ℕ) (v : Walk) → first_segment s w ≡ One i start n v
-    → unit_from s w ≡ One i start n v
+first_is : (s : List ℕ) (w : Walk) (one : Taken) → first_segment s w ≡ Some one
+    → unit_from s w ≡ Some one
 unfolding first_segment
-first_is s w i start n v =
-    if_case (λ (t : Taken). t ≡ One i start n v → unit_from s w ≡ One i start n v) (is_inside s w) (unit_from s w) Nothing (λ _ e. e)
+first_is s w one =
+    if_case (λ (t : Option Taken). t ≡ Some one → unit_from s w ≡ Some one) (is_inside s w) (unit_from s w) None (λ _ e. e)
     (λ _ e. let z : ◌≡◌ {A = ℕ} 0 1 = cc in absurd (omega arith))
 
-next_is : (s : List ℕ) (w : Walk) (i start n : ℕ) (v : Walk) → next_segment s w ≡ One i start n v → unit_next s w ≡ One i start n v
+next_is : (s : List ℕ) (w : Walk) (one : Taken) → next_segment s w ≡ Some one → unit_next s w ≡ Some one
 unfolding next_segment
-next_is s w i start n v =
-    if_case (λ (t : Taken). t ≡ One i start n v → unit_next s w ≡ One i start n v) (is_inside s w) (unit_next s w) Nothing (λ _ e. e)
+next_is s w one =
+    if_case (λ (t : Option Taken). t ≡ Some one → unit_next s w ≡ Some one) (is_inside s w) (unit_next s w) None (λ _ e. e)
     (λ _ e. let z : ◌≡◌ {A = ℕ} 0 1 = cc in absurd (omega arith))
 
 -- the first segment of a split record, and the rest behind it
-pub first_split : (s : List ℕ) (w : Walk) (k : ℕ) (u : Walk) (m : Measured) (i start n : ℕ) (v : Walk) (t : Taken)
-    → m ≡ measured_by (record_at s w) → m ≡ Split k u
-    → t ≡ first_segment s w → t ≡ One i start n v → Splitting s w start n v
-first_split s w k u m i start n v t e q f h =
-    splitting s w k i start n v (unit_from s w) (split_stands s w k u m k e q (omega arith)) refl
-    (first_is s w i start n v (sym f ∙ h))
+pub first_split : (s : List ℕ) (w : Walk) (k : ℕ) (u : Walk) (m : Option Measured) (one : Taken) (t : Option Taken)
+    → m ≡ measured_by (record_at s w) → m ≡ Some (Split k u)
+    → t ≡ first_segment s w → t ≡ Some one → Splitting s w one.start one.len one.behind
+first_split s w k u m one t e q f h =
+    splitting s w k one (unit_from s w) (split_stands s w k u m k e q (omega arith)) refl
+    (first_is s w one (sym f ∙ h))
 
 -- a further segment, where a record goes on behind w and ends
-pub next_going : (s : List ℕ) (w : Walk) (i start n : ℕ) (v : Walk) (t : Taken) → Inside s w
+pub next_going : (s : List ℕ) (w : Walk) (one : Taken) (t : Option Taken) → Inside s w
     → is_ended (rest_at s w.record_length w) ≡ true → t ≡ next_segment s w
-    → t ≡ One i start n v → JoinGoing s w i start n v
-next_going s w i start n v t h e f q =
-    going s w 0 (length (bytes_behind s w)) i start n v (unit_next s w) (record { inside = h; ended = e; fits = omega arith }) refl
-    (next_is s w i start n v (sym f ∙ q))
+    → t ≡ Some one → JoinGoing s w one.indicator one.start one.len one.behind
+next_going s w one t h e f q =
+    going s w 0 (length (bytes_behind s w)) one (unit_next s w) (record { inside = h; ended = e; fits = omega arith }) refl
+    (next_is s w one (sym f ∙ q))
 
 -- there is such a segment
-pub first_some : (s : List ℕ) (w : Walk) (k : ℕ) (u : Walk) (m : Measured) (t : Taken) → m ≡ measured_by (record_at s w)
-    → m ≡ Split k u → t ≡ first_segment s w
-    → t ≡ Nothing → ⊥
+pub first_some : (s : List ℕ) (w : Walk) (k : ℕ) (u : Walk) (m : Option Measured) (t : Option Taken) → m ≡ measured_by (record_at s w)
+    → m ≡ Some (Split k u) → t ≡ first_segment s w
+    → t ≡ None → ⊥
 unfolding first_segment
 first_some s w k u m t e q f h =
     let c = split_stands s w k u m k e q (omega arith) in
     split_not_nothing s w k (unit_from s w) c refl (sym (if_true _ _ _ (inside_is s w c.inside)) ∙ sym f ∙ h)
 
 -- a record that goes on to its end has a next segment
-pub next_some : (s : List ℕ) (w : Walk) (t : Taken) → Inside s w → is_ended (rest_at s w.record_length w) ≡ true
+pub next_some : (s : List ℕ) (w : Walk) (t : Option Taken) → Inside s w → is_ended (rest_at s w.record_length w) ≡ true
     → t ≡ next_segment s w
-    → t ≡ Nothing → ⊥
+    → t ≡ None → ⊥
 unfolding next_segment
 next_some s w t h e f q =
     not_nothing s w 0 (length (bytes_behind s w)) (unit_next s w) (record { inside = h; ended = e; fits = omega arith }) refl
@@ -206,24 +206,24 @@ counting_more s from records bytes w r n v c e l =
       total = omega (arith, c.total, ap (λ (ts : List (List ℕ)). sum (map length ts)) rs, l);
     }
 
-pub counting_whole : (s : List ℕ) (from : Walk) (records bytes : ℕ) (w : Walk) (start n : ℕ) (v : Walk) (m : Measured)
+pub counting_whole : (s : List ℕ) (from : Walk) (records bytes : ℕ) (w : Walk) (start n : ℕ) (v : Walk) (m : Option Measured) (x : Measured)
     → Counting s from records bytes w
-    → m ≡ measured_by (record_at s w) → m ≡ Whole start n v → Counting s from (records + 1) (bytes + n) v
-counting_whole s from records bytes w start n v m c e q =
-    counting_more s from records bytes w (part start n s) n v c (handed_whole s start n v (record_at s w) (sym e ∙ q))
-    (length_part start n s (whole_within s w start n v m e q))
+    → m ≡ measured_by (record_at s w) → m ≡ Some x → x ≡ Whole start n v → Counting s from (records + 1) (bytes + n) v
+counting_whole s from records bytes w start n v m x c e q z =
+    counting_more s from records bytes w (part start n s) n v c (handed_whole s start n v (record_at s w) (sym e ∙ q ∙ ap Some z))
+    (length_part start n s (whole_within s w start n v m e (q ∙ ap Some z)))
 
-pub counting_split : (s : List ℕ) (from : Walk) (records bytes : ℕ) (w : Walk) (n : ℕ) (v : Walk) (m : Measured)
+pub counting_split : (s : List ℕ) (from : Walk) (records bytes : ℕ) (w : Walk) (n : ℕ) (v : Walk) (m : Option Measured) (x : Measured)
     → Counting s from records bytes w
-    → m ≡ measured_by (record_at s w) → m ≡ Split n v → Counting s from (records + 1) (bytes + n) v
-counting_split s from records bytes w n v m c e q =
-    let both = handed_split s n v (record_at s w) (sym e ∙ q) in
+    → m ≡ measured_by (record_at s w) → m ≡ Some x → x ≡ Split n v → Counting s from (records + 1) (bytes + n) v
+counting_split s from records bytes w n v m x c e q z =
+    let both = handed_split s n v (record_at s w) (sym e ∙ q ∙ ap Some z) in
     counting_more s from records bytes w (record_bytes (record_at s w)) n v c both.0 both.1
 
 facts_same : (x y : Facts) → x.records ≡ y.records → x.bytes ≡ y.bytes → x ≡ y
 facts_same x y a b = λ i. record { records = a i; bytes = b i }
 
-pub counted_all : (s : List ℕ) (from : Walk) (records bytes : ℕ) (w : Walk) (m : Measured) → Counting s from records bytes w
+pub counted_all : (s : List ℕ) (from : Walk) (records bytes : ℕ) (w : Walk) (m : Option Measured) → Counting s from records bytes w
     → m ≡ measured_by (record_at s w) → m ≡ None
     → ◌≡◌ {A = Facts} (record { records = records; bytes = bytes }) (facts_of (records_at s from))
 unfolding facts_of sum
@@ -251,51 +251,51 @@ further s from records bytes w r n v c e l =
       falls = omega (arith, p.onward, p.inside);
     }
 
-further_whole : (s : List ℕ) (from : Walk) (records bytes : ℕ) (w : Walk) (start n : ℕ) (v : Walk) (m : Measured)
+further_whole : (s : List ℕ) (from : Walk) (records bytes : ℕ) (w : Walk) (start n : ℕ) (v : Walk) (m : Option Measured) (x : Measured)
     → Counting s from records bytes w
-    → m ≡ measured_by (record_at s w) → m ≡ Whole start n v → Further s records bytes w n v
-further_whole s from records bytes w start n v m c e q =
-    further s from records bytes w (part start n s) n v c (handed_whole s start n v (record_at s w) (sym e ∙ q))
-    (length_part start n s (whole_within s w start n v m e q))
+    → m ≡ measured_by (record_at s w) → m ≡ Some x → x ≡ Whole start n v → Further s records bytes w n v
+further_whole s from records bytes w start n v m x c e q z =
+    further s from records bytes w (part start n s) n v c (handed_whole s start n v (record_at s w) (sym e ∙ q ∙ ap Some z))
+    (length_part start n s (whole_within s w start n v m e (q ∙ ap Some z)))
 
-further_split : (s : List ℕ) (from : Walk) (records bytes : ℕ) (w : Walk) (n : ℕ) (v : Walk) (m : Measured)
+further_split : (s : List ℕ) (from : Walk) (records bytes : ℕ) (w : Walk) (n : ℕ) (v : Walk) (m : Option Measured) (x : Measured)
     → Counting s from records bytes w
-    → m ≡ measured_by (record_at s w) → m ≡ Split n v → Further s records bytes w n v
-further_split s from records bytes w n v m c e q =
-    let both = handed_split s n v (record_at s w) (sym e ∙ q) in
+    → m ≡ measured_by (record_at s w) → m ≡ Some x → x ≡ Split n v → Further s records bytes w n v
+further_split s from records bytes w n v m x c e q z =
+    let both = handed_split s n v (record_at s w) (sym e ∙ q ∙ ap Some z) in
     further s from records bytes w (record_bytes (record_at s w)) n v c both.0 both.1
 
-pub whole_number : (s : List ℕ) (from : Walk) (records bytes : ℕ) (w : Walk) (start n : ℕ) (v : Walk) (m : Measured)
+pub whole_number : (s : List ℕ) (from : Walk) (records bytes : ℕ) (w : Walk) (start n : ℕ) (v : Walk) (m : Option Measured) (x : Measured)
     → Counting s from records bytes w
-    → m ≡ measured_by (record_at s w) → m ≡ Whole start n v → length s < 18446744073709551616 → Fits w64 (records + 1)
-whole_number s from records bytes w start n v m c e q h =
-    omega (arith, (further_whole s from records bytes w start n v m c e q).number)
+    → m ≡ measured_by (record_at s w) → m ≡ Some x → x ≡ Whole start n v → length s < 18446744073709551616 → Fits w64 (records + 1)
+whole_number s from records bytes w start n v m x c e q z h =
+    omega (arith, (further_whole s from records bytes w start n v m x c e q z).number)
 
-pub split_number : (s : List ℕ) (from : Walk) (records bytes : ℕ) (w : Walk) (n : ℕ) (v : Walk) (m : Measured)
+pub split_number : (s : List ℕ) (from : Walk) (records bytes : ℕ) (w : Walk) (n : ℕ) (v : Walk) (m : Option Measured) (x : Measured)
     → Counting s from records bytes w
-    → m ≡ measured_by (record_at s w) → m ≡ Split n v → length s < 18446744073709551616 → Fits w64 (records + 1)
-split_number s from records bytes w n v m c e q h = omega (arith, (further_split s from records bytes w n v m c e q).number)
+    → m ≡ measured_by (record_at s w) → m ≡ Some x → x ≡ Split n v → length s < 18446744073709551616 → Fits w64 (records + 1)
+split_number s from records bytes w n v m x c e q z h = omega (arith, (further_split s from records bytes w n v m x c e q z).number)
 
-pub whole_total : (s : List ℕ) (from : Walk) (records bytes : ℕ) (w : Walk) (start n : ℕ) (v : Walk) (m : Measured)
+pub whole_total : (s : List ℕ) (from : Walk) (records bytes : ℕ) (w : Walk) (start n : ℕ) (v : Walk) (m : Option Measured) (x : Measured)
     → Counting s from records bytes w
-    → m ≡ measured_by (record_at s w) → m ≡ Whole start n v → length s < 18446744073709551616 → Fits w64 (bytes + n)
-whole_total s from records bytes w start n v m c e q h =
-    omega (arith, (further_whole s from records bytes w start n v m c e q).total)
+    → m ≡ measured_by (record_at s w) → m ≡ Some x → x ≡ Whole start n v → length s < 18446744073709551616 → Fits w64 (bytes + n)
+whole_total s from records bytes w start n v m x c e q z h =
+    omega (arith, (further_whole s from records bytes w start n v m x c e q z).total)
 
-pub split_total : (s : List ℕ) (from : Walk) (records bytes : ℕ) (w : Walk) (n : ℕ) (v : Walk) (m : Measured)
+pub split_total : (s : List ℕ) (from : Walk) (records bytes : ℕ) (w : Walk) (n : ℕ) (v : Walk) (m : Option Measured) (x : Measured)
     → Counting s from records bytes w
-    → m ≡ measured_by (record_at s w) → m ≡ Split n v → length s < 18446744073709551616 → Fits w64 (bytes + n)
-split_total s from records bytes w n v m c e q h = omega (arith, (further_split s from records bytes w n v m c e q).total)
+    → m ≡ measured_by (record_at s w) → m ≡ Some x → x ≡ Split n v → length s < 18446744073709551616 → Fits w64 (bytes + n)
+split_total s from records bytes w n v m x c e q z h = omega (arith, (further_split s from records bytes w n v m x c e q z).total)
 
-pub whole_falls : (s : List ℕ) (from : Walk) (records bytes : ℕ) (w : Walk) (start n : ℕ) (v : Walk) (m : Measured)
+pub whole_falls : (s : List ℕ) (from : Walk) (records bytes : ℕ) (w : Walk) (start n : ℕ) (v : Walk) (m : Option Measured) (x : Measured)
     → Counting s from records bytes w
-    → m ≡ measured_by (record_at s w) → m ≡ Whole start n v → length s - v.at < length s - w.at
-whole_falls s from records bytes w start n v m c e q = (further_whole s from records bytes w start n v m c e q).falls
+    → m ≡ measured_by (record_at s w) → m ≡ Some x → x ≡ Whole start n v → length s - v.at < length s - w.at
+whole_falls s from records bytes w start n v m x c e q z = (further_whole s from records bytes w start n v m x c e q z).falls
 
-pub split_falls : (s : List ℕ) (from : Walk) (records bytes : ℕ) (w : Walk) (n : ℕ) (v : Walk) (m : Measured)
+pub split_falls : (s : List ℕ) (from : Walk) (records bytes : ℕ) (w : Walk) (n : ℕ) (v : Walk) (m : Option Measured) (x : Measured)
     → Counting s from records bytes w
-    → m ≡ measured_by (record_at s w) → m ≡ Split n v → length s - v.at < length s - w.at
-split_falls s from records bytes w n v m c e q = (further_split s from records bytes w n v m c e q).falls
+    → m ≡ measured_by (record_at s w) → m ≡ Some x → x ≡ Split n v → length s - v.at < length s - w.at
+split_falls s from records bytes w n v m x c e q z = (further_split s from records bytes w n v m x c e q z).falls
 
 pub ruleset counts =
     (counting_none, counting_whole, counting_split, counted_all, whole_number, split_number, whole_total, split_total, whole_falls, split_falls, rules)

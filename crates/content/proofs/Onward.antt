@@ -1,9 +1,9 @@
 -- The records from a place inside a block on, with none open: what is handed out behind the block is carried backwards over its
 -- segments. Assumes nothing.
+use Rattle.std.specs.Prelude.{Some, Option, None}
 use mathlib.Core.Path.{◌≡◌, refl, sym, ap, ◌∙◌, subst}
 use mathlib.Core.Bool.{Bool, true, false}
 use mathlib.Core.List.{List, [], ◌∷◌, ◌++◌}
-use mathlib.Core.Option.{some}
 use Prim.Native.Nat.{ℕ, zero, suc, ◌+◌, ◌-◌, ◌≤◌}
 use native.Mathlib.Omega.{arith}
 use borrow.Author.Tests.{le-leb, eq-eqb, ne_eqb, eqb-true, eqb-false}
@@ -16,25 +16,21 @@ use Rattle.base.specs.Part.{part, all_are}
 use Rattle.base.proofs.Parts.{length_part, part_part, drop_take}
 use Rattle.image.specs.Item.{decode}
 use Rattle.order.specs.declared.Phase.TheVariants.{Data}
-use Rattle.block.specs.Unit.{unit_of, pad}
+use Rattle.block.specs.Unit.{unit_of, pad, one_unit}
 use Rattle.block.specs.Cut.{Segment, segment_of, cut}
 use Rattle.block.specs.Turn.{outcome, is_turn, open_after, turns_from}
 use Rattle.block.specs.declared.Unit.{Unit}
-use Rattle.block.specs.declared.Unit.TheVariants.{Of, None}
 use Rattle.block.specs.declared.Outcome.{Outcome}
 use Rattle.block.proofs.Units.{unit_stands}
 use Rattle.volume.specs.Meaning.{on_first, joined}
 use Rattle.reading.proofs.Assembled.{InTurn, starts, follows, in_turn}
 use Rattle.content.specs.Section.{data_from}
-use Rattle.content.specs.Walk.{moved, left_of, taken, unit_here, opened, block_next, unit_in, unit_next, or_next, unit_from, Rest, ends, fails, rest_by, rest_at, Record, split_by, begun_by, record_at}
+use Rattle.content.specs.Walk.{moved, left_of, taken, unit_here, opened, block_next, unit_in, unit_next, or_next, unit_from, Rest, ends, fails, rest_by, rest_at, Record, split_by, begun_by, record_at, taken_at}
 use Rattle.content.specs.Code.Heads.{Inside}
 use Rattle.content.specs.Walked.{handed, Walks}
 use Rattle.content.specs.declared.Walk.{Walk}
 use Rattle.content.specs.declared.section.Extent.{Extent}
-use Rattle.content.specs.declared.section.Extent.TheVariants.{At as Block, Nowhere}
-use Rattle.content.specs.declared.unit.Place.TheVariants.{At, Nowhere as Off}
 use Rattle.content.specs.declared.unit.Taken.{Taken}
-use Rattle.content.specs.declared.unit.Taken.TheVariants.{One}
 use Rattle.content.proofs.Units.{unit_at, inside_true, inside_is}
 use Rattle.content.proofs.Rests.{rest_at_lem}
 use Rattle.content.proofs.Measures.{Readable, record_begun}
@@ -53,7 +49,7 @@ RestIs s x [] = ⊥
 RestIs s x (r ∷ rs) = (v : Walk) × (x ≡ ends r v) × Walks s v rs
 
 -- with the unit t next, in a file of record length r, and q open: 0, or one more than the bytes of the open record
-abbrev pub Hands : List ℕ → ℕ → ℕ → Taken → List (List ℕ) → Type 0
+abbrev pub Hands : List ℕ → ℕ → ℕ → Option Taken → List (List ℕ) → Type 0
 Hands s r zero t rs = Gives s (handed s (begun_by s r t)) rs
 Hands s r (suc k) t rs = RestIs s (rest_by s (r - k) t (λ m v. rest_at s m v)) rs
 
@@ -74,7 +70,7 @@ good_in : (s : List ℕ) (w : Walk) → Readable s w → Inside s w
 good_in s w g = inside_true s w true (sym g.inside) refl
 
 pub good_behind : (s : List ℕ) (v : Walk) (i c n : ℕ) → Readable s v
-    → unit_of v.format v.record_length (left_of s v) ≡ Of i c n
+    → unit_of v.format v.record_length (left_of s v) ≡ one_unit i c n
     → Readable s (behind v c n)
 good_behind s v i c n g e =
     let k = unit_at s v i c n e in
@@ -91,16 +87,16 @@ left_behind s v c n =
     ∙ ap (take (v.left - (c + n))) (drop-drop (c + n) v.at s ∙ ap (λ (k : ℕ). drop k s) sum))
 
 -- the first unit behind the block
-abbrev pub next_of : List ℕ → Walk → Taken
+abbrev pub next_of : List ℕ → Walk → Option Taken
 next_of s v = unit_in s (opened v (data_from Data (v.at + v.left) (decode (drop (v.at + v.left) s))))
 
-pub opened_lengths : (v w : Walk) (e : Extent) → v.format ≡ w.format → v.record_length ≡ w.record_length
+pub opened_lengths : (v w : Walk) (e : Option Extent) → v.format ≡ w.format → v.record_length ≡ w.record_length
     → v.offset ≡ w.offset
     → opened v e ≡ opened w e
 unfolding opened
-opened_lengths v w (Block start n) f r o =
-    λ i. if_b (leb (o i) n) (At (record { format = f i; record_length = r i; offset = o i; at = start + o i; left = n - o i })) Off
-opened_lengths v w Nowhere f r o = refl
+opened_lengths v w (Some u) f r o =
+    λ i. if_b (leb (o i) u.len) (Some (record { format = f i; record_length = r i; offset = o i; at = u.start + o i; left = u.len - o i })) None
+opened_lengths v w None f r o = refl
 
 pub next_behind : (s : List ℕ) (v : Walk) (c n : ℕ) → c + n ≤ v.left → next_of s (behind v c n) ≡ next_of s v
 next_behind s v c n h =
@@ -115,12 +111,12 @@ next_padding s v h = ap (unit_in s) (if_true _ _ _ h)
 
 -- the record at a place where a unit stands, and where none does
 pub record_one : (s : List ℕ) (v : Walk) (i c n : ℕ) → Readable s v
-    → unit_of v.format v.record_length (left_of s v) ≡ Of i c n
-    → record_at s v ≡ begun_by s v.record_length (One i (v.at + c) n (behind v c n))
+    → unit_of v.format v.record_length (left_of s v) ≡ one_unit i c n
+    → record_at s v ≡ begun_by s v.record_length (taken_at i (v.at + c) n (behind v c n))
 unfolding unit_from unit_here or_next taken
 record_one s v i c n g e =
     record_begun s v (unit_from s v) g refl
-    ∙ ap (λ (u : Unit). begun_by s v.record_length (or_next (taken v u) (unit_next s v))) e
+    ∙ ap (λ (u : Option Unit). begun_by s v.record_length (or_next (taken v u) (unit_next s v))) e
 
 pub record_next : (s : List ℕ) (v : Walk) → Readable s v → unit_of v.format v.record_length (left_of s v) ≡ None
     → all_are pad (left_of s v) ≡ true
@@ -128,24 +124,24 @@ pub record_next : (s : List ℕ) (v : Walk) → Readable s v → unit_of v.forma
 unfolding unit_from unit_here or_next taken
 record_next s v g e h =
     record_begun s v (unit_from s v) g refl
-    ∙ ap (λ (u : Unit). begun_by s v.record_length (or_next (taken v u) (unit_next s v))) e
+    ∙ ap (λ (u : Option Unit). begun_by s v.record_length (or_next (taken v u) (unit_next s v))) e
     ∙ ap (begun_by s v.record_length) (next_padding s v h)
 
 -- ---- records from a place inside a block on, with none open
 
 -- the bytes of a unit, in the image and in what is left of the block
-pub unit_bytes : (s : List ℕ) (v : Walk) (i c n : ℕ) → unit_of v.format v.record_length (left_of s v) ≡ Of i c n
+pub unit_bytes : (s : List ℕ) (v : Walk) (i c n : ℕ) → unit_of v.format v.record_length (left_of s v) ≡ one_unit i c n
     → part (v.at + c) n s ≡ part c n (left_of s v)
 unfolding left_of
 unit_bytes s v i c n e = sym (part_part v.at c n v.left s (unit_at s v i c n e).left)
 
-pub unit_long : (s : List ℕ) (v : Walk) (i c n : ℕ) → unit_of v.format v.record_length (left_of s v) ≡ Of i c n
+pub unit_long : (s : List ℕ) (v : Walk) (i c n : ℕ) → unit_of v.format v.record_length (left_of s v) ≡ one_unit i c n
     → length (part c n (left_of s v)) ≡ n
 unit_long s v i c n e = length_part c n (left_of s v) (unit_stands v.format v.record_length (left_of s v) i c n e).within
 
 -- a whole record, and those behind it
 whole_walks : (s : List ℕ) (v : Walk) (i c n : ℕ) (rs : List (List ℕ)) → Readable s v
-    → unit_of v.format v.record_length (left_of s v) ≡ Of i c n → i ≡ 0 → n ≤ v.record_length
+    → unit_of v.format v.record_length (left_of s v) ≡ one_unit i c n → i ≡ 0 → n ≤ v.record_length
     → Walks s (behind v c n) rs → Walks s v (part c n (left_of s v) ∷ rs)
 unfolding begun_by handed
 whole_walks s v i c n rs g e z m h = (
@@ -160,18 +156,18 @@ unfolding handed split_by
 handed_split s bs cs x v e = ap (λ (y : Rest). handed s (split_by bs y)) e
 
 -- behind a segment that leaves a record open, the next unit is that of the next block
-pub rest_next : (s : List ℕ) (v : Walk) (i c n room : ℕ) → unit_of v.format v.record_length (left_of s v) ≡ Of i c n
+pub rest_next : (s : List ℕ) (v : Walk) (i c n room : ℕ) → unit_of v.format v.record_length (left_of s v) ≡ one_unit i c n
     → CutEnd v.format v.record_length (drop (c + n) (left_of s v))
     → rest_at s room (behind v c n) ≡ rest_by s room (next_of s v) (λ m u. rest_at s m u)
 rest_next s v i c n room e k =
     rest_at_lem s room (behind v c n)
-    ∙ ap (λ (t : Taken). rest_by s room t (λ m u. rest_at s m u))
+    ∙ ap (λ (t : Option Taken). rest_by s room t (λ m u. rest_at s m u))
     (next_padding s (behind v c n) (ap (all_are pad) (left_behind s v c n) ∙ k.padding)
     ∙ next_behind s v c n (unit_at s v i c n e).left)
 
 -- a record that begins, and goes on in the next block
 split_walks : (s : List ℕ) (v : Walk) (i c n : ℕ) (rs : List (List ℕ)) → Readable s v
-    → unit_of v.format v.record_length (left_of s v) ≡ Of i c n → i ≡ 1 → n ≤ v.record_length
+    → unit_of v.format v.record_length (left_of s v) ≡ one_unit i c n → i ≡ 1 → n ≤ v.record_length
     → CutEnd v.format v.record_length (drop (c + n) (left_of s v)) → Hands s v.record_length (suc n) (next_of s v) rs
     → Walks s v (on_first (part c n (left_of s v)) rs)
 unfolding begun_by on_first
@@ -188,14 +184,14 @@ split_walks s v i c n (r ∷ rs) g e z m k (u, q, h) = (
 )
 
 -- what is handed out from the segments xs on, of which the first stands where v does, with none open and t next behind the block
-abbrev pub Handing : List ℕ → Walk → ℕ → Bool → List Segment → Taken → List Segment → Type 0
+abbrev pub Handing : List ℕ → Walk → ℕ → Bool → List Segment → Option Taken → List Segment → Type 0
 Handing s v o head xs t ys =
     (turns_from v.record_length o head xs).number ≡ 0 → Hands s v.record_length (turns_from v.record_length o head xs).pending t (joined ys)
     → Walks s v (joined (xs ++ ys))
 
 -- behind a whole record
 after_whole : (s : List ℕ) (v : Walk) (i c n o : ℕ) (xs ys : List Segment) → Readable s v
-    → unit_of v.format v.record_length (left_of s v) ≡ Of i c n → i ≡ 0 → n ≤ v.record_length
+    → unit_of v.format v.record_length (left_of s v) ≡ one_unit i c n → i ≡ 0 → n ≤ v.record_length
     → Handing s (behind v c n) 0 false xs (next_of s v) ys → o ≡ 0 → (turns_from v.record_length o false xs).number ≡ 0
     → Hands s v.record_length (turns_from v.record_length o false xs).pending (next_of s v) (joined ys)
     → Walks s v (joined (segment_of i (part c n (left_of s v)) ∷ (xs ++ ys)))
@@ -207,14 +203,14 @@ after_whole s v i c n o xs ys g e z m again w h k =
 
 -- behind a segment that begins a record
 after_one : (s : List ℕ) (v : Walk) (i c n o : ℕ) (xs ys : List Segment) → Readable s v
-    → unit_of v.format v.record_length (left_of s v) ≡ Of i c n → i ≡ 1 → n ≤ v.record_length
-    → cut v.format v.record_length (drop (c + n) (left_of s v)) ≡ some xs → o ≡ suc n
+    → unit_of v.format v.record_length (left_of s v) ≡ one_unit i c n → i ≡ 1 → n ≤ v.record_length
+    → cut v.format v.record_length (drop (c + n) (left_of s v)) ≡ Some xs → o ≡ suc n
     → (turns_from v.record_length o false xs).number ≡ 0
     → Hands s v.record_length (turns_from v.record_length o false xs).pending (next_of s v) (joined ys)
     → Walks s v (joined (segment_of i (part c n (left_of s v)) ∷ (xs ++ ys)))
 after_one s v i c n o xs ys g e z m rest w h k =
     let shut = turns_shut v.record_length n xs (subst (λ (j : ℕ). (turns_from v.record_length j false xs).number ≡ 0) w h) in
-    let over : CutEnd v.format v.record_length (drop (c + n) (left_of s v)) = cut_over _ _ _ (rest ∙ ap some shut.0) in
+    let over : CutEnd v.format v.record_length (drop (c + n) (left_of s v)) = cut_over _ _ _ (rest ∙ ap Some shut.0) in
     subst (Walks s v)
     (sym (joined_one (segment_of i (part c n (left_of s v))) (xs ++ ys) z
     ∙ ap (λ (l : List Segment). on_first (part c n (left_of s v)) (joined (l ++ ys))) shut.0))
@@ -224,8 +220,8 @@ after_one s v i c n o xs ys g e z m rest w h k =
 
 -- a segment before others, with none open
 segment_walks : (s : List ℕ) (v : Walk) (i c n : ℕ) (head : Bool) (xs ys : List Segment) → Readable s v
-    → unit_of v.format v.record_length (left_of s v) ≡ Of i c n
-    → cut v.format v.record_length (drop (c + n) (left_of s v)) ≡ some xs
+    → unit_of v.format v.record_length (left_of s v) ≡ one_unit i c n
+    → cut v.format v.record_length (drop (c + n) (left_of s v)) ≡ Some xs
     → Handing s (behind v c n) 0 false xs (next_of s v) ys
     → Handing s v 0 head (segment_of i (part c n (left_of s v)) ∷ xs) (next_of s v) ys
 unfolding turns_from outcome
@@ -262,7 +258,7 @@ segment_walks s v i c n head xs ys g e rest again =
 
 -- all that is left of a block
 pub rest_walks : (s : List ℕ) (xs : List Segment) (v : Walk) (head : Bool) (ys : List Segment) → Readable s v
-    → cut v.format v.record_length (left_of s v) ≡ some xs
+    → cut v.format v.record_length (left_of s v) ≡ Some xs
     → Handing s v 0 head xs (next_of s v) ys
 unfolding turns_from outcome
 rest_walks s [] v head ys g h = λ _ k.
@@ -275,7 +271,7 @@ rest_walks s (x ∷ xs) v head ys g h =
     let rest = k.rest in
     subst (λ (y : Segment). Handing s v 0 head (y ∷ xs) (next_of s v) ys) k.is
     (segment_walks s v k.i k.c k.n head xs ys g here rest
-    (subst (λ (t : Taken). Handing s (behind v k.c k.n) 0 false xs t ys)
+    (subst (λ (t : Option Taken). Handing s (behind v k.c k.n) 0 false xs t ys)
     (next_behind s v k.c k.n (unit_at s v k.i k.c k.n here).left)
     (rest_walks s xs (behind v k.c k.n) false ys (good_behind s v k.i k.c k.n g here)
     (ap (cut v.format v.record_length) (left_behind s v k.c k.n) ∙ rest))))

@@ -1,4 +1,6 @@
 -- Laws of the step at a record of two segments, which is joined without a loop. Assumes nothing.
+use Rattle.content.specs.declared.Found.TheVariants.{Joined}
+use Rattle.std.specs.Prelude.{Ok, Err}
 use mathlib.Core.Path.{◌≡◌, refl, sym, ap, ◌∙◌}
 use mathlib.Core.List.{List, ◌++◌}
 use Prim.Native.Nat.{ℕ, ◌+◌, ◌-◌, ◌≤◌, ◌<◌}
@@ -8,14 +10,11 @@ use mir.Syntax.{w64}
 use borrow.Author.Rules.{rules}
 use lib.ListN.{length, get_or}
 use Rattle.base.specs.Part.{part, put_at}
-use Rattle.content.specs.Walk.{moved, unit_next, rest_at, step_at, join_at}
+use Rattle.content.specs.Walk.{moved, unit_next, rest_at, step_at, join_at, taken_at}
 use Rattle.content.specs.Code.Heads.{turn_in, BegunAt, TwoAt}
 use Rattle.content.specs.Whole.{at_block, stands_at}
-use Rattle.content.specs.Code.Joining.{tail_by, rest_bytes, bytes_behind}
+use Rattle.content.specs.Code.Joining.{tail_by, rest_bytes, bytes_behind, tail}
 use Rattle.content.specs.declared.Walk.{Walk}
-use Rattle.content.specs.declared.Step.TheVariants.{Joined, Refused}
-use Rattle.content.specs.declared.unit.Taken.TheVariants.{One}
-use Rattle.content.specs.declared.measuring.Tail.TheVariants.{Ends}
 use Rattle.content.proofs.Measures.{rest_ends, segment_long}
 use Rattle.content.proofs.Segments.{SegmentAt, segment_stands, next_segment_lem, TurnAt, turns}
 use Rattle.content.proofs.Stepping.{begun_long, kept_begun, begun_joined, begun_within, begun_put, begun_word, begun_most, begun_left, begun_end, begun_start}
@@ -23,7 +22,7 @@ use Rattle.content.proofs.Stepping.{begun_long, kept_begun, begun_joined, begun_
 -- the second segment is the rest of the record
 record Closes (s : List ℕ) (v u h y : Walk) (k j : ℕ) : Type 0 where
   turn : TurnAt s (v.left - k) 51 (v.record_length - (k - 5)) (stands_at h.format 0 h.at h.left) j
-  tail : Ends (j - 5) y ≡ tail_by (rest_at s (v.record_length - (k - 5)) u)
+  tail : tail (j - 5) y ≡ tail_by (rest_at s (v.record_length - (k - 5)) u)
   bytes : bytes_behind s u ≡ part (h.at + 5) (j - 5) s
 
 closes : (s : List ℕ) (v h y : Walk) (k j : ℕ) → TwoAt s v k h j → y ≡ moved h (h.at + j) (h.left - j)
@@ -36,40 +35,40 @@ closes s v h y k j c p =
     let short = t.short in
     let three : get_or s h.at 0 - 48 ≡ 3 = omega arith in
     let most : j - 5 ≤ v.record_length = omega arith in
-    let unit : One 3 (h.at + 5) (j - 5) y ≡ unit_next s u
-    = ap (λ (i : ℕ). One i (h.at + 5) (j - 5) y) (sym three) ∙ next_segment_lem s u h y j c.head t.is c.some p in
-    let long : length (part (h.at + 5) (j - 5) s) ≡ j - 5 = segment_long s u 3 (h.at + 5) (j - 5) y _ unit refl in
+    let unit : taken_at 3 (h.at + 5) (j - 5) y ≡ unit_next s u
+    = ap (λ (i : ℕ). taken_at i (h.at + 5) (j - 5) y) (sym three) ∙ next_segment_lem s u h y j c.head t.is c.some p in
+    let long : length (part (h.at + 5) (j - 5) s) ≡ j - 5 = segment_long s u _ _ unit refl in
     record {
       turn = t;
-      tail = ap (λ (n : ℕ). Ends n y) (sym long)
-          ∙ ap tail_by (sym (rest_ends s (v.record_length - (k - 5)) u 3 (h.at + 5) (j - 5) y _ unit refl short refl));
-      bytes = ap rest_bytes (rest_ends s v.record_length u 3 (h.at + 5) (j - 5) y _ unit refl most refl);
+      tail = ap (λ (n : ℕ). tail n y) (sym long)
+          ∙ ap tail_by (sym (rest_ends s (v.record_length - (k - 5)) u _ _ unit refl short refl));
+      bytes = ap rest_bytes (rest_ends s v.record_length u _ _ unit refl most refl);
     }
 
 -- one that is longer than the buffer
 pub two_long : (s : List ℕ) (room : ℕ) (v h : Walk) (k j : ℕ) → TwoAt s v k h j → room < k - 5 + (j - 5)
-    → Refused 10 ≡ step_at s room v
+    → Err 10 ≡ step_at s room v
 two_long s room v h k j c l =
-    begun_long s room v (moved v (v.at + k) (v.left - k)) k _ (j - 5) _ c.begun refl
+    begun_long s room v (moved v (v.at + k) (v.left - k)) k _ _ c.begun refl
     (closes s v h (moved h (h.at + j) (h.left - j)) k j c refl).tail refl l
 
 pub two_kept : (s old : List ℕ) (v h : Walk) (k j : ℕ) → TwoAt s v k h j → length old < k - 5 + (j - 5) → old ≡ join_at s old v
 two_kept s old v h k j c l =
-    kept_begun s old v (moved v (v.at + k) (v.left - k)) k _ (j - 5) _ c.begun refl
+    kept_begun s old v (moved v (v.at + k) (v.left - k)) k _ _ c.begun refl
     (closes s v h (moved h (h.at + j) (h.left - j)) k j c refl).tail refl l
 
 -- and one that has room there
 pub two_joined : (s : List ℕ) (room : ℕ) (v h y : Walk) (k j : ℕ) → TwoAt s v k h j → k - 5 + (j - 5) ≤ room
     → y ≡ moved h (h.at + j) (h.left - j)
-    → Joined (k - 5 + (j - 5)) y ≡ step_at s room v
+    → Ok (Joined (k - 5 + (j - 5)), y) ≡ step_at s room v
 two_joined s room v h y k j c l p =
-    begun_joined s room v (moved v (v.at + k) (v.left - k)) k _ (j - 5) y c.begun refl (closes s v h y k j c p).tail refl l
+    begun_joined s room v (moved v (v.at + k) (v.left - k)) k _ _ c.begun refl (closes s v h y k j c p).tail refl l
 
 pub two_put : (s old : List ℕ) (v h : Walk) (k j : ℕ) (new : List ℕ) → TwoAt s v k h j → k - 5 + (j - 5) ≤ length old
     → new ≡ put_at old 0 (part (v.at + 5) (k - 5) s ++ part (h.at + 5) (j - 5) s) → new ≡ join_at s old v
 two_put s old v h k j new c l p =
     let d = closes s v h (moved h (h.at + j) (h.left - j)) k j c refl in
-    begun_put s old v (moved v (v.at + k) (v.left - k)) k _ (j - 5) _ new c.begun refl d.tail refl l
+    begun_put s old v (moved v (v.at + k) (v.left - k)) k _ _ new c.begun refl d.tail refl l
     (p ∙ ap (λ (x : List ℕ). put_at old 0 (part (v.at + 5) (k - 5) s ++ x)) (sym d.bytes))
 
 -- what the code computes has its place

@@ -1,4 +1,5 @@
 -- What the walks want to know of a block and of HDR2: a block is no mark, and a record length is 1 or more. Assumes nothing.
+use Rattle.std.specs.Prelude.{Option, Some, None}
 use mathlib.Core.Path.{◌≡◌, refl, sym, ap, ◌∙◌}
 use mathlib.Core.Bool.{Bool, true, false, false≢true}
 use mathlib.Core.List.{List}
@@ -8,8 +9,6 @@ use borrow.Author.Tests.{leb-true}
 use lib.Dec.{leb, eqb}
 use Rattle.base.specs.If.{if_b}
 use Rattle.base.proofs.Ifs.{if_case}
-use Rattle.charset.specs.declared.Number.{Number}
-use Rattle.charset.specs.declared.Number.TheVariants.{Value, Wrong as NoNumber}
 use Rattle.image.specs.Item.{block}
 use Rattle.order.specs.Kind.{hdr, tape_mark, is_kind}
 use Rattle.order.specs.declared.Phase.{Phase}
@@ -32,10 +31,10 @@ least_one : (f : ℕ) → 1 ≤ least_record f
 unfolding least_record
 least_one f = if_case (λ (n : ℕ). 1 ≤ n) (eqb f 68) 5 1 (λ _. omega arith) (λ _. omega arith)
 
-length_some : (f : ℕ) (b r o : Number) → is_record_length f b r o ≡ true → value_of r ≡ 0 → ⊥
+length_some : (f : ℕ) (b r o : Option ℕ) → is_record_length f b r o ≡ true → value_of r ≡ 0 → ⊥
 unfolding is_record_length is_length value_of
-length_some f b NoNumber o h z = false≢true h
-length_some f b (Value r) o h z =
+length_some f b None o h z = false≢true h
+length_some f b (Some r) o h z =
     if_case (λ (t : Bool). t ≡ true → ⊥) (leb (least_record f) r) (suits_both f b r o) false
     (λ a _. let k = leb-true (least_record f) r a in let m = least_one f in omega arith) (λ _ q. false≢true q) h
 

@@ -1,4 +1,5 @@
 -- Laws of the items of an image by their places: what stands at a place, and induction over places. Assumes nothing.
+use Rattle.std.specs.Prelude.{Option, Some, None}
 use mathlib.Core.Path.{◌≡◌, refl, sym, ap, ◌∙◌, subst}
 use mathlib.Core.Bool.{Bool, true, false}
 use mathlib.Core.List.{List, [], ◌∷◌}
@@ -22,14 +23,11 @@ use Rattle.order.specs.Due.{dues, choose, due_after}
 use Rattle.order.specs.declared.Kind.{Kind}
 use Rattle.order.specs.declared.Phase.{Phase}
 use Rattle.order.specs.declared.Phase.TheVariants.{Reel, Data}
-use Rattle.order.specs.declared.Due.{Due}
-use Rattle.order.specs.declared.Due.TheVariants.{To, Wrong}
 use Rattle.label.specs.Name.{kind_of}
 use Rattle.volume.specs.Step.{is_due, kind_in, bytes_in}
-use Rattle.content.specs.Items.{seen_by, seen_at}
+use Rattle.content.specs.Items.{seen_by, seen_at, seen}
 use Rattle.content.specs.Code.Seen.{seen_in}
 use Rattle.content.specs.declared.items.Seen.{Seen}
-use Rattle.content.specs.declared.items.Seen.TheVariants.{Item as Of, Nothing}
 
 -- ---- what stands at a place
 
@@ -38,25 +36,25 @@ module _ (s : List ℕ) (at : ℕ) (datum : Bool) (q : Shape) (e : q ≡ shape (
   unfolding seen_at
   seen_by_lem r b = ap (seen_by s at datum) (sym b ∙ e)
 
-  pub seen_data : (n : ℕ) (x : Seen) → q ≡ Bytes n → datum ≡ true → x ≡ Of data_block n → x ≡ seen_at s at datum
+  pub seen_data : (n : ℕ) (x : Option Seen) → q ≡ Bytes n → datum ≡ true → x ≡ seen data_block n → x ≡ seen_at s at datum
   unfolding seen_by
-  seen_data n x b h f = f ∙ sym (ap (λ (k : Kind). Of k n) (if_true _ _ _ h)) ∙ seen_by_lem (Bytes n) b
+  seen_data n x b h f = f ∙ sym (ap (λ (k : Kind). seen k n) (if_true _ _ _ h)) ∙ seen_by_lem (Bytes n) b
 
   pub seen_label : (n : ℕ) (k : Kind) → q ≡ Bytes n → datum ≡ false
-      → k ≡ kind_of (take (at + 3 + n - (at + 3)) (drop (at + 3) s)) → Of k n ≡ seen_at s at datum
+      → k ≡ kind_of (take (at + 3 + n - (at + 3)) (drop (at + 3) s)) → seen k n ≡ seen_at s at datum
   unfolding seen_by
   seen_label n k b h f =
-      ap (λ (j : Kind). Of j n) (f ∙ ap kind_of (part_within (at + 3) n s) ∙ sym (if_false _ _ _ h)) ∙ seen_by_lem (Bytes n) b
+      ap (λ (j : Kind). seen j n) (f ∙ ap kind_of (part_within (at + 3) n s) ∙ sym (if_false _ _ _ h)) ∙ seen_by_lem (Bytes n) b
 
-  pub seen_mark : (x : Seen) → q ≡ Mark → x ≡ Of tape_mark 0 → x ≡ seen_at s at datum
+  pub seen_mark : (x : Option Seen) → q ≡ Mark → x ≡ seen tape_mark 0 → x ≡ seen_at s at datum
   unfolding seen_by
   seen_mark x b f = f ∙ seen_by_lem Mark b
 
-  pub seen_reel_end : (x : Seen) → q ≡ ReelEnd → x ≡ Of end_of_reel 0 → x ≡ seen_at s at datum
+  pub seen_reel_end : (x : Option Seen) → q ≡ ReelEnd → x ≡ seen end_of_reel 0 → x ≡ seen_at s at datum
   unfolding seen_by
   seen_reel_end x b f = f ∙ seen_by_lem ReelEnd b
 
-  pub seen_nothing : q ≡ Broken → Nothing ≡ seen_at s at datum
+  pub seen_nothing : q ≡ Broken → None ≡ seen_at s at datum
   unfolding seen_by
   seen_nothing b = seen_by_lem Broken b
 
@@ -71,14 +69,14 @@ end_fits s at n q e b h = record { fits = omega (arith, block_within s at n q e 
 pub ruleset seens = (seen_data, seen_label, seen_mark, seen_reel_end, seen_nothing, start_fits, end_fits, block_within, rules)
 
 -- in a phase
-module _ (s : List ℕ) (p : Phase) (at : ℕ) (d : Due) (x : Seen) (e : d ≡ due_after p data_block) where
-  pub seen_due : (r : Phase) → d ≡ To r → x ≡ seen_at s at true → x ≡ seen_in s p at
+module _ (s : List ℕ) (p : Phase) (at : ℕ) (d : Option Phase) (x : Option Seen) (e : d ≡ due_after p data_block) where
+  pub seen_due : (r : Phase) → d ≡ Some r → x ≡ seen_at s at true → x ≡ seen_in s p at
   unfolding is_due
-  seen_due r q f = f ∙ ap (λ (y : Due). seen_at s at (is_due y)) (sym q ∙ e)
+  seen_due r q f = f ∙ ap (λ (y : Option Phase). seen_at s at (is_due y)) (sym q ∙ e)
 
-  pub seen_undue : d ≡ Wrong → x ≡ seen_at s at false → x ≡ seen_in s p at
+  pub seen_undue : d ≡ None → x ≡ seen_at s at false → x ≡ seen_in s p at
   unfolding is_due
-  seen_undue q f = f ∙ ap (λ (y : Due). seen_at s at (is_due y)) (sym q ∙ e)
+  seen_undue q f = f ∙ ap (λ (y : Option Phase). seen_at s at (is_due y)) (sym q ∙ e)
 
 pub ruleset seens_in = (seen_due, seen_undue, rules)
 
@@ -122,9 +120,9 @@ bare_seen s p at x k h e b w =
     }
 
 -- what is said of the item at a place is said where there is one
-abbrev IfSeen : (Kind → ℕ → Type 0) → Seen → Type 0
-IfSeen P (Of k n) = P k n
-IfSeen P Nothing = Nothing ≡ Nothing
+abbrev IfSeen : (Kind → ℕ → Type 0) → Option Seen → Type 0
+IfSeen P (Some u) = P u.kind u.len
+IfSeen P None = ◌≡◌ {A = Option Seen} None None
 
 seen_any : (s : List ℕ) (p : Phase) (at : ℕ) (q : Shape) → shape (drop at s) ≡ q
     → IfSeen (Sees s p at) (seen_by s at (is_due (due_after p data_block)) q)
@@ -138,17 +136,17 @@ seen_any s p at ReelEnd e =
     bare_seen s p at reel_end end_of_reel (decode_reel_end s at ReelEnd (omega arith) (sym e) refl) refl refl w
 seen_any s p at Broken e = refl
 
-pub sees : (s : List ℕ) (p : Phase) (at n : ℕ) (k : Kind) (x : Seen) → x ≡ seen_in s p at → x ≡ Of k n → Sees s p at k n
+pub sees : (s : List ℕ) (p : Phase) (at n : ℕ) (k : Kind) (x : Option Seen) → x ≡ seen_in s p at → x ≡ seen k n → Sees s p at k n
 unfolding seen_at
 sees s p at n k x e q = subst (IfSeen (Sees s p at)) (sym e ∙ q) (seen_any s p at (shape (drop at s)) refl)
 
 -- no item stands there: the image ends, or the item is broken
-pub unseen : (s : List ℕ) (p : Phase) (at : ℕ) (x : Seen) → x ≡ seen_in s p at → x ≡ Nothing → (P : List Item → Type 0)
+pub unseen : (s : List ℕ) (p : Phase) (at : ℕ) (x : Option Seen) → x ≡ seen_in s p at → x ≡ None → (P : List Item → Type 0)
     → (length s ≤ at → P []) → P (broken ∷ []) → P (decode (drop at s))
 unfolding seen_at seen_by
 unseen s p at x e q P none one = by_shape (shape (drop at s)) refl (sym e ∙ q)
   where
-    by_shape : (r : Shape) → shape (drop at s) ≡ r → seen_by s at (is_due (due_after p data_block)) r ≡ Nothing
+    by_shape : (r : Shape) → shape (drop at s) ≡ r → seen_by s at (is_due (due_after p data_block)) r ≡ None
         → P (decode (drop at s))
     by_shape (Bytes n) h t = let z : ◌≡◌ {A = ℕ} 0 1 = cc in absurd (omega arith)
     by_shape Mark h t = let z : ◌≡◌ {A = ℕ} 0 1 = cc in absurd (omega arith)
@@ -160,18 +158,18 @@ unseen s p at x e q P none one = by_shape (shape (drop at s)) refl (sym e ∙ q)
         by_end (no g) = let past : length s ≤ at = omega arith in subst P (sym (decode_past s at past)) (none past)
 
 -- places behind an item are inside the image, whether blocks are data there or not
-pub item_within : (s : List ℕ) (at n : ℕ) (datum : Bool) (k : Kind) (x : Seen) → x ≡ seen_at s at datum → x ≡ Of k n
-    → at + 3 + n ≤ length s
+pub item_within : (s : List ℕ) (at : ℕ) (datum : Bool) (item : Seen) (x : Option Seen) → x ≡ seen_at s at datum → x ≡ Some item
+    → at + 3 + item.len ≤ length s
 unfolding is_due due_after dues choose is_kind if_b
-item_within s at n true k x e q = (sees s Data at n k x e q).within
-item_within s at n false k x e q = (sees s Reel at n k x e q).within
+item_within s at true item x e q = (sees s Data at item.len item.kind x e q).within
+item_within s at false item x e q = (sees s Reel at item.len item.kind x e q).within
 
-module _ (s : List ℕ) (at n : ℕ) (datum : Bool) (k : Kind) (x : Seen) (e : x ≡ seen_at s at datum) (q : x ≡ Of k n) where
+module _ (s : List ℕ) (at : ℕ) (datum : Bool) (item : Seen) (x : Option Seen) (e : x ≡ seen_at s at datum) (q : x ≡ Some item) where
   pub item_start : length s < 18446744073709551616 → Fits w64 (at + 3)
-  item_start h = record { fits = omega (arith, item_within s at n datum k x e q) }
+  item_start h = record { fits = omega (arith, item_within s at datum item x e q) }
 
-  pub item_room : length s < 18446744073709551616 → at + 3 + n < 18446744073709551616
-  item_room h = omega (arith, item_within s at n datum k x e q)
+  pub item_room : length s < 18446744073709551616 → at + 3 + item.len < 18446744073709551616
+  item_room h = omega (arith, item_within s at datum item x e q)
 
 -- ---- induction over the places of an image, from its end
 

@@ -1,5 +1,8 @@
 -- The parts of an accepted image are what its reading hands out, in order: a file that begins, by its labels, and the segments of
 -- each data block, by the lengths of its section's HDR2. Assumes nothing.
+use Rattle.content.specs.declared.part.Part.{Part}
+use Rattle.content.specs.declared.FileAt.{FileAt}
+use Rattle.std.specs.Prelude.{Some, Option}
 use mathlib.Core.Path.{◌≡◌, refl, sym, ap, ap₂, ◌∙◌, subst}
 use mathlib.Core.Bool.{Bool, true, false, false≢true}
 use mathlib.Core.List.{List, [], ◌∷◌, ◌++◌}
@@ -24,7 +27,6 @@ use Rattle.order.specs.Group.{among_headers}
 use Rattle.order.specs.declared.Kind.{Kind}
 use Rattle.order.specs.declared.Phase.{Phase}
 use Rattle.order.specs.declared.Phase.TheVariants.{Reel, Header, Data}
-use Rattle.order.specs.declared.Due.TheVariants.{To}
 use Rattle.label.specs.Field.{format_of, block_length_of, record_length_of, offset_of}
 use Rattle.label.specs.Judged.{label_fault}
 use Rattle.block.specs.Cut.{Segment, units}
@@ -43,8 +45,6 @@ use Rattle.reading.proofs.Legality.{header_long, Kept, kept_start, kept_step, im
 use Rattle.content.specs.Part.{place_behind, continues_behind, first_behind, after, parts_from, parts, first_in}
 use Rattle.content.specs.Section.{as_block, block_in, data_from}
 use Rattle.content.specs.File.{mark_from, walk_from, as_file, file_in, file_from, next_file}
-use Rattle.content.specs.declared.NextFile.{NextFile}
-use Rattle.content.specs.declared.part.Part.{Part}
 use Rattle.content.specs.declared.part.Part.TheVariants.{File, Section, Block}
 use Rattle.content.proofs.Parts.{stands}
 use Rattle.content.proofs.Searches.{ItemStands, item_at_lem, InOrder, parts_on, parts_block, parts_section, parts_file, data_from_lem, Follows, follows_here, Passes, open_step}
@@ -55,13 +55,13 @@ use Rattle.content.proofs.Phases.{block_no_mark, record_some}
 -- ---- what is read of a part
 
 -- the next data block and the next file of these parts are found from place m in the data of their file on
-pub record Marked (s : List ℕ) (ps : List Part) (m : ℕ) : Type 0 where
+pub record Marked (s : List ℕ) (ps : List (Option Part)) (m : ℕ) : Type 0 where
   pub datum : block_in ps ≡ data_from Data m (decode (drop m s))
   pub fits : m ≤ length s
   pub follows : Follows s (file_in s ps) m
 
 -- a file with its first HDR1 and HDR2 at places a and b, and the parts behind it
-pub record FileRead (s : List ℕ) (a b : ℕ) (first second : List ℕ) (ps : List Part) : Type 0 where
+pub record FileRead (s : List ℕ) (a b : ℕ) (first second : List ℕ) (ps : List (Option Part)) : Type 0 where
   pub hdr1 : part a 80 s ≡ first
   pub hdr2 : part b 80 s ≡ second
   pub first_long : length first ≡ 80
@@ -71,7 +71,7 @@ pub record FileRead (s : List ℕ) (a b : ℕ) (first second : List ℕ) (ps : L
   pub next : file_in s ps ≡ next_file s a b
 
 -- a data block without fault in a section with this HDR2, with q open, and the parts behind it
-pub record BlockRead (s second : List ℕ) (q start n : ℕ) (ps : List Part) : Type 0 where
+pub record BlockRead (s second : List ℕ) (q start n : ℕ) (ps : List (Option Part)) : Type 0 where
   pub some : value_of (record_length_of second) ≡ 0 → ⊥
   pub within : start + n ≤ length s
   pub sound : (outcome_in second q (part start n s)).number ≡ 0
@@ -85,17 +85,17 @@ segments_by second l =
 
 -- parts, and what their reading hands out, in a section with this HDR2 and with q open: where they end, and where a file begins,
 -- no record is
-pub data Read : List ℕ → List ℕ → ℕ → List Part → List Event → Type 0 where
+pub data Read : List ℕ → List ℕ → ℕ → List (Option Part) → List Event → Type 0 where
   read_over : {s second : List ℕ} → Read s second 0 [] []
-  read_file : {s second : List ℕ} {a b : ℕ} (l m : List ℕ) {ps : List Part} {es : List Event} → FileRead s a b l m ps
+  read_file : {s second : List ℕ} {a b : ℕ} (l m : List ℕ) {ps : List (Option Part)} {es : List Event} → FileRead s a b l m ps
       → Read s m 0 ps es
-      → Read s second 0 (File a b ∷ ps) (begins l m ∷ es)
-  read_section : {s second : List ℕ} {q a b : ℕ} (l m : List ℕ) {ps : List Part} {es : List Event} → part a 80 s ≡ l
+      → Read s second 0 (Some (File a b) ∷ ps) (begins l m ∷ es)
+  read_section : {s second : List ℕ} {q a b : ℕ} (l m : List ℕ) {ps : List (Option Part)} {es : List Event} → part a 80 s ≡ l
       → part b 80 s ≡ m
-      → walk_from m 0 ≡ walk_from second 0 → Read s m q ps es → Read s second q (Section a b ∷ ps) (resumes l m ∷ es)
-  read_block : {s second : List ℕ} {q start n : ℕ} {ps : List Part} {es : List Event} → BlockRead s second q start n ps
+      → walk_from m 0 ≡ walk_from second 0 → Read s m q ps es → Read s second q (Some (Section a b) ∷ ps) (resumes l m ∷ es)
+  read_block : {s second : List ℕ} {q start n : ℕ} {ps : List (Option Part)} {es : List Event} → BlockRead s second q start n ps
       → Read s second (outcome_in second q (part start n s)).pending ps es
-      → Read s second q (Block start n ∷ ps) (holds (part start n s) (segments_by second (part start n s)) ∷ es)
+      → Read s second q (Some (Block start n) ∷ ps) (holds (part start n s) (segments_by second (part start n s)) ∷ es)
 
 -- ---- a whole image in order
 
@@ -132,13 +132,13 @@ first_step s t p first at x xs c here = by_kind (is_kind (kind_in p x) (hdr 1)) 
 
 -- ---- the labels before the data, up to their mark
 
-marked_by : (s : List ℕ) (ps qs : List Part) (m : ℕ) → Passes s ps qs → Marked s qs m → Marked s ps m
+marked_by : (s : List ℕ) (ps qs : List (Option Part)) (m : ℕ) → Passes s ps qs → Marked s qs m → Marked s ps m
 marked_by s ps qs m c h =
     record {
       datum = c.datum
           ∙ h.datum;
       fits = h.fits;
-      follows = subst (λ (y : NextFile). Follows s y m) (sym c.file) h.follows;
+      follows = subst (λ (y : Option FileAt). Follows s y m) (sym c.file) h.follows;
     }
 
 nothing_left : (s : List ℕ) (g : Bool) (p : Phase) (hdr1 at : ℕ) → decode (drop at s) ≡ [] → at ≤ length s
@@ -158,7 +158,7 @@ nothing_left s g p hdr1 at e fits =
 
 mark_body : (s : List ℕ) (g : Bool) (p q : Phase) (hdr1 at : ℕ) (xs : List Item) → Numbered p → group_of p ≡ among_headers
     → is_open (stage p) g ≡ true
-    → due_after p (kind_in p mark) ≡ To q → ItemStands s at mark xs → InOrder s q (place_behind at mark) xs
+    → due_after p (kind_in p mark) ≡ Some q → ItemStands s at mark xs → InOrder s q (place_behind at mark) xs
     → Marked s (parts (stands at hdr1 p g) (mark ∷ xs)) (at + 3)
 unfolding kind_in bytes_in place_behind is_kind
 mark_body s g p q hdr1 at xs num h open' d c o =
@@ -174,7 +174,7 @@ mark_body s g p q hdr1 at xs num h open' d c o =
       follows = follows_here s g' q hdr1' (at + 3 + 0) xs (mark_data p q h d) c.rest o;
     }))
 
-no_reel_end : (p q : Phase) → group_of p ≡ among_headers → due_after p (kind_in p reel_end) ≡ To q → ⊥
+no_reel_end : (p q : Phase) → group_of p ≡ among_headers → due_after p (kind_in p reel_end) ≡ Some q → ⊥
 unfolding kind_in is_kind
 no_reel_end p q h d = false≢true (sym (label_labels p end_of_reel q h refl d).reel_end)
 
@@ -227,7 +227,7 @@ sized_step t r l finish h f = h
 
 -- one that is no part
 read_on : (s : List ℕ) (t : State) (r : Phase) (at hdr1 : ℕ) (x : Item) (xs : List Item) (k : Kind) (es : List Event)
-    → kind_in t.phase x ≡ k → due_after t.phase k ≡ To r
+    → kind_in t.phase x ≡ k → due_after t.phase k ≡ Some r
     → is_kind k data_block ≡ false → is_kind k (hdr 2) ≡ false
     → Read s (state_after t r k (bytes_in x)).hdr2 (state_after t r k (bytes_in x)).pending
     (parts (after (stands at hdr1 t.phase t.continues) k (length (bytes_in x)) r) xs) es
@@ -238,7 +238,7 @@ read_on s t r at hdr1 x xs k es e d a b h =
     let ps = parts (after c k (length (bytes_in x)) r) xs in
     subst (λ (fs : List Event). Read s t.hdr2 t.pending (parts c (x ∷ xs)) (fs ++ es))
     (sym (if_false _ _ _ a ∙ if_false _ _ _ b))
-    (subst (λ (qs : List Part). Read s t.hdr2 t.pending qs es) (sym (parts_on c r x xs k e a b d))
+    (subst (λ (qs : List (Option Part)). Read s t.hdr2 t.pending qs es) (sym (parts_on c r x xs k e a b d))
     (subst (λ (m : List ℕ). Read s m t.pending ps es) (if_false (is_kind k (hdr 2)) (bytes_in x) t.hdr2 b)
     (subst (λ (q : ℕ). Read s (if_b (is_kind k (hdr 2)) (bytes_in x) t.hdr2) q ps es)
     (if_false (is_kind k data_block) (outcome_in t.hdr2 t.pending (bytes_in x)).pending t.pending a) h)))
@@ -246,7 +246,7 @@ read_on s t r at hdr1 x xs k es e d a b h =
 -- a data block
 read_block_lem : (s : List ℕ) (g : Bool) (p r : Phase) (at hdr1 : ℕ) (second : List ℕ) (q : ℕ) (x : Item) (xs : List Item)
     (es : List Event) → ItemStands s at x xs
-    → InOrder s r (place_behind at x) xs → kind_in p x ≡ data_block → due_after p data_block ≡ To r
+    → InOrder s r (place_behind at x) xs → kind_in p x ≡ data_block → due_after p data_block ≡ Some r
     → (value_of (record_length_of second) ≡ 0 → ⊥)
     → (outcome_in second q (bytes_in x)).number ≡ 0
     → Read s second (outcome_in second q (bytes_in x)).pending (parts (stands (place_behind at x) hdr1 r g) xs) es
@@ -255,9 +255,9 @@ unfolding place_behind
 read_block_lem s g p r at hdr1 second q x xs es c o e d some' f h =
     let n = length (bytes_in x) in
     let ps = parts (stands (at + 3 + n) hdr1 r g) xs in
-    subst (λ (qs : List Part). Read s second q qs (holds (bytes_in x) (segments_by second (bytes_in x)) ∷ es))
+    subst (λ (qs : List (Option Part)). Read s second q qs (holds (bytes_in x) (segments_by second (bytes_in x)) ∷ es))
     (sym (parts_block p r g hdr1 at x xs e d))
-    (subst (λ (l : List ℕ). Read s second q (Block (at + 3) n ∷ ps) (holds l (segments_by second l) ∷ es)) (sym c.bytes)
+    (subst (λ (l : List ℕ). Read s second q (Some (Block (at + 3) n) ∷ ps) (holds l (segments_by second l) ∷ es)) (sym c.bytes)
     (read_block
     (record {
       some = some';
@@ -270,7 +270,7 @@ read_block_lem s g p r at hdr1 second q x xs es c o e d some' f h =
 -- HDR2: of a file that goes on, or of a new one with its HDR1 at `hdr1`
 read_second : (s : List ℕ) (g : Bool) (p r : Phase) (at hdr1 : ℕ) (first second : List ℕ) (q : ℕ) (x : Item) (xs : List Item)
     (es : List Event) → ItemStands s at x xs
-    → InOrder s r (place_behind at x) xs → kind_in p x ≡ hdr 2 → due_after p (hdr 2) ≡ To r → (g ≡ false → q ≡ 0)
+    → InOrder s r (place_behind at x) xs → kind_in p x ≡ hdr 2 → due_after p (hdr 2) ≡ Some r → (g ≡ false → q ≡ 0)
     → (label_fault (hdr 2) (bytes_in x)).number ≡ 0
     → (hdr2_fault g second (bytes_in x)).number ≡ 0 → part hdr1 80 s ≡ first → length first ≡ 80
     → Read s (bytes_in x) q (parts (stands (place_behind at x) hdr1 r g) xs) es
@@ -278,12 +278,12 @@ read_second : (s : List ℕ) (g : Bool) (p r : Phase) (at hdr1 : ℕ) (first sec
     ((if_b g (resumes first (bytes_in x)) (begins first (bytes_in x)) ∷ []) ++ es)
 unfolding if_b
 read_second s true p r at hdr1 first second q x xs es c o e d idle f m here long h =
-    subst (λ (qs : List Part). Read s second q qs (resumes first (bytes_in x) ∷ es)) (sym (parts_section p r hdr1 at x xs e d))
+    subst (λ (qs : List (Option Part)). Read s second q qs (resumes first (bytes_in x) ∷ es)) (sym (parts_section p r hdr1 at x xs e d))
     (read_section first (bytes_in x) here (label_here s at x xs c (header_long p x (ap (λ (k : Kind). k.family) e)))
     (same_lengths_lem second (bytes_in x) m) h)
 read_second s false p r at hdr1 first second q x xs es c o e d idle f m here long h =
     subst (λ (j : ℕ). Read s second j (parts (stands at hdr1 p false) (x ∷ xs)) (begins first (bytes_in x) ∷ es)) (sym (idle refl))
-    (subst (λ (qs : List Part). Read s second 0 qs (begins first (bytes_in x) ∷ es)) (sym (parts_file p hdr1 at x xs e))
+    (subst (λ (qs : List (Option Part)). Read s second 0 qs (begins first (bytes_in x) ∷ es)) (sym (parts_file p hdr1 at x xs e))
     (read_file first (bytes_in x) read rest))
   where
     r2 : r ≡ Header 2
@@ -292,7 +292,7 @@ read_second s false p r at hdr1 first second q x xs es c o e d idle f m here lon
     eighty : length (bytes_in x) ≡ 80
     eighty = header_long p x (ap (λ (k : Kind). k.family) e)
 
-    ps : List Part
+    ps : List (Option Part)
     ps = parts (stands (place_behind at x) hdr1 (Header 2) false) xs
 
     rest : Read s (bytes_in x) 0 ps es
@@ -326,7 +326,7 @@ read_second s false p r at hdr1 first second q x xs es c o e d idle f m here lon
 
 read_step : (s : List ℕ) (t : State) (r : Phase) (at hdr1 : ℕ) (x : Item) (xs : List Item)
     (es : List Event) {k : Kind} {a b : Stage} → Move k a b
-    → kind_in t.phase x ≡ k → due_after t.phase k ≡ To r → ItemStands s at x xs → InOrder s r (place_behind at x) xs
+    → kind_in t.phase x ≡ k → due_after t.phase k ≡ Some r → ItemStands s at x xs → InOrder s r (place_behind at x) xs
     → Holds a (view t) → Sized a t.continues t.hdr2
     → part hdr1 80 s ≡ t.hdr1 → (item_fault t k (bytes_in x)).number ≡ 0
     → Read s (state_after t r k (bytes_in x)).hdr2 (state_after t r k (bytes_in x)).pending

@@ -1,5 +1,6 @@
 -- Laws of the records from a walk on: the walk behind each, and the equations of `records_at`, `last_of` and `end_of`. Assumes
 -- nothing.
+use Rattle.std.specs.Prelude.{Option, Some, None}
 use mathlib.Core.Path.{◌≡◌, refl, sym, ap, ◌∙◌, subst}
 use mathlib.Core.Bool.{true}
 use mathlib.Core.List.{List, [], ◌∷◌, ◌++◌}
@@ -16,7 +17,6 @@ use Rattle.content.specs.Walked.{handed, Walks, along_by, along_f, along, last_o
 use Rattle.content.specs.Records.{records_at}
 use Rattle.content.specs.declared.Walk.{Walk}
 use Rattle.content.specs.declared.unit.Taken.{Taken}
-use Rattle.content.specs.declared.unit.Taken.TheVariants.{One, Nothing}
 use Rattle.content.proofs.Units.{inside_true}
 use Rattle.content.proofs.Searches.{Follows, Leads}
 use Rattle.content.proofs.Rests.{UnitBehind, next_behind, from_behind}
@@ -72,18 +72,18 @@ unfolding before
 passes_before s w start n v (ends r u) b p = passes_more s w start n v r u b p
 passes_before s w start n v fails b p = refl
 
-rest_by_lem : (s : List ℕ) (room : ℕ) (w : Walk) (t : Taken) (g : ℕ → Walk → Rest) → unit_next s w ≡ t
+rest_by_lem : (s : List ℕ) (room : ℕ) (w : Walk) (t : Option Taken) (g : ℕ → Walk → Rest) → unit_next s w ≡ t
     → ((r : ℕ) (v : Walk) → IfEnds (Passes s v) (g r v))
     → IfEnds (Passes s w) (rest_by s room t g)
 unfolding rest_by
-rest_by_lem s room w (One i start n v) g e h =
-    let b = next_behind s w i start n v e in
-    if_case (IfEnds (Passes s w)) (leb n room) _ fails
-    (λ _. if_case (IfEnds (Passes s w)) (eqb i 3) (ends (part start n s) v) _ (λ _. passes_unit s w start n v b)
-    (λ _. if_case (IfEnds (Passes s w)) (eqb i 2) (before (part start n s) (g (room - n) v)) fails
-    (λ _. passes_before s w start n v (g (room - n) v) b (h (room - n) v)) (λ _. refl)))
+rest_by_lem s room w (Some u) g e h =
+    let b = next_behind s w u.indicator u.start u.len u.behind e in
+    if_case (IfEnds (Passes s w)) (leb u.len room) _ fails
+    (λ _. if_case (IfEnds (Passes s w)) (eqb u.indicator 3) (ends (part u.start u.len s) u.behind) _ (λ _. passes_unit s w u.start u.len u.behind b)
+    (λ _. if_case (IfEnds (Passes s w)) (eqb u.indicator 2) (before (part u.start u.len s) (g (room - u.len) u.behind)) fails
+    (λ _. passes_before s w u.start u.len u.behind (g (room - u.len) u.behind) b (h (room - u.len) u.behind)) (λ _. refl)))
     (λ _. refl)
-rest_by_lem s room w Nothing g e h = refl
+rest_by_lem s room w None g e h = refl
 
 rest_fuel : (f : ℕ) (s : List ℕ) (room : ℕ) (w : Walk) → IfEnds (Passes s w) (rest_f f s room w)
 unfolding rest_f
@@ -96,19 +96,19 @@ unfolding handed split_by
 split_passes s w start n v (ends r u) b p = passes_more s w start n v r u b p
 split_passes s w start n v fails b p = refl
 
-begun_passes : (s : List ℕ) (w : Walk) (t : Taken) → Inside s w → unit_from s w ≡ t
+begun_passes : (s : List ℕ) (w : Walk) (t : Option Taken) → Inside s w → unit_from s w ≡ t
     → IfEnds (Passes s w) (handed s (begun_by s w.record_length t))
 unfolding begun_by handed rest_at
-begun_passes s w (One i start n v) h e =
-    let b = from_behind s w i start n v h e in
-    if_case (λ (x : Record). IfEnds (Passes s w) (handed s x)) (leb n w.record_length) _ nothing
-    (λ _. if_case (λ (x : Record). IfEnds (Passes s w) (handed s x)) (eqb i 0) (whole start n v) _
-    (λ _. passes_unit s w start n v b)
-    (λ _. if_case (λ (x : Record). IfEnds (Passes s w) (handed s x)) (eqb i 1)
-    (split_by (part start n s) (rest_at s (w.record_length - n) v)) nothing
-    (λ _. split_passes s w start n v (rest_at s (w.record_length - n) v) b (rest_fuel (suc (length s)) s (w.record_length - n) v)) (λ _. refl)))
+begun_passes s w (Some u) h e =
+    let b = from_behind s w u.indicator u.start u.len u.behind h e in
+    if_case (λ (x : Record). IfEnds (Passes s w) (handed s x)) (leb u.len w.record_length) _ nothing
+    (λ _. if_case (λ (x : Record). IfEnds (Passes s w) (handed s x)) (eqb u.indicator 0) (whole u.start u.len u.behind) _
+    (λ _. passes_unit s w u.start u.len u.behind b)
+    (λ _. if_case (λ (x : Record). IfEnds (Passes s w) (handed s x)) (eqb u.indicator 1)
+    (split_by (part u.start u.len s) (rest_at s (w.record_length - u.len) u.behind)) nothing
+    (λ _. split_passes s w u.start u.len u.behind (rest_at s (w.record_length - u.len) u.behind) b (rest_fuel (suc (length s)) s (w.record_length - u.len) u.behind)) (λ _. refl)))
     (λ _. refl)
-begun_passes s w Nothing h e = refl
+begun_passes s w None h e = refl
 
 handed_any : (s : List ℕ) (w : Walk) → IfEnds (Passes s w) (handed s (record_at s w))
 unfolding record_at handed

@@ -1,4 +1,8 @@
 -- Laws of records in a row: each turn of the loop is a step, and the first that is none ends it. Assumes nothing.
+use Rattle.std.proofs.lemmas.Option.{same_Some}
+use Rattle.content.specs.declared.Found.TheVariants.{Joined}
+use Rattle.content.specs.declared.measuring.Measured.{Measured}
+use Rattle.std.specs.Prelude.{Option, Some, None, Ok, Err}
 use mathlib.Core.Path.{◌≡◌, refl, sym, ap, ap₂, ◌∙◌}
 use mathlib.Core.Bool.{true}
 use mathlib.Core.List.{List, ◌∷◌}
@@ -15,19 +19,15 @@ use Rattle.base.specs.Part.{put_at}
 use Rattle.base.proofs.Parts.{put_none}
 use Rattle.base.proofs.Put.{put_first}
 use Rattle.block.specs.Unit.{word_of}
-use Rattle.content.specs.Walk.{moved, is_inside, unit_from, Rest, ends, fails, Record, whole, split, nothing, split_by, begun_by, record_at, step_by, step_at}
+use Rattle.content.specs.Walk.{moved, is_inside, unit_from, Rest, ends, fails, Record, whole, split, nothing, split_by, begun_by, record_at, step_by, step_at, taken_at, Step}
 use Rattle.content.specs.Code.Heads.{Inside, whole_at, begun_in, whole_by}
 use Rattle.content.specs.Whole.{at_block, stands_at}
 use Rattle.content.specs.Measure.{measured_by}
 use Rattle.content.specs.Row.{StepRow, stays, ahead, steps_by, steps_at, row_of}
 use Rattle.content.specs.declared.Walk.{Walk}
-use Rattle.content.specs.declared.Step.{Step}
-use Rattle.content.specs.declared.Step.TheVariants.{Joined, Refused}
 use Rattle.content.specs.declared.row.Row.{Row}
 use Rattle.content.specs.declared.unit.Taken.{Taken}
-use Rattle.content.specs.declared.unit.Taken.TheVariants.{One, Nothing}
-use Rattle.content.specs.declared.measuring.Measured.{Measured}
-use Rattle.content.specs.declared.measuring.Measured.TheVariants.{Whole, Split, Nothing as None}
+use Rattle.content.specs.declared.measuring.Measured.TheVariants.{Whole, Split}
 use Rattle.content.proofs.Units.{inside_true}
 use Rattle.content.proofs.Rests.{from_behind}
 use Rattle.content.proofs.Wholes.{leads, record_whole, word_least, whole_left, whole_start, whole_end}
@@ -40,7 +40,7 @@ use Rattle.content.proofs.Stepping.{asked_begun}
 record Single (s : List ℕ) (w : Walk) (start n : ℕ) (u : Walk) : Type 0 where
   some : w.record_length ≡ 0 → ⊥
   inside : Inside s w
-  unit : unit_from s w ≡ One 0 start n u
+  unit : unit_from s w ≡ taken_at 0 start n u
   short : n ≤ w.record_length
 
 nothing_whole : (start n : ℕ) (u : Walk) → nothing ≡ whole start n u → ⊥
@@ -62,42 +62,42 @@ single s w start n u =
     P : Record → Type 0
     P x = x ≡ whole start n u → Single s w start n u
 
-    by_unit : (w.record_length ≡ 0 → ⊥) → Inside s w → (t : Taken) → unit_from s w ≡ t → P (begun_by s w.record_length t)
-    by_unit some inside (One i a k v) e =
-        if_case P (leb k w.record_length) _ nothing
-        (λ c. if_case P (eqb i 0) (whole a k v) _
-        (λ d q. let z : i ≡ 0 = eqb-true i 0 d in
-        let x : a ≡ start = cc in
-        let y : k ≡ n = cc in
-        let h : v ≡ u = cc in
-        let l = leb-true k w.record_length c in
+    by_unit : (w.record_length ≡ 0 → ⊥) → Inside s w → (t : Option Taken) → unit_from s w ≡ t → P (begun_by s w.record_length t)
+    by_unit some inside (Some t) e =
+        if_case P (leb t.len w.record_length) _ nothing
+        (λ c. if_case P (eqb t.indicator 0) (whole t.start t.len t.behind) _
+        (λ d q. let z : t.indicator ≡ 0 = eqb-true t.indicator 0 d in
+        let x : t.start ≡ start = cc in
+        let y : t.len ≡ n = cc in
+        let h : t.behind ≡ u = cc in
+        let l = leb-true t.len w.record_length c in
         record {
           some = some;
           inside = inside;
-          unit = e ∙ ap₂ (λ (j m : ℕ). One j m k v) z x ∙ ap₂ (λ (m : ℕ) (t : Walk). One 0 start m t) y h;
+          unit = e ∙ ap₂ (λ (j m : ℕ). taken_at j m t.len t.behind) z x ∙ ap₂ (λ (m : ℕ) (v : Walk). taken_at 0 start m v) y h;
           short = omega arith;
         })
-        (λ _. if_case P (eqb i 1) _ nothing (λ _ q. absurd (split_whole _ _ start n u q))
+        (λ _. if_case P (eqb t.indicator 1) _ nothing (λ _ q. absurd (split_whole _ _ start n u q))
         (λ _ q. absurd (nothing_whole start n u q))))
         (λ _ q. absurd (nothing_whole start n u q))
-    by_unit some inside Nothing e = λ q. absurd (nothing_whole start n u q)
+    by_unit some inside None e = λ q. absurd (nothing_whole start n u q)
 
 abbrev NoWhole : List ℕ → Walk → Type 0
 NoWhole s w = (start n : ℕ) (u : Walk) → record_at s w ≡ whole start n u → ⊥
 
-by_none : (x : Record) → ((start n : ℕ) (u : Walk) → x ≡ whole start n u → ⊥) → Nothing ≡ whole_by x
+by_none : (x : Record) → ((start n : ℕ) (u : Walk) → x ≡ whole start n u → ⊥) → None ≡ whole_by x
 unfolding whole_by
 by_none (whole a n u) h = absurd (h a n u refl)
 by_none (split bs u) h = refl
 by_none nothing h = refl
 
-one_same : (i a b j c d : ℕ) (x y : Walk) → One i a b x ≡ One j c d y → i ≡ j
-one_same i a b j c d x y t = cc
+one_same : (i a b j c d : ℕ) (x y : Walk) → taken_at i a b x ≡ taken_at j c d y → i ≡ j
+one_same i a b j c d x y t = ap (λ (u : Taken). u.indicator) (same_Some (record { indicator = i; start = a; len = b; behind = x }) (record { indicator = j; start = c; len = d; behind = y }) t)
 
 -- a record begins there that has several segments, if it ends
 pub begun_no_whole : (s : List ℕ) (w v : Walk) (k : ℕ) → v ≡ at_block s w
     → k ≡ begun_in s (stands_at v.format v.record_length v.at v.left) → (k ≡ 0 → ⊥)
-    → Nothing ≡ whole_by (record_at s w)
+    → None ≡ whole_by (record_at s w)
 begun_no_whole s w v k e m z =
     by_none (record_at s w)
     (λ start n u q. let b = begins s v k (asked_begun s v k m z) in
@@ -105,27 +105,27 @@ begun_no_whole s w v k e m z =
     let same = one_same _ _ _ _ _ _ _ _ (sym ((leads s w v e).unit _ _ _ _ b.segment.unit) ∙ one.unit) in
     omega (arith, same, b.digit))
 
-pub measured_none : (s : List ℕ) (w : Walk) (m : Measured) → m ≡ measured_by (record_at s w) → m ≡ None
-    → Nothing ≡ whole_by (record_at s w)
+pub measured_none : (s : List ℕ) (w : Walk) (m : Option Measured) → m ≡ measured_by (record_at s w) → m ≡ None
+    → None ≡ whole_by (record_at s w)
 unfolding measured_by
 measured_none s w m e q =
-    by_none (record_at s w) (λ start n u p. let same : None ≡ Whole start n u = sym q ∙ e ∙ ap measured_by p in let z : ◌≡◌ {A = ℕ} 0 1 = cc in omega arith)
+    by_none (record_at s w) (λ start n u p. let same : None ≡ Some (Whole start n u) = sym q ∙ e ∙ ap measured_by p in let z : ◌≡◌ {A = ℕ} 0 1 = cc in omega arith)
 
-pub measured_split : (s : List ℕ) (w : Walk) (m : Measured) (k : ℕ) (v : Walk) → m ≡ measured_by (record_at s w) → m ≡ Split k v
-    → Nothing ≡ whole_by (record_at s w)
+pub measured_split : (s : List ℕ) (w : Walk) (m : Option Measured) (k : ℕ) (v : Walk) → m ≡ measured_by (record_at s w) → m ≡ Some (Split k v)
+    → None ≡ whole_by (record_at s w)
 unfolding measured_by
 measured_split s w m k v e q =
-    by_none (record_at s w) (λ start n u p. let same : Split k v ≡ Whole start n u = sym q ∙ e ∙ ap measured_by p in let z : ◌≡◌ {A = ℕ} 0 1 = cc in omega arith)
+    by_none (record_at s w) (λ start n u p. let same : Some (Split k v) ≡ Some (Whole start n u) = sym q ∙ e ∙ ap measured_by p in let z : ◌≡◌ {A = ℕ} 0 1 = cc in omega arith)
 
-measured_is : (start n : ℕ) (u : Walk) (x : Record) → measured_by x ≡ Whole start n u → x ≡ whole start n u
+measured_is : (start n : ℕ) (u : Walk) (x : Record) → measured_by x ≡ Some (Whole start n u) → x ≡ whole start n u
 unfolding measured_by
 measured_is start n u (whole a k v) e = cc
 measured_is start n u (split bs v) e = let z : ◌≡◌ {A = ℕ} 0 1 = cc in absurd (omega arith)
 measured_is start n u nothing e = let z : ◌≡◌ {A = ℕ} 0 1 = cc in absurd (omega arith)
 
-pub measured_one : (s : List ℕ) (w : Walk) (m : Measured) (start n : ℕ) (u : Walk) → m ≡ measured_by (record_at s w)
-    → m ≡ Whole start n u
-    → One 0 start n u ≡ whole_by (record_at s w)
+pub measured_one : (s : List ℕ) (w : Walk) (m : Option Measured) (start n : ℕ) (u : Walk) → m ≡ measured_by (record_at s w)
+    → m ≡ Some (Whole start n u)
+    → taken_at 0 start n u ≡ whole_by (record_at s w)
 unfolding whole_by
 measured_one s w m start n u e q = sym (ap whole_by (measured_is start n u (record_at s w) (sym e ∙ q)))
 
@@ -149,7 +149,7 @@ none_more s (suc k) w h = by_record (record_at s w) h
         → steps_by w (step_by 0 x) (λ v. steps_at s k v) ≡ stays w
     by_record (whole a n u) g = absurd (g a n u refl)
     by_record (split bs u) g =
-        if_case (λ (y : Step). steps_by w y (λ v. steps_at s k v) ≡ stays w) (leb (length bs) 0) (Joined (length bs) u) (Refused 10)
+        if_case (λ (y : Step). steps_by w y (λ v. steps_at s k v) ≡ stays w) (leb (length bs) 0) (Ok (Joined (length bs), u)) (Err 10)
         (λ _. refl) (λ _. refl)
     by_record nothing g = refl
 
@@ -229,19 +229,21 @@ rowing_whole s old olds from places lengths w i v u k c r h j e m z p q =
     (record_whole s w v k e m z ∙ ap (λ (x : ℕ). whole (v.at + x) (k - x) (moved v (v.at + k) (v.left - k))) (sym word)
     ∙ ap (whole (v.at + c) (k - c)) (sym q))
 
-by_whole : (i start n : ℕ) (u : Walk) (x : Record) → whole_by x ≡ One i start n u → x ≡ whole start n u
+by_whole : (one : Taken) (x : Record) → whole_by x ≡ Some one → x ≡ whole one.start one.len one.behind
 unfolding whole_by
-by_whole i start n u (whole a k v) e = cc
-by_whole i start n u (split bs v) e = let z : ◌≡◌ {A = ℕ} 0 1 = cc in absurd (omega arith)
-by_whole i start n u nothing e = let z : ◌≡◌ {A = ℕ} 0 1 = cc in absurd (omega arith)
+by_whole one (whole a k v) e =
+    let q = same_Some (record { indicator = 0; start = a; len = k; behind = v }) one e in
+    ap (λ (t : Taken). whole t.start t.len t.behind) q
+by_whole one (split bs v) e = let z : ◌≡◌ {A = ℕ} 0 1 = cc in absurd (omega arith)
+by_whole one nothing e = let z : ◌≡◌ {A = ℕ} 0 1 = cc in absurd (omega arith)
 
-pub rowing_taken : (s old olds : List ℕ) (from : Walk) (places lengths : List ℕ) (w : Walk) (i j start n : ℕ) (u : Walk)
-    (t : Taken)
+pub rowing_taken : (s old olds : List ℕ) (from : Walk) (places lengths : List ℕ) (w : Walk) (i : ℕ) (one : Taken)
+    (t : Option Taken)
     → Rowing s old olds from places lengths w i → i < length places → i < length lengths → t ≡ whole_by (record_at s w)
-    → t ≡ One j start n u
-    → Rowing s old olds from (set places i start) (set lengths i n) u (i + 1)
-rowing_taken s old olds from places lengths w i j start n u t c h k e q =
-    rowing_more s old olds from places lengths w i start n u c h k (by_whole j start n u (record_at s w) (sym e ∙ q))
+    → t ≡ Some one
+    → Rowing s old olds from (set places i one.start) (set lengths i one.len) one.behind (i + 1)
+rowing_taken s old olds from places lengths w i one t c h k e q =
+    rowing_more s old olds from places lengths w i one.start one.len one.behind c h k (by_whole one (record_at s w) (sym e ∙ q))
 
 -- ---- where it ends
 
@@ -263,11 +265,11 @@ full_lengths s old olds from places lengths w i c h =
     let e : min (length old) (length olds) - i ≡ 0 = omega arith in
     ap (λ (k : ℕ). steps_at s k w) e
 
-pub at_none : (s : List ℕ) (room : ℕ) (w : Walk) (t : Taken) → t ≡ whole_by (record_at s w) → t ≡ Nothing
+pub at_none : (s : List ℕ) (room : ℕ) (w : Walk) (t : Option Taken) → t ≡ whole_by (record_at s w) → t ≡ None
     → steps_at s room w ≡ stays w
 unfolding whole_by
 at_none s room w t e q =
-    none_more s room w (λ start n u p. let same : Nothing ≡ One 0 start n u = sym q ∙ e ∙ ap whole_by p in let z : ◌≡◌ {A = ℕ} 0 1 = cc in omega arith)
+    none_more s room w (λ start n u p. let same : None ≡ taken_at 0 start n u = sym q ∙ e ∙ ap whole_by p in let z : ◌≡◌ {A = ℕ} 0 1 = cc in omega arith)
 
 pub row_done : (s old olds : List ℕ) (from : Walk) (places lengths : List ℕ) (w : Walk) (i : ℕ) (r : Row)
     → Rowing s old olds from places lengths w i

@@ -1,5 +1,6 @@
 -- The segment that stands at the head of what is left of a block, or of the next block: one number tells it, and it is the unit
 -- with which a record begins or goes on. Assumes nothing.
+use Rattle.std.specs.Prelude.{Option}
 use mathlib.Core.Path.{◌≡◌, refl, sym, ap, ap₂, ◌∙◌, subst}
 use mathlib.Core.Bool.{true}
 use mathlib.Core.List.{List}
@@ -16,16 +17,14 @@ use Rattle.base.specs.If.{if_b}
 use Rattle.base.proofs.Ifs.{if_true, if_false, if_case}
 use Rattle.base.specs.Part.{part}
 use Rattle.base.proofs.Parts.{part_within}
-use Rattle.block.specs.Unit.{segment, unit_of, length_of}
-use Rattle.block.specs.declared.Unit.TheVariants.{Of}
+use Rattle.block.specs.Unit.{segment, unit_of, length_of, one_unit}
 use Rattle.block.proofs.Places.{head_at}
 use Rattle.block.proofs.Lengths.{unit_segment, segment_of_lem, segment_least, segment_first, segment_fits}
-use Rattle.content.specs.Walk.{moved, left_of, is_inside, taken, unit_here, unit_next, or_next, unit_from}
+use Rattle.content.specs.Walk.{moved, left_of, is_inside, taken, unit_here, unit_next, or_next, unit_from, taken_at}
 use Rattle.content.specs.Code.Heads.{Inside, segment_in, turn_in, begun_in, BegunAt}
 use Rattle.content.specs.Whole.{at_block, stands_at}
 use Rattle.content.specs.declared.Walk.{Walk}
 use Rattle.content.specs.declared.unit.Taken.{Taken}
-use Rattle.content.specs.declared.unit.Taken.TheVariants.{One}
 use Rattle.content.proofs.Units.{inside_not, inside_left, inside_true, inside_is, unit_at}
 use Rattle.content.proofs.Wholes.{end_fits, end_within, leads, none_left}
 
@@ -73,8 +72,8 @@ pub ruleset segment_numbers =
 pub record SegmentAt (s : List ℕ) (b : ℕ) (v : Walk) (k : ℕ) : Type 0 where
   pub none : b ≡ 0
   pub inside : Inside s v
-  pub is : unit_of v.format v.record_length (left_of s v) ≡ Of (get_or s v.at 0 - 48) 5 (k - 5)
-  pub unit : unit_here s v ≡ One (get_or s v.at 0 - 48) (v.at + 5) (k - 5) (moved v (v.at + k) (v.left - k))
+  pub is : unit_of v.format v.record_length (left_of s v) ≡ one_unit (get_or s v.at 0 - 48) 5 (k - 5)
+  pub unit : unit_here s v ≡ taken_at (get_or s v.at 0 - 48) (v.at + 5) (k - 5) (moved v (v.at + k) (v.left - k))
   pub least : 5 ≤ k
   pub left : k ≤ v.left
   pub digit : 48 ≤ get_or s v.at 0
@@ -85,7 +84,7 @@ segment_by : (s : List ℕ) (b : ℕ) (v : Walk) (k : ℕ) → b ≡ 0 → v.for
 unfolding unit_here taken left_of part
 segment_by s b v k none f inside e z =
     let l : List ℕ = take v.left (drop v.at s) in
-    let is : unit_of v.format v.record_length l ≡ Of (get_or l 0 0 - 48) 5 (k - 5) = unit_segment v.format v.record_length l f ∙ sym (segment_of_lem l 0 k e z) in
+    let is : unit_of v.format v.record_length l ≡ one_unit (get_or l 0 0 - 48) 5 (k - 5) = unit_segment v.format v.record_length l f ∙ sym (segment_of_lem l 0 k e z) in
     let m : 5 ≤ k = segment_least l 0 k e z in
     let u = unit_at s v (get_or l 0 0 - 48) 5 (k - 5) is in
     let r : 5 + (k - 5) ≤ v.left = u.left in
@@ -96,10 +95,10 @@ segment_by s b v k none f inside e z =
     record {
       none = none;
       inside = inside;
-      is = is ∙ ap (λ (d : ℕ). Of (d - 48) 5 (k - 5)) head;
+      is = is ∙ ap (λ (d : ℕ). one_unit (d - 48) 5 (k - 5)) head;
       unit = ap (taken v) is
-          ∙ ap₂ (λ (i j : ℕ). One (get_or l 0 0 - 48) (v.at + 5) (k - 5) (moved v i (v.left - j))) a c
-          ∙ ap (λ (d : ℕ). One (d - 48) (v.at + 5) (k - 5) (moved v (v.at + k) (v.left - k))) head;
+          ∙ ap₂ (λ (i j : ℕ). taken_at (get_or l 0 0 - 48) (v.at + 5) (k - 5) (moved v i (v.left - j))) a c
+          ∙ ap (λ (d : ℕ). taken_at (d - 48) (v.at + 5) (k - 5) (moved v (v.at + k) (v.left - k))) head;
       least = m;
       left = omega arith;
       digit = omega arith;
@@ -133,12 +132,12 @@ segment_stands s b v k e z = standing_segment s b v k (e ∙ no_size s b v 0) z
 
 pub next_segment_lem : (s : List ℕ) (w v u : Walk) (k : ℕ) → v ≡ at_block s w
     → k ≡ segment_in s w.left (stands_at v.format 0 v.at v.left) → (k ≡ 0 → ⊥)
-    → u ≡ moved v (v.at + k) (v.left - k) → One (get_or s v.at 0 - 48) (v.at + 5) (k - 5) u ≡ unit_next s w
+    → u ≡ moved v (v.at + k) (v.left - k) → taken_at (get_or s v.at 0 - 48) (v.at + 5) (k - 5) u ≡ unit_next s w
 unfolding unit_from or_next
 next_segment_lem s w v u k e m z q =
     let c = segment_stands s w.left v k m z in
-    ap (One (get_or s v.at 0 - 48) (v.at + 5) (k - 5)) q ∙ sym ((leads s w v e).unit _ _ _ _ c.unit)
-    ∙ ap (λ (t : Taken). or_next t (unit_next s w)) (none_left s w c.none)
+    ap (taken_at (get_or s v.at 0 - 48) (v.at + 5) (k - 5)) q ∙ sym ((leads s w v e).unit _ _ _ _ c.unit)
+    ∙ ap (λ (t : Option Taken). or_next t (unit_next s w)) (none_left s w c.none)
 
 -- over the walk's numbers
 stands_at_lem : (s : List ℕ) (b f at left k : ℕ) → k ≡ segment_in s b (stands_at f 0 at left) → (k ≡ 0 → ⊥)

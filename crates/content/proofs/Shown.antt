@@ -1,5 +1,6 @@
 -- An image item by item: laws of what stands at a place, and that the items of an accepted set are met with the kinds by which it
 -- was checked. Assumes nothing.
+use Rattle.std.specs.Prelude.{Some, None, Option}
 use mathlib.Core.Path.{◌≡◌, refl, sym, ap, ◌∙◌, subst}
 use mathlib.Core.Bool.{Bool, true, false}
 use mathlib.Core.List.{List, ◌∷◌}
@@ -21,17 +22,15 @@ use Rattle.order.specs.Group.{among_labels, among_data, group_after}
 use Rattle.order.specs.declared.Kind.{Kind}
 use Rattle.order.specs.declared.Phase.{Phase}
 use Rattle.order.specs.declared.Phase.TheVariants.{Data}
-use Rattle.order.specs.declared.Due.TheVariants.{To, Wrong}
 use Rattle.order.proofs.Phases.{group_of}
 use Rattle.order.proofs.Groups.{due_group, data_group}
 use Rattle.volume.specs.State.{State, start}
 use Rattle.volume.specs.Step.{is_due, kind_in, bytes_in, state_after}
 use Rattle.volume.proofs.Reels.{broken_undue}
 use Rattle.volume.specs.Accepted.{state_behind, All, MayEnd, Accepted}
-use Rattle.content.specs.Items.{seen_by, seen_at, torn, item_of, rest_at, item_by, item_at, Told, Met}
+use Rattle.content.specs.Items.{seen_by, seen_at, torn, item_of, rest_at, item_by, item_at, Told, Met, seen}
 use Rattle.content.specs.Code.Seen.{seen_in}
 use Rattle.content.specs.declared.items.Seen.{Seen}
-use Rattle.content.specs.declared.items.Seen.TheVariants.{Item as Of, Nothing}
 use Rattle.content.specs.declared.items.ItemAt.{ItemAt}
 use Rattle.content.proofs.Places.{sees, unseen, item_start, item_room, by_place}
 
@@ -51,13 +50,13 @@ pub rest_torn : (s : List ℕ) (g at : ℕ) (r : ItemAt) → r ≡ item_of g tor
 unfolding rest_at
 rest_torn s g at r e h = e ∙ sym (if_false _ _ _ (lt-leb (length s) at h))
 
-pub at_item : (s : List ℕ) (at g n : ℕ) (datum : Bool) (x : Seen) (k : Kind) (r : ItemAt) → datum ≡ eqb g among_data
-    → x ≡ seen_at s at datum → x ≡ Of k n → r ≡ item_of g k (at + 3) n → r ≡ item_at s at g
+pub at_item : (s : List ℕ) (at g : ℕ) (datum : Bool) (x : Option Seen) (item : Seen) (r : ItemAt) → datum ≡ eqb g among_data
+    → x ≡ seen_at s at datum → x ≡ Some item → r ≡ item_of g item.kind (at + 3) item.len → r ≡ item_at s at g
 unfolding item_at item_by
-at_item s at g n datum x k r d e q f = f ∙ ap (item_by s g at) (sym q ∙ e ∙ ap (seen_at s at) d)
+at_item s at g datum x item r d e q f = f ∙ ap (item_by s g at) (sym q ∙ e ∙ ap (seen_at s at) d)
 
-pub at_nothing : (s : List ℕ) (at g : ℕ) (datum : Bool) (x : Seen) (r : ItemAt) → datum ≡ eqb g among_data → x ≡ seen_at s at datum
-    → x ≡ Nothing → r ≡ rest_at s g at → r ≡ item_at s at g
+pub at_nothing : (s : List ℕ) (at g : ℕ) (datum : Bool) (x : Option Seen) (r : ItemAt) → datum ≡ eqb g among_data → x ≡ seen_at s at datum
+    → x ≡ None → r ≡ rest_at s g at → r ≡ item_at s at g
 unfolding item_at item_by
 at_nothing s at g datum x r d e q f = f ∙ ap (item_by s g at) (sym q ∙ e ∙ ap (seen_at s at) d)
 
@@ -72,7 +71,7 @@ item_in s at g p e =
     ap (λ (b : Bool). item_by s g at (seen_at s at b))
     (ap (λ (j : ℕ). eqb j among_data) e ∙ sym (ap is_due (data_group p) ∙ due_so (eqb (group_of p) among_data)))
   where
-    due_so : (b : Bool) → is_due (if_b b (To Data) Wrong) ≡ b
+    due_so : (b : Bool) → is_due (if_b b (Some Data) None) ≡ b
     due_so true = refl
     due_so false = refl
 
@@ -115,15 +114,15 @@ met s = by_place s P each
         Goal : List Item → Type 0
         Goal xs = All MayEnd st xs → Met (item_at s) s at g st xs
 
-        by_seen : (y : Seen) → y ≡ seen_in s st.phase at → Goal (decode (drop at s))
-        by_seen Nothing h =
-            unseen s st.phase at Nothing h refl Goal (λ past _. met_end s at g past)
+        by_seen : (y : Option Seen) → y ≡ seen_in s st.phase at → Goal (decode (drop at s))
+        by_seen None h =
+            unseen s st.phase at None h refl Goal (λ past _. met_end s at g past)
             (λ (p, f, _). absurd (broken_undue st.phase p f.due))
-        by_seen (Of k n) h =
-            let c = sees s st.phase at n k (Of k n) h refl in
+        by_seen (Some u) h =
+            let c = sees s st.phase at u.len u.kind (seen u.kind u.len) h refl in
             subst Goal (sym c.here)
-            (told s at g n st c.item (decode (drop (at + 3 + n) s)) k e (sym c.kind) (sym c.bytes)
-            (λ p. again (at + 3 + n) (omega arith) c.within (group_after g k) (state_behind st c.item p))
+            (told s at g u.len st c.item (decode (drop (at + 3 + u.len) s)) u.kind e (sym c.kind) (sym c.bytes)
+            (λ p. again (at + 3 + u.len) (omega arith) c.within (group_after g u.kind) (state_behind st c.item p))
             (item_in s at g st.phase e ∙ ap (item_by s g at) (sym h)))
 
 -- the items of an accepted set are met from its first place on, with the kinds by which it was checked

@@ -1,5 +1,6 @@
 -- The record that stands whole in the current block, or at the head of the next, is the record at the walk's place. Assumes
 -- nothing.
+use Rattle.std.specs.Prelude.{Option, Some, None}
 use mathlib.Core.Path.{◌≡◌, refl, sym, ap, ap₂, ◌∙◌, subst}
 use mathlib.Core.Bool.{true, false}
 use mathlib.Core.List.{List}
@@ -21,16 +22,14 @@ use Rattle.image.proofs.Items.{block_within}
 use Rattle.order.specs.declared.Phase.TheVariants.{Data}
 use Rattle.block.specs.Unit.{unit_of, pad, word_of, whole_of}
 use Rattle.block.specs.declared.Unit.{Unit}
-use Rattle.block.specs.declared.Unit.TheVariants.{Of, None}
 use Rattle.block.proofs.Wholes.{whole_unit}
 use Rattle.content.specs.Section.{data_from}
-use Rattle.content.specs.Walk.{moved, left_of, is_inside, taken, unit_here, opened, block_next, unit_in, unit_next, or_next, unit_from, whole, record_at}
+use Rattle.content.specs.Walk.{moved, left_of, is_inside, taken, unit_here, opened, block_next, unit_in, unit_next, or_next, unit_from, whole, record_at, taken_at}
 use Rattle.content.specs.Code.Heads.{Inside, whole_at}
 use Rattle.content.specs.Whole.{head_by, at_block, stands_at, whole_in}
 use Rattle.content.specs.Measure.{measured_by}
 use Rattle.content.specs.declared.Walk.{Walk}
 use Rattle.content.specs.declared.unit.Taken.{Taken}
-use Rattle.content.specs.declared.unit.Taken.TheVariants.{One, Nothing}
 use Rattle.content.specs.declared.measuring.Measured.TheVariants.{Whole}
 use Rattle.content.proofs.Places.{start_fits}
 use Rattle.content.proofs.Sections.{data_first}
@@ -126,7 +125,7 @@ pub ruleset numbers = (whole_no_size, whole_past, whole_outside, whole_no_format
 pub record Standing (s : List ℕ) (v : Walk) (k : ℕ) : Type 0 where
   pub some : v.record_length ≡ 0 → ⊥
   pub inside : Inside s v
-  pub unit : unit_here s v ≡ One 0 (v.at + word_of v.format) (k - word_of v.format) (moved v (v.at + k) (v.left - k))
+  pub unit : unit_here s v ≡ taken_at 0 (v.at + word_of v.format) (k - word_of v.format) (moved v (v.at + k) (v.left - k))
   pub least : word_of v.format ≤ k
   pub short : k - word_of v.format ≤ v.record_length
   pub left : k ≤ v.left
@@ -146,7 +145,7 @@ standing_by s v k some inside e z =
       some = some;
       inside = inside;
       unit = ap (taken v) c.is
-          ∙ ap₂ (λ (i j : ℕ). One 0 (v.at + word_of v.format) (k - word_of v.format) (moved v i (v.left - j))) a b;
+          ∙ ap₂ (λ (i j : ℕ). taken_at 0 (v.at + word_of v.format) (k - word_of v.format) (moved v i (v.left - j))) a b;
       least = m;
       short = c.short;
       left = omega arith;
@@ -172,7 +171,7 @@ pub record WholeLeads (s : List ℕ) (w v : Walk) : Type 0 where
   pub record_length : v.record_length ≡ w.record_length
   pub offset : v.offset ≡ w.offset
   pub inside : Inside s v → Inside s w
-  pub unit : (i start n : ℕ) (u : Walk) → unit_here s v ≡ One i start n u → unit_from s w ≡ One i start n u
+  pub unit : (i start n : ℕ) (u : Walk) → unit_here s v ≡ taken_at i start n u → unit_from s w ≡ taken_at i start n u
 
 leads_self : (s : List ℕ) (w : Walk) → WholeLeads s w w
 unfolding unit_from or_next
@@ -183,16 +182,16 @@ leads_self s w =
       offset = refl;
       inside = λ h. h;
       unit = λ i start n u e. ap
-          (λ (t : Taken). or_next t (unit_next s w)) e;
+          (λ (t : Option Taken). or_next t (unit_next s w)) e;
     }
 
-pub none_left : (s : List ℕ) (w : Walk) → w.left ≡ 0 → unit_here s w ≡ Nothing
+pub none_left : (s : List ℕ) (w : Walk) → w.left ≡ 0 → unit_here s w ≡ None
 unfolding unit_here taken
 none_left s w h = by_unit (unit_of w.format w.record_length (left_of s w)) refl
   where
-    by_unit : (u : Unit) → unit_of w.format w.record_length (left_of s w) ≡ u → taken w u ≡ Nothing
-    by_unit (Of i c n) e =
-        let k = unit_at s w i c n e in
+    by_unit : (u : Option Unit) → unit_of w.format w.record_length (left_of s w) ≡ u → taken w u ≡ None
+    by_unit (Some u) e =
+        let k = unit_at s w u.indicator u.word u.len e in
         let a = k.some in
         let b = k.left in
         absurd (omega arith)
@@ -210,7 +209,7 @@ leads_block s w n h e k =
       offset = refl;
       inside = λ _. omega arith;
       unit = λ i start m u q.
-          ap₂ (λ (t v : Taken). or_next t v) (none_left s w h)
+          ap₂ (λ (t v : Option Taken). or_next t v) (none_left s w h)
           (ap (unit_in s)
           (if_true _ _ _ (ap (λ (j : ℕ). all_are pad (take j (drop w.at s))) h)
           ∙ ap (λ (j : ℕ). opened w (data_from Data j (decode (drop j s)))) here
@@ -242,7 +241,7 @@ record_whole s w v k e m z =
     let q = l.record_length in
     let some = c.some in
     let short = c.short in
-    is_whole_lem s w 0 _ _ _ (unit_from s w) (record { some = λ h. some (q ∙ h); inside = inside_is s w (l.inside c.inside) }) refl
+    is_whole_lem s w _ (unit_from s w) (record { some = λ h. some (q ∙ h); inside = inside_is s w (l.inside c.inside) }) refl
     (l.unit _ _ _ _ c.unit) (omega arith) refl
 
 -- ---- as the code finds it
@@ -250,10 +249,10 @@ record_whole s w v k e m z =
 -- a number that is not 0 measures the record
 pub measured_whole : (s : List ℕ) (w v u : Walk) (k c : ℕ) → v ≡ at_block s w → k ≡ whole_at s v → (k ≡ 0 → ⊥)
     → c ≡ word_of v.format
-    → u ≡ moved v (v.at + k) (v.left - k) → Whole (v.at + c) (k - c) u ≡ measured_by (record_at s w)
+    → u ≡ moved v (v.at + k) (v.left - k) → Some (Whole (v.at + c) (k - c) u) ≡ measured_by (record_at s w)
 unfolding measured_by
 measured_whole s w v u k c e m z p q =
-    ap (Whole (v.at + c) (k - c)) q ∙ ap (λ (j : ℕ). Whole (v.at + j) (k - j) (moved v (v.at + k) (v.left - k))) p
+    ap (λ (x : Walk). Some (Whole (v.at + c) (k - c) x)) q ∙ ap (λ (j : ℕ). Some (Whole (v.at + j) (k - j) (moved v (v.at + k) (v.left - k)))) p
     ∙ sym (ap measured_by (record_whole s w v k e m z))
 
 -- it counts the control word

@@ -3,7 +3,7 @@
 -- Document 02, P13: a total is the sum of the numbers that the definitions give.
 -- `held_f` counts down a number that is large enough; `held_block` and `held_over` (proofs/Helds.antt) are the equations of
 -- `held_from`.
-use Rattle.std.specs.Prelude.{List, ℕ, zero, suc, ◌+◌, ◌<◌, length, drop}
+use Rattle.std.specs.Prelude.{List, ℕ, zero, suc, ◌+◌, ◌<◌, length, drop, Option, Some, None}
 use Rattle.base.specs.Part.{part}
 use Rattle.image.specs.Item.{decode}
 use Rattle.order.specs.declared.Phase.TheVariants.{Data}
@@ -13,7 +13,6 @@ use Rattle.content.specs.Section.{data_from}
 use Rattle.content.specs.declared.Walk.{Walk}
 use Rattle.content.specs.declared.holding.FileHeld.{FileHeld}
 use Rattle.content.specs.declared.section.Extent.{Extent}
-use Rattle.content.specs.declared.section.Extent.TheVariants.{At, Nowhere}
 
 -- two parts of a file together
 abbrev pub plus : Held → Held → Held
@@ -36,9 +35,9 @@ abbrev pub adding : Held → FileHeld → FileHeld
 adding h x = record { held = plus h x.held; end = x.end }
 
 -- a data block, and what is found behind it; without one the data ends at place `at`
-unfoldable pub held_by : List ℕ → ℕ → ℕ → ℕ → ℕ → Extent → (ℕ → FileHeld) → FileHeld
-held_by s f r o at (At start n) rest = adding (held_in f r o (part start n s)) (rest (start + n))
-held_by s f r o at Nowhere rest = record { held = empty; end = at }
+unfoldable pub held_by : List ℕ → ℕ → ℕ → ℕ → ℕ → Option Extent → (ℕ → FileHeld) → FileHeld
+held_by s f r o at (Some u) rest = adding (held_in f r o (part u.start u.len s)) (rest (u.start + u.len))
+held_by s f r o at None rest = record { held = empty; end = at }
 
 unfoldable pub held_f : ℕ → List ℕ → ℕ → ℕ → ℕ → ℕ → FileHeld
 held_f zero s f r o at = record { held = empty; end = at }

@@ -1,7 +1,7 @@
 -- An image item by item, for whoever shows or lists it: what stands at a place, whatever stood before it, accepted or not. Of an
 -- accepted set these are its items, with the kinds by which it was checked (`Met` below; `items_met` in proofs/Shown.antt).
 -- The first item stands at place 5 among labels; the next one behind it, in the group that the answer names.
-use Rattle.std.specs.Prelude.{◌≡◌, Bool, List, [], ◌∷◌, ℕ, ◌+◌, ◌-◌, eqb, leb, length, drop}
+use Rattle.std.specs.Prelude.{◌≡◌, Bool, List, [], ◌∷◌, ℕ, ◌+◌, ◌-◌, eqb, leb, length, drop, Option, Some, None}
 use Rattle.base.specs.If.{if_b}
 use Rattle.base.specs.Part.{part}
 use Rattle.image.specs.Item.{Item, shape}
@@ -16,17 +16,20 @@ use Rattle.volume.specs.State.{State}
 use Rattle.volume.specs.Step.{kind_in, bytes_in}
 use Rattle.volume.specs.Accepted.{Faultless, state_behind}
 use Rattle.content.specs.declared.items.Seen.{Seen}
-use Rattle.content.specs.declared.items.Seen.TheVariants.{Item as Of, Nothing}
 use Rattle.content.specs.declared.items.ItemAt.{ItemAt}
 
--- what stands at a place, where a block is data or else a label: a kind of item and the number of its bytes
-unfoldable pub seen_by : List ℕ → ℕ → Bool → Shape → Seen
-seen_by s at datum (Block n) = Of (if_b datum data_block (kind_of (part (at + 3) n s))) n
-seen_by s at datum Mark = Of tape_mark 0
-seen_by s at datum ReelEnd = Of end_of_reel 0
-seen_by s at datum Broken = Nothing
+-- an item of that kind and n bytes
+abbrev pub seen : Kind → ℕ → Option Seen
+seen k n = Some (record { kind = k; len = n })
 
-unfoldable pub seen_at : List ℕ → ℕ → Bool → Seen
+-- what stands at a place, where a block is data or else a label: a kind of item and the number of its bytes
+unfoldable pub seen_by : List ℕ → ℕ → Bool → Shape → Option Seen
+seen_by s at datum (Block n) = seen (if_b datum data_block (kind_of (part (at + 3) n s))) n
+seen_by s at datum Mark = seen tape_mark 0
+seen_by s at datum ReelEnd = seen end_of_reel 0
+seen_by s at datum Broken = None
+
+unfoldable pub seen_at : List ℕ → ℕ → Bool → Option Seen
 seen_at s at datum = seen_by s at datum (shape (drop at s))
 
 -- no item: its length is none, or the image ends within it
@@ -42,9 +45,9 @@ item_of g k start n =
 unfoldable pub rest_at : List ℕ → ℕ → ℕ → ItemAt
 rest_at s g at = if_b (leb (length s) at) (item_of g end_of_image at 0) (item_of g torn at (length s - at))
 
-unfoldable pub item_by : List ℕ → ℕ → ℕ → Seen → ItemAt
-item_by s g at (Of k n) = item_of g k (at + 3) n
-item_by s g at Nothing = rest_at s g at
+unfoldable pub item_by : List ℕ → ℕ → ℕ → Option Seen → ItemAt
+item_by s g at (Some u) = item_of g u.kind (at + 3) u.len
+item_by s g at None = rest_at s g at
 
 -- what stands at a place, in a group: among data blocks a block is data
 unfoldable pub item_at : List ℕ → ℕ → ℕ → ItemAt

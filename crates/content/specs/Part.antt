@@ -3,7 +3,8 @@
 -- Whatever the bytes are, accepted or not, a file begins at an HDR2 where none goes on.
 -- Read first: `parts_from`, all parts from a place on; files, sections, blocks and so records are found by the first of them that
 -- is wanted.
-use Rattle.std.specs.Prelude.{Bool, true, false, not, List, [], ◌∷◌, map, ℕ, ◌+◌, length, drop}
+use Rattle.std.specs.Prelude.{Bool, true, false, not, List, [], ◌∷◌, map, ℕ, ◌+◌, length, drop, Option, Some, None}
+use Rattle.content.specs.declared.part.Part.{Part}
 use Rattle.base.specs.If.{if_b}
 use Rattle.image.specs.Item.{Item, decode}
 use Rattle.order.specs.Kind.{hdr, eov, eof, data_block, is_kind}
@@ -11,12 +12,9 @@ use Rattle.order.specs.Due.{due_after}
 use Rattle.order.specs.declared.Kind.{Kind}
 use Rattle.order.specs.declared.Phase.{Phase}
 use Rattle.order.specs.declared.Phase.TheVariants.{Header}
-use Rattle.order.specs.declared.Due.{Due}
-use Rattle.order.specs.declared.Due.TheVariants.{To, Wrong}
 use Rattle.volume.specs.Step.{kind_in, bytes_in}
 use Rattle.content.specs.declared.part.Position.{Position}
-use Rattle.content.specs.declared.part.Part.{Part}
-use Rattle.content.specs.declared.part.Part.TheVariants.{File, Section, Block, None}
+use Rattle.content.specs.declared.part.Part.TheVariants.{File, Section, Block}
 use Rattle.content.specs.declared.part.PartAt.{PartAt}
 
 -- ---- an item at a place
@@ -30,8 +28,8 @@ unfoldable pub begins_file : Bool → Kind → Bool
 begins_file continues k = if_b (is_kind k (hdr 2)) (not continues) false
 
 -- where an item leads: one that begins a file right behind its HDR2, any other where it is due
-unfoldable pub led_to : Bool → Phase → Kind → Due
-led_to continues p k = if_b (begins_file continues k) (To (Header 2)) (due_after p k)
+unfoldable pub led_to : Bool → Phase → Kind → Option Phase
+led_to continues p k = if_b (begins_file continues k) (Some (Header 2)) (due_after p k)
 
 -- whether the next HDR1 goes on with a file
 unfoldable pub continues_behind : Bool → Kind → Bool
@@ -52,21 +50,19 @@ after c k n q =
     }
 
 -- which part an item of kind k is, with its n bytes from `start` on, or none
-unfoldable pub part_in : Bool → ℕ → ℕ → ℕ → Kind → Part
+unfoldable pub part_in : Bool → ℕ → ℕ → ℕ → Kind → Option Part
 part_in continues hdr1 start n k =
-    if_b (is_kind k data_block) (Block start n) (if_b (is_kind k (hdr 2)) (if_b continues (Section hdr1 start) (File hdr1 start)) None)
+    if_b (is_kind k data_block) (Some (Block start n)) (if_b (is_kind k (hdr 2)) (if_b continues (Some (Section hdr1 start)) (Some (File hdr1 start))) None)
 
 -- ---- all parts
 
-unfoldable pub onto : Part → Position → List PartAt → List PartAt
-onto (File a b) c ps = record { part = File a b; behind = c } ∷ ps
-onto (Section a b) c ps = record { part = Section a b; behind = c } ∷ ps
-onto (Block a n) c ps = record { part = Block a n; behind = c } ∷ ps
+unfoldable pub onto : Option Part → Position → List PartAt → List PartAt
+onto (Some p) c ps = record { part = Some p; behind = c } ∷ ps
 onto None c ps = ps
 
-unfoldable pub parts_by : Due → (Phase → List PartAt) → List PartAt
-parts_by (To q) rest = rest q
-parts_by Wrong rest = []
+unfoldable pub parts_by : Option Phase → (Phase → List PartAt) → List PartAt
+parts_by (Some q) rest = rest q
+parts_by None rest = []
 
 -- the parts from a place on, each with the place behind it
 unfoldable pub parts_from : Position → List Item → List PartAt
@@ -83,20 +79,20 @@ abbrev pub parts_at : List ℕ → Position → List PartAt
 parts_at s c = parts_from c (decode (drop c.at s))
 
 -- the parts without their places
-abbrev pub parts : Position → List Item → List Part
+abbrev pub parts : Position → List Item → List (Option Part)
 parts c xs = map (λ (p : PartAt). p.part) (parts_from c xs)
 
 -- ---- the first that is wanted
 
 -- a file always is; sections and blocks where they are asked for
-unfoldable pub is_wanted : Bool → Bool → Part → Bool
-is_wanted sections blocks (File a b) = true
-is_wanted sections blocks (Section a b) = sections
-is_wanted sections blocks (Block a n) = blocks
+unfoldable pub is_wanted : Bool → Bool → Option Part → Bool
+is_wanted sections blocks (Some (File a b)) = true
+is_wanted sections blocks (Some (Section a b)) = sections
+is_wanted sections blocks (Some (Block a n)) = blocks
 is_wanted sections blocks None = false
 
 -- the first such part, or none
-unfoldable pub first_in : Bool → Bool → List Part → Part
+unfoldable pub first_in : Bool → Bool → List (Option Part) → Option Part
 first_in sections blocks [] = None
 first_in sections blocks (p ∷ ps) = if_b (is_wanted sections blocks p) p (first_in sections blocks ps)
 

@@ -1,10 +1,9 @@
 -- StepRow taken one after the other, as long as each hands out a part of the image. A record that has to be joined, and the
 -- refusal behind the last record, are left to a single step: from the walk behind these it gives what it gives.
-use Rattle.std.specs.Prelude.{List, [], ◌∷◌, ℕ, zero, suc, min, length}
-use Rattle.content.specs.Walk.{step_at}
+use Rattle.std.specs.Prelude.{List, [], ◌∷◌, ℕ, zero, suc, min, length, Ok, Err}
+use Rattle.content.specs.declared.Found.TheVariants.{InImage, Joined}
+use Rattle.content.specs.Walk.{step_at, Step}
 use Rattle.content.specs.declared.Walk.{Walk}
-use Rattle.content.specs.declared.Step.{Step}
-use Rattle.content.specs.declared.Step.TheVariants.{InImage, Joined, Refused}
 use Rattle.content.specs.declared.row.Row.{Row}
 
 -- the places and the lengths of the records, in order, and the walk behind the last of them
@@ -23,9 +22,9 @@ ahead start n x = record { places = start ∷ x.places; lengths = n ∷ x.length
 
 -- a step from w, and others behind it
 unfoldable pub steps_by : Walk → Step → (Walk → StepRow) → StepRow
-steps_by w (InImage start n v) others = ahead start n (others v)
-steps_by w (Joined n v) others = stays w
-steps_by w (Refused k) others = stays w
+steps_by w (Ok (InImage start n, v)) others = ahead start n (others v)
+steps_by w (Ok (Joined n, v)) others = stays w
+steps_by w (Err k) others = stays w
 
 -- at most so many steps, without a buffer to join in
 unfoldable pub steps_at : List ℕ → ℕ → Walk → StepRow

@@ -7,24 +7,19 @@
 -- Read first: `record_at`, the record that stands there: whole, a part of the image; or split, the bytes of its segments; and the
 -- walk behind it.
 -- `rest_at` counts down a number that is large enough; `rest_at` (proofs/Rests.antt) is its equation.
-use Rattle.std.specs.Prelude.{Bool, false, List, ◌++◌, ℕ, zero, suc, ◌+◌, ◌-◌, leb, eqb, length, drop}
+use Rattle.std.specs.Prelude.{Bool, false, List, ◌++◌, ℕ, zero, suc, ◌+◌, ◌-◌, leb, eqb, length, drop, Option, Some, None, Result, Ok, Err}
+use Rattle.content.specs.declared.Found.TheVariants.{InImage, Joined}
+use Rattle.content.specs.declared.Found.{Found}
 use Rattle.base.specs.If.{if_b}
 use Rattle.base.specs.Part.{part, put_at, all_are}
 use Rattle.image.specs.Item.{decode}
 use Rattle.order.specs.declared.Phase.TheVariants.{Data}
 use Rattle.block.specs.Unit.{unit_of, pad}
 use Rattle.block.specs.declared.Unit.{Unit}
-use Rattle.block.specs.declared.Unit.TheVariants.{Of, None}
 use Rattle.content.specs.Section.{data_from}
 use Rattle.content.specs.declared.Walk.{Walk}
-use Rattle.content.specs.declared.Step.{Step}
-use Rattle.content.specs.declared.Step.TheVariants.{InImage, Joined, Refused}
 use Rattle.content.specs.declared.section.Extent.{Extent}
-use Rattle.content.specs.declared.section.Extent.TheVariants.{At as Block, Nowhere}
-use Rattle.content.specs.declared.unit.Place.{Place}
-use Rattle.content.specs.declared.unit.Place.TheVariants.{At, Nowhere as Off}
 use Rattle.content.specs.declared.unit.Taken.{Taken}
-use Rattle.content.specs.declared.unit.Taken.TheVariants.{One, Nothing}
 
 -- the walk at another place, with so many bytes left there
 abbrev pub moved : Walk → ℕ → ℕ → Walk
@@ -39,47 +34,51 @@ is_inside s w = if_b (leb w.at (length s)) (leb w.left (length s - w.at)) false
 
 -- ---- units
 
+-- a unit with indicator i, whose n bytes stand from `start` on, and the walk behind it
+abbrev pub taken_at : ℕ → ℕ → ℕ → Walk → Option Taken
+taken_at i start n v = Some (record { indicator = i; start = start; len = n; behind = v })
+
 -- a unit at the head of what is left: its indicator, where its record or segment starts and how long it is, and the walk behind
 -- it
-unfoldable pub taken : Walk → Unit → Taken
-taken w (Of i c n) = One i (w.at + c) n (moved w (w.at + c + n) (w.left - (c + n)))
-taken w None = Nothing
+unfoldable pub taken : Walk → Option Unit → Option Taken
+taken w (Some u) = taken_at u.indicator (w.at + u.word) u.len (moved w (w.at + u.word + u.len) (w.left - (u.word + u.len)))
+taken w None = None
 
-unfoldable pub unit_here : List ℕ → Walk → Taken
+unfoldable pub unit_here : List ℕ → Walk → Option Taken
 unit_here s w = taken w (unit_of w.format w.record_length (left_of s w))
 
 -- a data block, with its offset bytes skipped
-unfoldable pub opened : Walk → Extent → Place
-opened w (Block start n) = if_b (leb w.offset n) (At (moved w (start + w.offset) (n - w.offset))) Off
-opened w Nowhere = Off
+unfoldable pub opened : Walk → Option Extent → Option Walk
+opened w (Some u) = if_b (leb w.offset u.len) (Some (moved w (u.start + w.offset) (u.len - w.offset))) None
+opened w None = None
 
 -- the next data block, where only padding is left of the current one
-unfoldable pub block_next : List ℕ → Walk → Place
+unfoldable pub block_next : List ℕ → Walk → Option Walk
 block_next s w =
-    if_b (all_are pad (left_of s w)) (opened w (data_from Data (w.at + w.left) (decode (drop (w.at + w.left) s)))) Off
+    if_b (all_are pad (left_of s w)) (opened w (data_from Data (w.at + w.left) (decode (drop (w.at + w.left) s)))) None
 
-unfoldable pub unit_in : List ℕ → Place → Taken
-unit_in s (At v) = unit_here s v
-unit_in s Off = Nothing
+unfoldable pub unit_in : List ℕ → Option Walk → Option Taken
+unit_in s (Some v) = unit_here s v
+unit_in s None = None
 
 -- the first unit of the next block
-unfoldable pub unit_next : List ℕ → Walk → Taken
+unfoldable pub unit_next : List ℕ → Walk → Option Taken
 unit_next s w = unit_in s (block_next s w)
 
-unfoldable pub or_next : Taken → Taken → Taken
-or_next (One i start n v) t = One i start n v
-or_next Nothing t = t
+unfoldable pub or_next : Option Taken → Option Taken → Option Taken
+or_next (Some u) t = Some u
+or_next None t = t
 
 -- the unit at the walk's place, be it in the current block or the next
-unfoldable pub unit_from : List ℕ → Walk → Taken
+unfoldable pub unit_from : List ℕ → Walk → Option Taken
 unit_from s w = or_next (unit_here s w) (unit_next s w)
 
 -- the first segment of the record at a walk's place, and the segment with which a record goes on, from any walk whatever
-unfoldable pub first_segment : List ℕ → Walk → Taken
-first_segment s w = if_b (is_inside s w) (unit_from s w) Nothing
+unfoldable pub first_segment : List ℕ → Walk → Option Taken
+first_segment s w = if_b (is_inside s w) (unit_from s w) None
 
-unfoldable pub next_segment : List ℕ → Walk → Taken
-next_segment s w = if_b (is_inside s w) (unit_next s w) Nothing
+unfoldable pub next_segment : List ℕ → Walk → Option Taken
+next_segment s w = if_b (is_inside s w) (unit_next s w) None
 
 -- ---- records
 
@@ -94,11 +93,11 @@ before bs (ends cs v) = ends (bs ++ cs) v
 before bs fails = fails
 
 -- a unit that goes on with the record, which may have `room` bytes more: 2 goes on, 3 ends it
-unfoldable pub rest_by : List ℕ → ℕ → Taken → (ℕ → Walk → Rest) → Rest
-rest_by s room (One i start n v) rest =
-    if_b (leb n room) (if_b (eqb i 3) (ends (part start n s) v)
-    (if_b (eqb i 2) (before (part start n s) (rest (room - n) v)) fails)) fails
-rest_by s room Nothing rest = fails
+unfoldable pub rest_by : List ℕ → ℕ → Option Taken → (ℕ → Walk → Rest) → Rest
+rest_by s room (Some u) rest =
+    if_b (leb u.len room) (if_b (eqb u.indicator 3) (ends (part u.start u.len s) u.behind)
+    (if_b (eqb u.indicator 2) (before (part u.start u.len s) (rest (room - u.len) u.behind)) fails)) fails
+rest_by s room None rest = fails
 
 unfoldable pub rest_f : ℕ → List ℕ → ℕ → Walk → Rest
 rest_f zero s room w = fails
@@ -119,11 +118,11 @@ split_by bs (ends cs v) = split (bs ++ cs) v
 split_by bs fails = nothing
 
 -- the record that a unit begins, of at most r bytes: 0 is a whole one, 1 begins one
-unfoldable pub begun_by : List ℕ → ℕ → Taken → Record
-begun_by s r (One i start n v) =
-    if_b (leb n r) (if_b (eqb i 0) (whole start n v)
-    (if_b (eqb i 1) (split_by (part start n s) (rest_at s (r - n) v)) nothing)) nothing
-begun_by s r Nothing = nothing
+unfoldable pub begun_by : List ℕ → ℕ → Option Taken → Record
+begun_by s r (Some u) =
+    if_b (leb u.len r) (if_b (eqb u.indicator 0) (whole u.start u.len u.behind)
+    (if_b (eqb u.indicator 1) (split_by (part u.start u.len s) (rest_at s (r - u.len) u.behind)) nothing)) nothing
+begun_by s r None = nothing
 
 -- the record at a walk's place; a record length of 0 is no walk's
 unfoldable pub record_at : List ℕ → Walk → Record
@@ -131,11 +130,15 @@ record_at s w = if_b (eqb w.record_length 0) nothing (if_b (is_inside s w) (begu
 
 -- ---- the step
 
+-- a step: the record and the walk behind it, or the refusal
+abbrev pub Step : Type 0
+Step = Result (Found × Walk) ℕ
+
 -- number 10 exactly for a split record that is longer than the joining buffer, of `room` bytes
 unfoldable pub step_by : ℕ → Record → Step
-step_by room (whole start n v) = InImage start n v
-step_by room (split bs v) = if_b (leb (length bs) room) (Joined (length bs) v) (Refused 10)
-step_by room nothing = Refused 13
+step_by room (whole start n v) = Ok (InImage start n, v)
+step_by room (split bs v) = if_b (leb (length bs) room) (Ok (Joined (length bs), v)) (Err 10)
+step_by room nothing = Err 13
 
 -- what the joining buffer holds behind the step: the record's own bytes at its front, where it was joined
 unfoldable pub join_by : List ℕ → Record → List ℕ

@@ -20,9 +20,8 @@ pub fn file_facts(image: &[u8], from: Walk) -> Facts
     let mut records: u64 = 0;
     let mut bytes: u64 = 0;
     let mut w = from;
-    loop {
-        match measure(image, w) {
-            Measured::Nothing => return Facts { records, bytes },
+    while let Some(measured) = measure(image, w) {
+        match measured {
             Measured::Whole(_, n, v) => {
                 records += 1;
                 bytes += n as u64;
@@ -35,4 +34,5 @@ pub fn file_facts(image: &[u8], from: Walk) -> Facts
             }
         }
     }
+    Facts { records, bytes }
 }

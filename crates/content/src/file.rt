@@ -5,7 +5,7 @@ ghost use Rattle.content.specs.File.{mark_from, walk_from, file_at, file_from, f
 ghost use Rattle.content.specs.Numbers.{file_of, Said};
 
 use crate::part::{Part, Position, search};
-use crate::{FileAt, NextFile, Walk};
+use crate::{FileAt, Walk};
 use base::part_of;
 use image::{Shape, shape_at};
 use label::{format_of, offset_length, record_length};
@@ -49,29 +49,22 @@ fn file_at(image: &[u8], hdr1: usize, hdr2: usize) -> FileAt
 {
     let end = hdr2 + 80;
     let walk = walk_from(part_of(image, hdr2, 80), behind_mark(image, end));
-    FileAt {
-        hdr1: hdr1,
-        hdr2: hdr2,
-        walk,
-    }
+    FileAt { hdr1, hdr2, walk }
 }
 
-// The next file to begin from a place on.
-fn file_from(image: &[u8], from: Position) -> NextFile
+// The next file to begin from a place on, if one does.
+fn file_from(image: &[u8], from: Position) -> Option<FileAt>
     ensures { result ≡ file_from image.now from }
 {
     let found = search(image, from, false, false);
-    let part = found.part;
-    match part {
-        Part::File(hdr1, hdr2) => NextFile::At(file_at(image, hdr1, hdr2)),
-        Part::Section(_, _) => NextFile::Nowhere,
-        Part::Block(_, _) => NextFile::Nowhere,
-        Part::None => NextFile::Nowhere,
-    }
+    let Part::File(hdr1, hdr2) = found.part? else {
+        return None;
+    };
+    Some(file_at(image, hdr1, hdr2))
 }
 
-// The first file of an image, whatever its bytes.
-pub fn first_file(image: &[u8]) -> NextFile
+// The first file of an image, if it has one, whatever its bytes.
+pub fn first_file(image: &[u8]) -> Option<FileAt>
     ensures { Said file_of result (first_file image.now) }
 {
     let from = Position {
@@ -85,14 +78,14 @@ pub fn first_file(image: &[u8]) -> NextFile
 
 // The file behind the one with its HDR1 and HDR2 at these places, be they right or forged. Nothing stands behind an HDR2 that
 // runs past the image.
-pub fn next_file(image: &[u8], hdr1: usize, hdr2: usize) -> NextFile
+pub fn next_file(image: &[u8], hdr1: usize, hdr2: usize) -> Option<FileAt>
     ensures { Said file_of result (next_file image.now hdr1 hdr2) }
 {
     if image.len() < hdr2 {
-        return NextFile::Nowhere;
+        return None;
     }
     if image.len() - hdr2 < 80 {
-        return NextFile::Nowhere;
+        return None;
     }
     let at = hdr2 + 80;
     let from = Position {
@@ -105,7 +98,7 @@ pub fn next_file(image: &[u8], hdr1: usize, hdr2: usize) -> NextFile
 }
 
 // The file behind the one with its HDR1 at this place, from a place between two items of its data on, be they right or forged.
-pub fn file_behind(image: &[u8], hdr1: usize, at: usize) -> NextFile
+pub fn file_behind(image: &[u8], hdr1: usize, at: usize) -> Option<FileAt>
     ensures { Said file_of result (file_behind image.now hdr1 at) }
 {
     let from = Position {
@@ -117,33 +110,26 @@ pub fn file_behind(image: &[u8], hdr1: usize, at: usize) -> NextFile
     file_from(image, from)
 }
 
-// The file so many files behind one.
-fn files_on(image: &[u8], from: FileAt, files: u64) -> NextFile
+// The file so many files behind one, if there are so many.
+fn files_on(image: &[u8], from: FileAt, files: u64) -> Option<FileAt>
     ensures { result ≡ files_on image.now files from }
 {
     let mut left = files;
     let mut f = from;
     while 0 < left {
-        match next_file(image, f.hdr1, f.hdr2) {
-            NextFile::Nowhere => return NextFile::Nowhere,
-            NextFile::At(g) => {
-                left -= 1;
-                f = g;
-            }
-        }
+        f = next_file(image, f.hdr1, f.hdr2)?;
+        left -= 1;
     }
-    NextFile::At(f)
+    Some(f)
 }
 
-// File n, from 1.
-pub(crate) fn file_numbered(image: &[u8], n: u64) -> NextFile
+// File n, from 1, if there is one.
+pub(crate) fn file_numbered(image: &[u8], n: u64) -> Option<FileAt>
     ensures { result ≡ file_numbered image.now n }
 {
     if n == 0 {
-        return NextFile::Nowhere;
+        return None;
     }
-    match first_file(image) {
-        NextFile::Nowhere => NextFile::Nowhere,
-        NextFile::At(f) => files_on(image, f, n - 1),
-    }
+    let first = first_file(image)?;
+    files_on(image, first, n - 1)
 }

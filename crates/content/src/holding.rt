@@ -3,7 +3,7 @@ ghost use Rattle.std.specs.Prelude.{◌≡◌};
 ghost use Rattle.content.specs.Held.{plus, InRegister, file_held};
 
 use crate::Walk;
-use crate::section::{Extent, next_data};
+use crate::section::next_data;
 use block::{Held, block_held, empty};
 
 // What the data blocks of a file hold together, and the place behind the last of them.
@@ -33,15 +33,12 @@ pub fn file_held(image: &[u8], w: Walk) -> FileHeld
 {
     let mut held = empty();
     let mut at = w.at;
-    loop {
-        match next_data(image, at) {
-            Extent::Nowhere => return FileHeld { held, end: at },
-            Extent::At(start, n) => {
-                let end = start + n;
-                let more = block_held(w.format, w.record_length, w.offset, &image[start..end]);
-                held = plus(held, more);
-                at = end;
-            }
-        }
+    while let Some(block) = next_data(image, at) {
+        let start = block.start;
+        let end = start + block.len;
+        let more = block_held(w.format, w.record_length, w.offset, &image[start..end]);
+        held = plus(held, more);
+        at = end;
     }
+    FileHeld { held, end: at }
 }

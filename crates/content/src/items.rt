@@ -10,11 +10,11 @@ use order::{AMONG_DATA, DATA_BLOCK, END_OF_IMAGE, END_OF_REEL, Kind, TAPE_MARK, 
 // The family of what is no item: its length is none, or the image ends within it.
 pub const TORN: u32 = 12;
 
-// What stands at a place: a kind of item and the number of its bytes, or nothing that is an item.
+// What stands at a place: a kind of item, and the number of its bytes.
 #[derive(Clone, Copy)]
-pub enum Seen {
-    Item(Kind, usize),
-    Nothing,
+pub struct Seen {
+    pub kind: Kind,
+    pub len: usize,
 }
 
 // An item: its kind by family and number, the group in which the next one stands, the place and the number of its bytes, and the
@@ -30,29 +30,33 @@ pub struct ItemAt {
     pub behind: usize,
 }
 
-// An item of n bytes, of a family without numbers.
-fn unnumbered(family: u32, n: usize) -> Seen
-    ensures { result ≡ Seen.Item (kind family 0) n }
+// An item of so many bytes, of a family without numbers.
+fn unnumbered(family: u32, len: usize) -> Seen
+    ensures { result ≡ record { kind = kind family 0; len = len } }
 {
-    Seen::Item(Kind { family, number: 0 }, n)
+    Seen {
+        kind: Kind { family, number: 0 },
+        len,
+    }
 }
 
-// What stands at a place, where a block is data or else a label.
-pub(crate) fn seen_at(image: &[u8], at: usize, datum: bool) -> Seen
+// The item at a place, if one stands there, where a block is data or else a label.
+pub(crate) fn seen_at(image: &[u8], at: usize, datum: bool) -> Option<Seen>
     ensures { result ≡ seen_at image.now at datum }
 {
     match shape_at(image, at) {
-        Shape::Block(n) => {
+        Shape::Block(len) => {
             if datum {
-                return unnumbered(DATA_BLOCK, n);
+                return Some(unnumbered(DATA_BLOCK, len));
             }
             let start = at + 3;
-            let end = start + n;
-            Seen::Item(label::kind(&image[start..end]), n)
+            let end = start + len;
+            let kind = label::kind(&image[start..end]);
+            Some(Seen { kind, len })
         }
-        Shape::Mark => unnumbered(TAPE_MARK, 0),
-        Shape::ReelEnd => unnumbered(END_OF_REEL, 0),
-        Shape::Broken => Seen::Nothing,
+        Shape::Mark => Some(unnumbered(TAPE_MARK, 0)),
+        Shape::ReelEnd => Some(unnumbered(END_OF_REEL, 0)),
+        Shape::Broken => None,
     }
 }
 
@@ -94,7 +98,7 @@ pub fn item_at(image: &[u8], at: usize, group: u32) -> ItemAt
     ensures { result ≡ item_at image.now at group }
 {
     match seen_at(image, at, group == AMONG_DATA) {
-        Seen::Item(k, n) => item_of(group, k, at + 3, n),
-        Seen::Nothing => rest_at(image, group, at),
+        Some(seen) => item_of(group, seen.kind, at + 3, seen.len),
+        None => rest_at(image, group, at),
     }
 }

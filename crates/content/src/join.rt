@@ -6,7 +6,7 @@ ghost use Rattle.content.specs.Walk.{record_at};
 ghost use Rattle.content.specs.Code.Joining.{RestFits, bytes_behind, SplitAt, record_bytes};
 
 use crate::Walk;
-use crate::unit::{Taken, unit_from, unit_next};
+use crate::unit::{unit_from, unit_next};
 use base::{part_of, put_in};
 
 // The segments behind the first, copied from a place on.
@@ -16,18 +16,13 @@ fn copy_rest(image: &[u8], from: Walk, join: &mut [u8], place: usize)
 {
     let mut w = from;
     let mut at = place;
-    loop {
-        match unit_next(image, w) {
-            Taken::Nothing => return,
-            Taken::One(i, start, n, v) => {
-                put_in(join, at, part_of(image, start, n));
-                if i == 3 {
-                    return;
-                }
-                at += n;
-                w = v;
-            }
+    while let Some(unit) = unit_next(image, w) {
+        put_in(join, at, part_of(image, unit.start, unit.len));
+        if unit.indicator == 3 {
+            return;
         }
+        at += unit.len;
+        w = unit.behind;
     }
 }
 
@@ -57,8 +52,7 @@ pub(crate) fn join_record(image: &[u8], w: Walk, join: &mut [u8])
     requires { SplitAt image.now w (length join.old) }
     ensures { join.new ≡ put_at join.old 0 (record_bytes (record_at image.now w)) }
 {
-    match unit_from(image, w) {
-        Taken::Nothing => return,
-        Taken::One(_, start, n, v) => join_from(image, start, n, v, join),
+    if let Some(first) = unit_from(image, w) {
+        join_from(image, first.start, first.len, first.behind, join);
     }
 }

@@ -33,14 +33,14 @@ pub use holding::{FileHeld, file_held};
 pub use items::{ItemAt, item_at};
 use join::{join_from, join_record, join_two};
 pub use measuring::{Measured, at_block, measure, measure_far, whole_at};
-use measuring::{Tail, begun_at, measure_units, rest_length, turn_in};
+use measuring::{begun_at, measure_units, rest_length, turn_in};
 use numbers::begun_by;
 pub use numbers::{Beginning, Located, Stepped, beginning_of, file_of, record_of, stepped_of};
 pub use part::{Part, PartAt, Position, next_part};
 pub use row::{Row, steps};
 pub use segment::{first_segment, next_segment};
 pub use unit::Taken;
-use unit::{Place, moved};
+use unit::moved;
 use volume::check;
 
 // A walk over the records of one file: the format, the record length and the offset length of the file, the place of what is left
@@ -55,15 +55,6 @@ pub struct Walk {
     pub left: usize,
 }
 
-// A step of a walk: a record that is a part of the image, by its place and length, or one that was joined into the front of the
-// buffer, by its length, each with the walk behind it; or 13 or 10.
-#[derive(Clone, Copy)]
-pub enum Step {
-    InImage(usize, usize, Walk),
-    Joined(usize, Walk),
-    Refused(u32),
-}
-
 // A file of a set: the places of the first byte of its first HDR1 and HDR2, and the walk at its first record.
 #[derive(Clone, Copy)]
 pub struct FileAt {
@@ -72,32 +63,19 @@ pub struct FileAt {
     pub walk: Walk,
 }
 
-// The next file from a place on, or none.
-#[derive(Clone, Copy)]
-pub enum NextFile {
-    At(FileAt),
-    Nowhere,
-}
-
-// A file by its number, with the walk at its first record, or the refusal.
-#[derive(Clone, Copy)]
-pub enum Begun {
-    At(FileAt),
-    Refused(Verdict),
-}
-
-// Where a record is: a part of the image, by its place and length, or the front of the joining buffer; or the refusal.
+// Where a record is: a part of the image, by its place and length, or the front of the joining buffer.
 #[derive(Clone, Copy)]
 pub enum Found {
     InImage(usize, usize),
     Joined(usize),
-    Refused(Verdict),
 }
 
 impl Walk {
-    // The record at the walk's place: 13 where there is none, 10 where it has several segments and is longer than the buffer.
-    // A record of one unit changes no byte of the buffer, a joined one its own bytes at the front, a refusal none.
-    pub fn step(self, image: &[u8], join: &mut [u8]) -> Step
+    // The refusal stays a number: the page of demands speaks of any step's (demands/specs/Demands.antt).
+    // The record at the walk's place, and the walk behind it: 13 where there is none, 10 where it has several segments and is
+    // longer than the buffer. A record of one unit changes no byte of the buffer, a joined one its own bytes at the front, a
+    // refusal none.
+    pub fn step(self, image: &[u8], join: &mut [u8]) -> Result<(Found, Walk), u32>
         ensures said { Said (stepped_of self) result (step_at image.now (length join.old) self) }
         ensures join_after { join.new ≡ join_at image.now join.old self }
     {
@@ -105,33 +83,36 @@ impl Walk {
         let k = whole_at(image, v.format, v.record_length, v.at, v.left);
         if k != 0 {
             let word = word_of(v.format);
-            return Step::InImage(v.at + word, k - word, moved(v, v.at + k, v.left - k));
+            let behind = moved(v, v.at + k, v.left - k);
+            return Ok((Found::InImage(v.at + word, k - word), behind));
         }
         step_split(image, self, join)
     }
 }
 
 // The same, unit by unit.
-fn step_units(image: &[u8], w: Walk, join: &mut [u8]) -> Step
+fn step_units(image: &[u8], w: Walk, join: &mut [u8]) -> Result<(Found, Walk), u32>
     ensures value { result ≡ step_at image.now (length join.old) w }
     ensures join_after { join.new ≡ join_at image.now join.old w }
 {
-    match measure_units(image, w) {
-        Measured::Nothing => Step::Refused(13),
-        Measured::Whole(start, n, v) => Step::InImage(start, n, v),
+    let Some(measured) = measure_units(image, w) else {
+        return Err(13);
+    };
+    match measured {
+        Measured::Whole(start, n, v) => Ok((Found::InImage(start, n), v)),
         Measured::Split(n, v) => {
             if join.len() < n {
-                return Step::Refused(10);
+                return Err(10);
             }
             join_record(image, w, join);
-            Step::Joined(n, v)
+            Ok((Found::Joined(n), v))
         }
     }
 }
 
 // The record that begins with the segment, of k bytes with its control word, at the head of what is left of the current block:
 // measured, then joined.
-fn step_segments(image: &[u8], v: Walk, k: usize, join: &mut [u8]) -> Step
+fn step_segments(image: &[u8], v: Walk, k: usize, join: &mut [u8]) -> Result<(Found, Walk), u32>
     requires { BegunAt image.now v k }
     ensures value { result ≡ step_at image.now (length join.old) v }
     ensures join_after { join.new ≡ join_at image.now join.old v }
@@ -139,21 +120,27 @@ fn step_segments(image: &[u8], v: Walk, k: usize, join: &mut [u8]) -> Step
     let n = k - 5;
     let most = v.record_length as usize;
     let u = moved(v, v.at + k, v.left - k);
-    match rest_length(image, most - n, u) {
-        Tail::Fails => Step::Refused(13),
-        Tail::Ends(m, x) => {
-            if join.len() < n + m {
-                return Step::Refused(10);
-            }
-            join_from(image, v.at + 5, n, u, join);
-            Step::Joined(n + m, x)
-        }
+    let Some(rest) = rest_length(image, most - n, u) else {
+        return Err(13);
+    };
+    let len = n + rest.len;
+    if join.len() < len {
+        return Err(10);
     }
+    join_from(image, v.at + 5, n, u, join);
+    Ok((Found::Joined(len), rest.behind))
 }
 
 // A record of two segments: the first, of k bytes with its control word, at the head of what is left of the current block, and
 // the second, of j, at the head h of the next.
-fn step_two(image: &[u8], v: Walk, k: usize, h: Walk, j: usize, join: &mut [u8]) -> Step
+fn step_two(
+    image: &[u8],
+    v: Walk,
+    k: usize,
+    h: Walk,
+    j: usize,
+    join: &mut [u8],
+) -> Result<(Found, Walk), u32>
     requires { TwoAt image.now v k h j }
     ensures value { result ≡ step_at image.now (length join.old) v }
     ensures join_after { join.new ≡ join_at image.now join.old v }
@@ -162,15 +149,15 @@ fn step_two(image: &[u8], v: Walk, k: usize, h: Walk, j: usize, join: &mut [u8])
     let m = j - 5;
     let total = n + m;
     if join.len() < total {
-        return Step::Refused(10);
+        return Err(10);
     }
     join_two(image, v.at + 5, n, h.at + 5, m, join);
-    Step::Joined(total, moved(h, h.at + j, h.left - j))
+    Ok((Found::Joined(total), moved(h, h.at + j, h.left - j)))
 }
 
 // The record that begins with the segment, of k bytes with its control word, at the head of what is left of the current block.
 // Most often the next block stands right behind, and the segment at its head ends the record.
-fn step_begun(image: &[u8], v: Walk, k: usize, join: &mut [u8]) -> Step
+fn step_begun(image: &[u8], v: Walk, k: usize, join: &mut [u8]) -> Result<(Found, Walk), u32>
     requires { BegunAt image.now v k }
     ensures value { result ≡ step_at image.now (length join.old) v }
     ensures join_after { join.new ≡ join_at image.now join.old v }
@@ -187,7 +174,7 @@ fn step_begun(image: &[u8], v: Walk, k: usize, join: &mut [u8]) -> Step
 }
 
 // The same, where no whole record stands in the current block, or at the head of the next: most often one begins there.
-fn step_split(image: &[u8], w: Walk, join: &mut [u8]) -> Step
+fn step_split(image: &[u8], w: Walk, join: &mut [u8]) -> Result<(Found, Walk), u32>
     ensures value { result ≡ step_at image.now (length join.old) w }
     ensures join_after { join.new ≡ join_at image.now join.old w }
 {
@@ -211,25 +198,24 @@ pub(crate) fn answer(number: u32) -> Verdict
 }
 
 // A file by its number, from 1, with the walk at its first record: the image's own number, then 13 where there is no such file.
-pub fn begin(image: &[u8], file: u64) -> Begun
+pub fn begin(image: &[u8], file: u64) -> Result<FileAt, Verdict>
     ensures { Said beginning_of result (begun_at image.now file) }
 {
     let v = check(image);
     if v.number != 0 {
-        return Begun::Refused(v);
+        return Err(v);
     }
     begun_by(file_numbered(image, file))
 }
 
-// The walk behind so many records.
-fn pass(image: &[u8], from: Walk, records: u64) -> Place
+// The walk behind so many records, if there are so many.
+fn pass(image: &[u8], from: Walk, records: u64) -> Option<Walk>
     ensures { result ≡ passed image.now records from }
 {
     let mut left = records;
     let mut w = from;
     while 0 < left {
-        match measure(image, w) {
-            Measured::Nothing => return Place::Nowhere,
+        match measure(image, w)? {
             Measured::Whole(_, _, v) => {
                 left -= 1;
                 w = v;
@@ -240,52 +226,51 @@ fn pass(image: &[u8], from: Walk, records: u64) -> Place
             }
         }
     }
-    Place::At(w)
+    Some(w)
 }
 
 // What a step says of the record, without the walk behind it.
-fn found_by(x: Step) -> Found
+fn found_by(x: Result<(Found, Walk), u32>) -> Result<Found, Verdict>
     ensures { result ≡ found_by x }
 {
     match x {
-        Step::InImage(start, len, _) => Found::InImage(start, len),
-        Step::Joined(len, _) => Found::Joined(len),
-        Step::Refused(number) => Found::Refused(answer(number)),
+        Ok((found, _)) => Ok(found),
+        Err(number) => Err(answer(number)),
     }
 }
 
 // The record where a walk stands, if anywhere: one step behind a check of the whole image, which needs no quick way.
-fn found_in(image: &[u8], x: Place, join: &mut [u8]) -> Found
+fn found_in(image: &[u8], x: Option<Walk>, join: &mut [u8]) -> Result<Found, Verdict>
     ensures value { result ≡ found_in image.now (length join.old) x }
     ensures join_after { join.new ≡ left_in image.now join.old x }
 {
     match x {
-        Place::Nowhere => Found::Refused(answer(13)),
-        Place::At(w) => found_by(step_units(image, w, join)),
+        None => Err(answer(13)),
+        Some(w) => found_by(step_units(image, w, join)),
     }
 }
 
 // Record r of the file that was begun, from 1.
-fn found_from(image: &[u8], begun: Begun, r: u64, join: &mut [u8]) -> Found
+fn found_from(
+    image: &[u8],
+    begun: Result<FileAt, Verdict>,
+    r: u64,
+    join: &mut [u8],
+) -> Result<Found, Verdict>
     ensures value { result ≡ found_from image.now r (length join.old) begun }
     ensures join_after { join.new ≡ left_from image.now r join.old begun }
 {
-    match begun {
-        Begun::Refused(v) => Found::Refused(v),
-        Begun::At(f) => {
-            if r == 0 {
-                return Found::Refused(answer(13));
-            }
-            let w = f.walk;
-            found_in(image, pass(image, w, r - 1), join)
-        }
+    let f = begun?;
+    if r == 0 {
+        return Err(answer(13));
     }
+    found_in(image, pass(image, f.walk, r - 1), join)
 }
 
 // Record r of file n, both from 1: the image's own number, then 13, then 10, the latter two with place 0.
 // A record of one unit is a part of the image and changes no byte of the buffer; one of several is joined into the front of the
 // buffer.
-pub fn record(image: &[u8], file: u64, r: u64, join: &mut [u8]) -> Found
+pub fn record(image: &[u8], file: u64, r: u64, join: &mut [u8]) -> Result<Found, Verdict>
     ensures said { Said record_of result (found_at image.now file r (length join.old)) }
     ensures join_after { join.new ≡ left_at image.now file r join.old }
 {
@@ -293,12 +278,14 @@ pub fn record(image: &[u8], file: u64, r: u64, join: &mut [u8]) -> Found
 }
 
 // The record itself, as `record` found it: the part of the image or the front of the joining buffer; nothing with a refusal.
-pub fn record_part<'a>(image: &'a [u8], join: &'a [u8], found: Found) -> &'a [u8]
+pub fn record_part<'a>(image: &'a [u8], join: &'a [u8], found: Result<Found, Verdict>) -> &'a [u8]
     ensures { result.now ≡ part_of image.now join.now found }
 {
     match found {
-        Found::InImage(start, len) => part_of(image, start, len),
-        Found::Joined(len) => part_of(join, 0, len),
-        Found::Refused(_) => part_of(image, 0, 0),
+        Ok(place) => match place {
+            Found::InImage(start, len) => part_of(image, start, len),
+            Found::Joined(len) => part_of(join, 0, len),
+        },
+        Err(_) => part_of(image, 0, 0),
     }
 }

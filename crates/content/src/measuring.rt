@@ -7,25 +7,23 @@ ghost use Rattle.content.specs.Measure.{measured_by};
 ghost use Rattle.content.specs.Code.Joining.{tail_by};
 
 use crate::Walk;
-use crate::unit::{Taken, is_inside, moved, unit_from, unit_next};
+use crate::unit::{is_inside, moved, unit_from, unit_next};
 use base::SEGMENTED;
 use block::{segment_length, whole_length, word_of};
 use image::{Shape, shape_at};
 
-// The rest of a record that was begun: its length and the walk behind it, or a segment out of turn, or none.
+// The rest of a record that was begun: its length, and the walk behind it.
 #[derive(Clone, Copy)]
-pub enum Tail {
-    Ends(usize, Walk),
-    Fails,
+pub struct Tail {
+    pub len: usize,
+    pub behind: Walk,
 }
 
-// A record that is one unit, by its place and length, or one of several segments, by its length, each with the walk behind it; or
-// none.
+// A record that is one unit, by its place and length, or one of several segments, by its length, each with the walk behind it.
 #[derive(Clone, Copy)]
 pub enum Measured {
     Whole(usize, usize, Walk),
     Split(usize, Walk),
-    Nothing,
 }
 
 // The walk at the head of the next block, where nothing is left of the current one and a block stands there; else the walk
@@ -43,9 +41,7 @@ pub fn at_block(image: &[u8], w: Walk) -> Walk
             }
             moved(w, w.at + 3 + w.offset, n - w.offset)
         }
-        Shape::Mark => w,
-        Shape::ReelEnd => w,
-        Shape::Broken => w,
+        _ => w,
     }
 }
 
@@ -132,8 +128,8 @@ pub(crate) fn begun_at(
     turn_in(image, 0, b'1', record_length as usize, format, at, left)
 }
 
-// The rest of a record that may have `most` bytes more.
-pub(crate) fn rest_length(image: &[u8], most: usize, from: Walk) -> Tail
+// The rest of a record that may have `most` bytes more, unless a segment of it is out of turn or lacking.
+pub(crate) fn rest_length(image: &[u8], most: usize, from: Walk) -> Option<Tail>
     requires { Inside image.now from }
     ensures { result ≡ tail_by (rest_at image.now most from) }
 {
@@ -141,74 +137,66 @@ pub(crate) fn rest_length(image: &[u8], most: usize, from: Walk) -> Tail
     let mut total: usize = 0;
     let mut w = from;
     loop {
-        match unit_next(image, w) {
-            Taken::Nothing => return Tail::Fails,
-            Taken::One(i, _, n, v) => {
-                if room < n {
-                    return Tail::Fails;
-                }
-                if i == 3 {
-                    return Tail::Ends(total + n, v);
-                }
-                if i != 2 {
-                    return Tail::Fails;
-                }
-                room -= n;
-                total += n;
-                w = v;
-            }
+        let unit = unit_next(image, w)?;
+        if room < unit.len {
+            return None;
         }
+        if unit.indicator == 3 {
+            return Some(Tail {
+                len: total + unit.len,
+                behind: unit.behind,
+            });
+        }
+        if unit.indicator != 2 {
+            return None;
+        }
+        room -= unit.len;
+        total += unit.len;
+        w = unit.behind;
     }
 }
 
-// The record at a walk's place, unit by unit.
-pub(crate) fn measure_units(image: &[u8], w: Walk) -> Measured
+// The record at a walk's place, if one stands there, unit by unit.
+pub(crate) fn measure_units(image: &[u8], w: Walk) -> Option<Measured>
     ensures { result ≡ measured_by (record_at image.now w) }
 {
     if w.record_length == 0 {
-        return Measured::Nothing;
+        return None;
     }
     if !is_inside(image, w) {
-        return Measured::Nothing;
+        return None;
     }
     let most = w.record_length as usize;
-    match unit_from(image, w) {
-        Taken::Nothing => Measured::Nothing,
-        Taken::One(i, start, n, v) => {
-            if most < n {
-                return Measured::Nothing;
-            }
-            if i == 0 {
-                return Measured::Whole(start, n, v);
-            }
-            if i != 1 {
-                return Measured::Nothing;
-            }
-            match rest_length(image, most - n, v) {
-                Tail::Fails => Measured::Nothing,
-                Tail::Ends(m, u) => Measured::Split(n + m, u),
-            }
-        }
+    let first = unit_from(image, w)?;
+    if most < first.len {
+        return None;
     }
+    if first.indicator == 0 {
+        return Some(Measured::Whole(first.start, first.len, first.behind));
+    }
+    if first.indicator != 1 {
+        return None;
+    }
+    let rest = rest_length(image, most - first.len, first.behind)?;
+    Some(Measured::Split(first.len + rest.len, rest.behind))
 }
 
-// The record that begins with the segment, of k bytes with its control word, at the head of what is left of the current block.
-fn measure_begun(image: &[u8], v: Walk, k: usize) -> Measured
+// The record that begins with the segment, of k bytes with its control word, at the head of what is left of the current block; if
+// it ends.
+fn measure_begun(image: &[u8], v: Walk, k: usize) -> Option<Measured>
     requires { BegunAt image.now v k }
     ensures { result ≡ measured_by (record_at image.now v) }
 {
     let n = k - 5;
     let most = v.record_length as usize;
     let u = moved(v, v.at + k, v.left - k);
-    match rest_length(image, most - n, u) {
-        Tail::Fails => Measured::Nothing,
-        Tail::Ends(m, x) => Measured::Split(n + m, x),
-    }
+    let rest = rest_length(image, most - n, u)?;
+    Some(Measured::Split(n + rest.len, rest.behind))
 }
 
 // The record at a walk's place, for a caller who knows that no whole one stands in the current block, nor at the head of the
 // next: most often one begins there.
-pub fn measure_far(image: &[u8], w: Walk) -> Measured
+pub fn measure_far(image: &[u8], w: Walk) -> Option<Measured>
     ensures { result ≡ measured_by (record_at image.now w) }
 {
     let v = at_block(image, w);
@@ -220,14 +208,14 @@ pub fn measure_far(image: &[u8], w: Walk) -> Measured
 }
 
 // The record at a walk's place. Most records stand whole in a block, and are told by one number.
-pub fn measure(image: &[u8], w: Walk) -> Measured
+pub fn measure(image: &[u8], w: Walk) -> Option<Measured>
     ensures { result ≡ measured_by (record_at image.now w) }
 {
     let v = at_block(image, w);
     let k = whole_at(image, v.format, v.record_length, v.at, v.left);
     if k != 0 {
         let word = word_of(v.format);
-        return Measured::Whole(v.at + word, k - word, moved(v, v.at + k, v.left - k));
+        return Some(Measured::Whole(v.at + word, k - word, moved(v, v.at + k, v.left - k)));
     }
     measure_far(image, w)
 }

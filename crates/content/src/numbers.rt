@@ -3,7 +3,7 @@ ghost use Rattle.std.specs.Prelude.{◌≡◌};
 ghost use Rattle.content.specs.File.{begun_by};
 ghost use Rattle.content.specs.Numbers.{record_of, beginning_of, file_of, stepped_of};
 
-use crate::{Begun, Found, NextFile, Step, Walk, answer};
+use crate::{FileAt, Found, Walk, answer};
 use base::Verdict;
 
 // Where a record is: with `joined` 0 that part of the image, with 1 the front of the joining buffer.
@@ -38,23 +38,25 @@ pub struct Stepped {
     pub walk: Walk,
 }
 
-pub fn record_of(found: Found) -> Located
+pub fn record_of(found: Result<Found, Verdict>) -> Located
     ensures { result ≡ record_of found }
 {
     match found {
-        Found::InImage(start, len) => Located {
-            verdict: answer(0),
-            joined: 0,
-            start: start as u64,
-            len: len as u64,
+        Ok(place) => match place {
+            Found::InImage(start, len) => Located {
+                verdict: answer(0),
+                joined: 0,
+                start: start as u64,
+                len: len as u64,
+            },
+            Found::Joined(len) => Located {
+                verdict: answer(0),
+                joined: 1,
+                start: 0,
+                len: len as u64,
+            },
         },
-        Found::Joined(len) => Located {
-            verdict: answer(0),
-            joined: 1,
-            start: 0,
-            len: len as u64,
-        },
-        Found::Refused(verdict) => Located {
+        Err(verdict) => Located {
             verdict,
             joined: 0,
             start: 0,
@@ -63,20 +65,17 @@ pub fn record_of(found: Found) -> Located
     }
 }
 
-pub fn beginning_of(begun: Begun) -> Beginning
+pub fn beginning_of(begun: Result<FileAt, Verdict>) -> Beginning
     ensures { result ≡ beginning_of begun }
 {
     match begun {
-        Begun::At(f) => {
-            let walk = f.walk;
-            Beginning {
-                verdict: answer(0),
-                hdr1: f.hdr1 as u64,
-                hdr2: f.hdr2 as u64,
-                walk,
-            }
-        }
-        Begun::Refused(verdict) => Beginning {
+        Ok(f) => Beginning {
+            verdict: answer(0),
+            hdr1: f.hdr1 as u64,
+            hdr2: f.hdr2 as u64,
+            walk: f.walk,
+        },
+        Err(verdict) => Beginning {
             verdict,
             hdr1: 0,
             hdr2: 0,
@@ -92,40 +91,42 @@ pub fn beginning_of(begun: Begun) -> Beginning
 }
 
 // A file that was looked for: 13 where there is none.
-pub(crate) fn begun_by(x: NextFile) -> Begun
+pub(crate) fn begun_by(x: Option<FileAt>) -> Result<FileAt, Verdict>
     ensures { result ≡ begun_by x }
 {
     match x {
-        NextFile::At(f) => Begun::At(f),
-        NextFile::Nowhere => Begun::Refused(answer(13)),
+        Some(f) => Ok(f),
+        None => Err(answer(13)),
     }
 }
 
-pub fn file_of(x: NextFile) -> Beginning
+pub fn file_of(x: Option<FileAt>) -> Beginning
     ensures { result ≡ file_of x }
 {
     beginning_of(begun_by(x))
 }
 
-pub fn stepped_of(from: Walk, step: Step) -> Stepped
+pub fn stepped_of(from: Walk, step: Result<(Found, Walk), u32>) -> Stepped
     ensures { result ≡ stepped_of from step }
 {
     match step {
-        Step::InImage(start, len, walk) => Stepped {
-            number: 0,
-            joined: 0,
-            start: start as u64,
-            len: len as u64,
-            walk,
+        Ok((found, walk)) => match found {
+            Found::InImage(start, len) => Stepped {
+                number: 0,
+                joined: 0,
+                start: start as u64,
+                len: len as u64,
+                walk,
+            },
+            Found::Joined(len) => Stepped {
+                number: 0,
+                joined: 1,
+                start: 0,
+                len: len as u64,
+                walk,
+            },
         },
-        Step::Joined(len, walk) => Stepped {
-            number: 0,
-            joined: 1,
-            start: 0,
-            len: len as u64,
-            walk,
-        },
-        Step::Refused(number) => Stepped {
+        Err(number) => Stepped {
             number,
             joined: 0,
             start: 0,

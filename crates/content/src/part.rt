@@ -5,7 +5,7 @@ ghost use Rattle.content.specs.Part.{begins_file, led_to, continues_behind, firs
 ghost use Rattle.content.specs.Code.Seen.{seen_in};
 
 use crate::items::{Seen, seen_at};
-use order::{DATA_BLOCK, Due, EOF, EOV, HDR, Kind, Phase, due_after, is};
+use order::{DATA_BLOCK, EOF, EOV, HDR, Kind, Phase, due_after, is};
 
 // What a search has to know to go on: the place between two items, the place of the last HDR1, what is due there, and whether the
 // next HDR1 goes on with a file.
@@ -18,24 +18,23 @@ pub struct Position {
 }
 
 // A part of an image: a file that begins and a section that goes on with one, by the places of their HDR1 and HDR2, and a data
-// block, by the place of its first byte and its length; or none.
+// block, by the place of its first byte and its length.
 #[derive(Clone, Copy)]
 pub enum Part {
     File(usize, usize),
     Section(usize, usize),
     Block(usize, usize),
-    None,
 }
 
 // A part, and the place behind it. Where there is none, the place is that of the search.
 #[derive(Clone, Copy)]
 pub struct PartAt {
-    pub part: Part,
+    pub part: Option<Part>,
     pub behind: Position,
 }
 
 // What stands at a place, in that phase: where data is due, a block is data.
-fn seen_in(image: &[u8], phase: Phase, at: usize) -> Seen
+fn seen_in(image: &[u8], phase: Phase, at: usize) -> Option<Seen>
     ensures { result ≡ seen_in image.now phase at }
 {
     let k = Kind {
@@ -43,8 +42,8 @@ fn seen_in(image: &[u8], phase: Phase, at: usize) -> Seen
         number: 0,
     };
     match due_after(phase, k) {
-        Due::Wrong => seen_at(image, at, false),
-        Due::To(_) => seen_at(image, at, true),
+        None => seen_at(image, at, false),
+        Some(_) => seen_at(image, at, true),
     }
 }
 
@@ -59,11 +58,11 @@ fn begins_file(continues: bool, k: Kind) -> bool
 }
 
 // Where an item leads: one that begins a file right behind its HDR2, any other where it is due.
-fn led_to(continues: bool, phase: Phase, k: Kind) -> Due
+fn led_to(continues: bool, phase: Phase, k: Kind) -> Option<Phase>
     ensures { result ≡ led_to continues phase k }
 {
     if begins_file(continues, k) {
-        return Due::To(Phase::Header(2));
+        return Some(Phase::Header(2));
     }
     due_after(phase, k)
 }
@@ -91,31 +90,33 @@ fn first_behind(hdr1: usize, start: usize, k: Kind) -> usize
     hdr1
 }
 
-// Which part an item is, with its n bytes from `start` on, or none.
-fn part_in(continues: bool, hdr1: usize, start: usize, n: usize, k: Kind) -> Part
+// Which part an item is, with its n bytes from `start` on, if it is one.
+fn part_in(continues: bool, hdr1: usize, start: usize, n: usize, k: Kind) -> Option<Part>
     ensures { result ≡ part_in continues hdr1 start n k }
 {
     if is(k, DATA_BLOCK, 0) {
-        return Part::Block(start, n);
+        return Some(Part::Block(start, n));
     }
     if is(k, HDR, 2) {
         if continues {
-            return Part::Section(hdr1, start);
+            return Some(Part::Section(hdr1, start));
         }
-        return Part::File(hdr1, start);
+        return Some(Part::File(hdr1, start));
     }
-    Part::None
+    None
 }
 
 // Whether a part is one that is looked for.
-fn is_wanted(sections: bool, blocks: bool, part: Part) -> bool
+fn is_wanted(sections: bool, blocks: bool, part: Option<Part>) -> bool
     ensures { result ≡ is_wanted sections blocks part }
 {
-    match part {
+    let Some(found) = part else {
+        return false;
+    };
+    match found {
         Part::File(_, _) => true,
         Part::Section(_, _) => sections,
         Part::Block(_, _) => blocks,
-        Part::None => false,
     }
 }
 
@@ -139,29 +140,22 @@ pub(crate) fn search(image: &[u8], from: Position, sections: bool, blocks: bool)
 {
     let mut here = from;
     loop {
-        let phase = here.phase;
-        match seen_in(image, phase, here.at) {
-            Seen::Nothing => {
-                return PartAt {
-                    part: Part::None,
-                    behind: from,
-                }
-            }
-            Seen::Item(k, n) => match led_to(here.continues, phase, k) {
-                Due::Wrong => {
-                    return PartAt {
-                        part: Part::None,
-                        behind: from,
-                    }
-                }
-                Due::To(q) => {
-                    let part = part_in(here.continues, here.hdr1, here.at + 3, n, k);
-                    here = position_behind(here, k, n, q);
-                    if is_wanted(sections, blocks, part) {
-                        return PartAt { part, behind: here };
-                    }
-                }
-            },
+        let Some(seen) = seen_in(image, here.phase, here.at) else {
+            return PartAt {
+                part: None,
+                behind: from,
+            };
+        };
+        let Some(next) = led_to(here.continues, here.phase, seen.kind) else {
+            return PartAt {
+                part: None,
+                behind: from,
+            };
+        };
+        let part = part_in(here.continues, here.hdr1, here.at + 3, seen.len, seen.kind);
+        here = position_behind(here, seen.kind, seen.len, next);
+        if is_wanted(sections, blocks, part) {
+            return PartAt { part, behind: here };
         }
     }
 }

@@ -29,19 +29,23 @@ fn row_to(count: usize, walk: Walk) -> Row
 }
 
 // The record at a walk's place, where it is one unit, wherever that is. One that begins with a segment is not measured.
-fn whole_from(image: &[u8], w: Walk) -> Taken
+fn whole_from(image: &[u8], w: Walk) -> Option<Taken>
     ensures { result ≡ whole_by (record_at image.now w) }
 {
     let v = at_block(image, w);
     let k = begun_at(image, v.format, v.record_length, v.at, v.left);
     if k != 0 {
-        return Taken::Nothing;
+        return None;
     }
-    match measure_units(image, w) {
-        Measured::Nothing => Taken::Nothing,
-        Measured::Split(_, _) => Taken::Nothing,
-        Measured::Whole(start, n, u) => Taken::One(0, start, n, u),
-    }
+    let Measured::Whole(start, len, behind) = measure_units(image, w)? else {
+        return None;
+    };
+    Some(Taken {
+        indicator: 0,
+        start,
+        len,
+        behind,
+    })
 }
 
 // The records from a walk on that are parts of the image, by their places and lengths: as many as both lists have room for, up to
@@ -69,12 +73,12 @@ pub fn steps(image: &[u8], from: Walk, places: &mut [u64], lengths: &mut [u64]) 
             // A copy of the walk goes to the call, so that the loop's own stays in registers.
             let here = w;
             match whole_from(image, here) {
-                Taken::Nothing => return row_to(i, w),
-                Taken::One(_, start, n, u) => {
-                    places[i] = start as u64;
-                    lengths[i] = n as u64;
+                None => return row_to(i, w),
+                Some(whole) => {
+                    places[i] = whole.start as u64;
+                    lengths[i] = whole.len as u64;
                     i += 1;
-                    w = u;
+                    w = whole.behind;
                 }
             }
         }

@@ -7,27 +7,25 @@ use crate::part::{Part, Position, search};
 use image::{Shape, shape_at};
 use order::Phase;
 
-// A data block, by the place of its first byte and its length, or none.
+// A data block, by the place of its first byte and its length.
 #[derive(Clone, Copy)]
-pub enum Extent {
-    At(usize, usize),
-    Nowhere,
+pub struct Extent {
+    pub start: usize,
+    pub len: usize,
 }
 
-// A part as a data block.
-fn as_block(part: Part) -> Extent
+// A part as a data block, if it is one.
+fn as_block(part: Option<Part>) -> Option<Extent>
     ensures { result ≡ as_block part }
 {
-    match part {
-        Part::File(_, _) => Extent::Nowhere,
-        Part::Section(_, _) => Extent::Nowhere,
-        Part::Block(start, n) => Extent::At(start, n),
-        Part::None => Extent::Nowhere,
-    }
+    let Part::Block(start, len) = part? else {
+        return None;
+    };
+    Some(Extent { start, len })
 }
 
 // The next data block of a file, over what stands between two sections.
-fn data_further(image: &[u8], at: usize) -> Extent
+fn data_further(image: &[u8], at: usize) -> Option<Extent>
     ensures { result ≡ data_from Phase.Data at (decode (drop at image.now)) }
 {
     let from = Position {
@@ -37,19 +35,19 @@ fn data_further(image: &[u8], at: usize) -> Extent
         continues: false,
     };
     let found = search(image, from, false, true);
-    let part = found.part;
-    as_block(part)
+    as_block(found.part)
 }
 
 // The next data block of a file, from a place between two items of its data on.
-pub(crate) fn next_data(image: &[u8], from: usize) -> Extent
+pub(crate) fn next_data(image: &[u8], from: usize) -> Option<Extent>
     ensures { result ≡ data_from Phase.Data from (decode (drop from image.now)) }
 {
     match shape_at(image, from) {
         // Among the data every block is data: no kind has to be looked for.
-        Shape::Block(n) => Extent::At(from + 3, n),
-        Shape::Mark => data_further(image, from),
-        Shape::ReelEnd => data_further(image, from),
-        Shape::Broken => data_further(image, from),
+        Shape::Block(len) => Some(Extent {
+            start: from + 3,
+            len,
+        }),
+        _ => data_further(image, from),
     }
 }

@@ -7,21 +7,21 @@ use crate::Walk;
 use crate::unit::{Taken, is_inside, unit_from, unit_next};
 
 // The first unit of the record at a walk's place.
-pub fn first_segment(image: &[u8], w: Walk) -> Taken
+pub fn first_segment(image: &[u8], w: Walk) -> Option<Taken>
     ensures { result ≡ first_segment image.now w }
 {
     if is_inside(image, w) {
         return unit_from(image, w);
     }
-    Taken::Nothing
+    None
 }
 
 // The first unit of the next block, where the record goes on.
-pub fn next_segment(image: &[u8], w: Walk) -> Taken
+pub fn next_segment(image: &[u8], w: Walk) -> Option<Taken>
     ensures { result ≡ next_segment image.now w }
 {
     if is_inside(image, w) {
         return unit_next(image, w);
     }
-    Taken::Nothing
+    None
 }

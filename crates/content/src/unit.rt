@@ -10,31 +10,20 @@ use crate::section::{Extent, next_data};
 use base::part_of;
 use block::{Unit, all_padding, unit_at};
 
-// A walk that stands somewhere, or nowhere.
+// A unit that a walk comes to: its indicator, the place and the length of its record or segment, and the walk behind it.
 #[derive(Clone, Copy)]
-pub enum Place {
-    At(Walk),
-    Nowhere,
-}
-
-// A unit: its indicator, the place and the length of its record or segment, and the walk behind it; or none.
-#[derive(Clone, Copy)]
-pub enum Taken {
-    One(u32, usize, usize, Walk),
-    Nothing,
+pub struct Taken {
+    pub indicator: u32,
+    pub start: usize,
+    pub len: usize,
+    pub behind: Walk,
 }
 
 // The walk at another place, with so many bytes left there.
 pub(crate) fn moved(w: Walk, at: usize, left: usize) -> Walk
     ensures { result ≡ moved w at left }
 {
-    Walk {
-        format: w.format,
-        record_length: w.record_length,
-        offset: w.offset,
-        at,
-        left,
-    }
+    Walk { at, left, ..w }
 }
 
 // Whether what is left of the current block does not run past the image.
@@ -49,64 +38,63 @@ pub(crate) fn is_inside(image: &[u8], w: Walk) -> bool
 }
 
 // The unit at the head of a part, in a file of that format; a number that is no byte is no format.
-fn unit_in(format: u32, record_length: u32, s: &[u8]) -> Unit
+fn unit_in(format: u32, record_length: u32, s: &[u8]) -> Option<Unit>
     ensures { result ≡ unit_of format record_length (drop 0 s.now) }
 {
     if format < 256 {
         return unit_at(format as u8, record_length, s, 0);
     }
-    Unit::None
+    None
 }
 
 // The unit at the head of what is left of the current block.
-fn unit_here(image: &[u8], w: Walk) -> Taken
+fn unit_here(image: &[u8], w: Walk) -> Option<Taken>
     ensures { result ≡ unit_here image.now w }
 {
     let at = w.at;
     let left = w.left;
-    match unit_in(w.format, w.record_length, part_of(image, at, left)) {
-        Unit::None => Taken::Nothing,
-        Unit::Of(i, word, n) => {
-            let start = at + word;
-            Taken::One(i, start, n, moved(w, start + n, left - (word + n)))
-        }
-    }
+    let Unit {
+        indicator,
+        word,
+        len,
+    } = unit_in(w.format, w.record_length, part_of(image, at, left))?;
+    let start = at + word;
+    Some(Taken {
+        indicator,
+        start,
+        len,
+        behind: moved(w, start + len, left - (word + len)),
+    })
 }
 
 // The next data block behind its offset bytes, where only padding is left of the current one.
-fn block_next(image: &[u8], w: Walk) -> Place
+fn block_next(image: &[u8], w: Walk) -> Option<Walk>
     requires { Inside image.now w }
     ensures { result ≡ block_next image.now w }
 {
     let at = w.at;
     let left = w.left;
     if !all_padding(part_of(image, at, left)) {
-        return Place::Nowhere;
+        return None;
     }
-    match next_data(image, at + left) {
-        Extent::Nowhere => Place::Nowhere,
-        Extent::At(start, n) => {
-            if n < w.offset {
-                return Place::Nowhere;
-            }
-            Place::At(moved(w, start + w.offset, n - w.offset))
-        }
+    let block = next_data(image, at + left)?;
+    if block.len < w.offset {
+        return None;
     }
+    Some(moved(w, block.start + w.offset, block.len - w.offset))
 }
 
 // The first unit of the next block, wherever that is.
-fn unit_beyond(image: &[u8], w: Walk) -> Taken
+fn unit_beyond(image: &[u8], w: Walk) -> Option<Taken>
     requires { Inside image.now w }
     ensures { result ≡ unit_next image.now w }
 {
-    match block_next(image, w) {
-        Place::Nowhere => Taken::Nothing,
-        Place::At(v) => unit_here(image, v),
-    }
+    let v = block_next(image, w)?;
+    unit_here(image, v)
 }
 
 // The first unit of the next block. Most often that is a segment, and its block stands right behind the current one.
-pub(crate) fn unit_next(image: &[u8], w: Walk) -> Taken
+pub(crate) fn unit_next(image: &[u8], w: Walk) -> Option<Taken>
     requires { Inside image.now w }
     ensures { result ≡ unit_next image.now w }
 {
@@ -114,19 +102,23 @@ pub(crate) fn unit_next(image: &[u8], w: Walk) -> Taken
     let k = segment_in(image, w.left, v.format, v.at, v.left);
     if k != 0 {
         let at = v.at;
-        let i = (image[at] - b'0') as u32;
-        return Taken::One(i, at + 5, k - 5, moved(v, at + k, v.left - k));
+        return Some(Taken {
+            indicator: (image[at] - b'0') as u32,
+            start: at + 5,
+            len: k - 5,
+            behind: moved(v, at + k, v.left - k),
+        });
     }
     unit_beyond(image, w)
 }
 
 // The unit at the walk's place.
-pub(crate) fn unit_from(image: &[u8], w: Walk) -> Taken
+pub(crate) fn unit_from(image: &[u8], w: Walk) -> Option<Taken>
     requires { Inside image.now w }
     ensures { result ≡ unit_from image.now w }
 {
     match unit_here(image, w) {
-        Taken::One(i, start, n, v) => Taken::One(i, start, n, v),
-        Taken::Nothing => unit_next(image, w),
+        Some(here) => Some(here),
+        None => unit_next(image, w),
     }
 }

@@ -1,9 +1,9 @@
 -- The worked examples of document 01, and cases that are easy to get wrong, as one list with one claim, which is computed.
 -- Where blocks are read, B is 20 and O is 0.
+use Rattle.std.specs.Prelude.{Option, Some, None}
 use mathlib.Core.Path.{◌≡◌, refl}
 use mathlib.Core.Bool.{Bool, true, false, ◌&&◌, not}
 use mathlib.Core.List.{List, [], ◌∷◌, ◌++◌}
-use mathlib.Core.Option.{Option, none, some}
 use Prim.Native.Nat.{ℕ}
 use Prim.Native.String.{String}
 use lib.Dec.{eqb}
@@ -49,21 +49,21 @@ same_texts (b ∷ bs) (t ∷ ts) = same b (bytes t) && same_texts bs ts
 
 -- the segments of one block before those of the rest
 before : Option (List Segment) → Option (List Segment) → Option (List Segment)
-before none ys = none
-before (some xs) none = none
-before (some xs) (some ys) = some (xs ++ ys)
+before None ys = None
+before (Some xs) None = None
+before (Some xs) (Some ys) = Some (xs ++ ys)
 
 -- blocks whose segments follow each other in turn: q bytes are pending, as `block_outcome` counts them
 segments_from : ℕ → ℕ → ℕ → List String → Option (List Segment)
-segments_from f r q [] = if_b (eqb q 0) (some []) none
+segments_from f r q [] = if_b (eqb q 0) (Some []) None
 segments_from f r q (t ∷ ts) =
     if_b (eqb (block_outcome f 20 r 0 q (bytes t)).number 0)
     (before (units f 20 r 0 (bytes t)) (segments_from f r (block_outcome f 20 r 0 q (bytes t)).pending ts))
-    none
+    None
 
 same_records : Option (List Segment) → List String → Bool
-same_records none ts = false
-same_records (some xs) ts = same_texts (joined xs) ts
+same_records None ts = false
+same_records (Some xs) ts = same_texts (joined xs) ts
 
 is_same : Bool → Bool → Bool
 is_same true b = b

@@ -1,5 +1,8 @@
 -- Demand 1: what each operation answers where it does not do what it is asked for, and that then nothing is changed. Assumes
 -- nothing.
+use Rattle.content.specs.declared.Found.TheVariants.{InImage, Joined}
+use Rattle.std.specs.Prelude.{Option, Some, None, Result, Ok, Err}
+use Rattle.content.specs.declared.FileAt.{FileAt}
 use mathlib.Core.Path.{◌≡◌, refl, sym, ap, ◌∙◌}
 use mathlib.Core.Bool.{Bool, true, false, ◌&&◌}
 use mathlib.Core.List.{List, [], ◌∷◌, ◌++◌, flatten as end_to_end}
@@ -15,26 +18,18 @@ use Rattle.base.specs.Answer.{verdict}
 use Rattle.base.specs.declared.Verdict.{Verdict}
 use Rattle.image.specs.Item.{encode}
 use Rattle.image.specs.Framing.{head, most_image, framing}
-use Rattle.output.specs.Output.{Written, refused, fitted, Result, refused_with, placed}
+use Rattle.output.specs.Output.{Written, refused, fitted, Result as Stored, refused_with, placed}
 use Rattle.simh.specs.Set.{tape_verdict, image_of, from_simh, files_of, Converted, kept as kept_by, stored as stored_tapes, to_simh}
 use Rattle.volume.specs.Run.{image_verdict}
 use Rattle.reading.specs.Legal.{legal_sheet, legal_quota, legal_names}
 use Rattle.sheet.specs.Flat.{Flat, in_parts, adds_up, sheet_of, sheet_number, reels_number}
-use Rattle.content.specs.Walk.{Record, whole, split, nothing as no_record_here, record_at, step_by, join_by, step_at, join_at}
+use Rattle.content.specs.Walk.{Record, whole, split, nothing as no_record_here, record_at, step_by, join_by, step_at, join_at, Step}
 use Rattle.content.specs.Row.{stays, steps_by, steps_at, row_of}
 use Rattle.content.specs.File.{file_numbered, begun_by, begun_at}
 use Rattle.content.specs.Found.{passed, found_by, found_in, left_in, found_from, left_from, found_at, left_at}
 use Rattle.content.specs.Records.{records_at, facts_of}
 use Rattle.content.specs.Numbers.{no_walk, record_of, beginning_of, file_of, stepped_of}
 use Rattle.content.specs.declared.Walk.{Walk}
-use Rattle.content.specs.declared.Begun.{Begun}
-use Rattle.content.specs.declared.Begun.TheVariants.{At, Refused as NotBegun}
-use Rattle.content.specs.declared.Step.{Step}
-use Rattle.content.specs.declared.Step.TheVariants.{InImage, Joined, Refused as NoStep}
-use Rattle.content.specs.declared.NextFile.{NextFile}
-use Rattle.content.specs.declared.NextFile.TheVariants.{At as There, Nowhere as NoFile}
-use Rattle.content.specs.declared.unit.Place.{Place}
-use Rattle.content.specs.declared.unit.Place.TheVariants.{At as Behind, Nowhere}
 use Rattle.content.specs.declared.numbers.Beginning.{Beginning}
 use Rattle.reader.specs.Read.{opened_by, opened_at, walk_behind, read_by, read_at, count_at}
 use Rattle.reader.specs.declared.FileFacts.{FileFacts}
@@ -60,16 +55,16 @@ is_other own ns P n h k = record { answer = other n h; kept = λ _. k }
 -- ---- records
 
 -- what holds of a step that hands out a record, and of one that is refused with 13 or 10, holds of every step
-by_record : (Q : Step → List ℕ → Type 0) (old : List ℕ) (x : Record) → ((start n : ℕ) (v : Walk) → Q (InImage start n v) old)
-    → ((bs : List ℕ) (v : Walk) → Q (Joined (length bs) v) (put_at old 0 bs))
-    → ((k : ℕ) → is_in (13 ∷ 10 ∷ []) k ≡ true → Q (NoStep k) old)
+by_record : (Q : Step → List ℕ → Type 0) (old : List ℕ) (x : Record) → ((start n : ℕ) (v : Walk) → Q (Ok (InImage start n, v)) old)
+    → ((bs : List ℕ) (v : Walk) → Q (Ok (Joined (length bs), v)) (put_at old 0 bs))
+    → ((k : ℕ) → is_in (13 ∷ 10 ∷ []) k ≡ true → Q (Err k) old)
     → Q (step_by (length old) x) (join_by old x)
 unfolding step_by join_by if_b is_in
 by_record Q old (whole start n v) there here off = there start n v
 by_record Q old no_record_here there here off = off 13 refl
 by_record Q old (split bs v) there here off = by_room (leb (length bs) (length old))
   where
-    by_room : (t : Bool) → Q (if_b t (Joined (length bs) v) (NoStep 10)) (if_b t (put_at old 0 bs) old)
+    by_room : (t : Bool) → Q (if_b t (Ok (Joined (length bs), v)) (Err 10)) (if_b t (put_at old 0 bs) old)
     by_room true = here bs v
     by_room false = off 10 refl
 
@@ -81,9 +76,9 @@ none_taken s (suc room) w h = by_step (step_at s 0 w) h
   where
     by_step : (x : Step) → length (steps_by w x (λ v. steps_at s room v)).places ≡ 0
         → steps_by w x (λ v. steps_at s room v) ≡ stays w
-    by_step (InImage start n v) e = absurd (omega arith)
-    by_step (Joined n v) e = refl
-    by_step (NoStep k) e = refl
+    by_step (Ok (InImage start n, v)) e = absurd (omega arith)
+    by_step (Ok (Joined n, v)) e = refl
+    by_step (Err k) e = refl
 
 pub steps_none : (s : List ℕ) (w : Walk) (places lengths : List ℕ) → (ours.steps s w places lengths).answer.count ≡ 0
     → ours.steps s w places lengths ≡ listing places lengths (stays w)
@@ -92,7 +87,7 @@ steps_none s w places lengths h = ap (listing places lengths) (none_taken s (min
 
 pub step_refused : (s : List ℕ) (w : Walk) (old : List ℕ)
     → Answered none_given (13 ∷ 10 ∷ []) (verdict (ours.step s w old).answer.number 0 0)
-    (ours.step s w old ≡ record { answer = stepped_of w (NoStep (ours.step s w old).answer.number); left = old })
+    (ours.step s w old ≡ record { answer = stepped_of w (Err (ours.step s w old).answer.number); left = old })
 unfolding step_at join_at stepped_of
 step_refused s w old =
     by_record Q old (record_at s w) (λ start n v. is_done _ _ _) (λ bs v. is_done _ _ _) (λ k h. is_other _ _ _ k h refl)
@@ -101,36 +96,36 @@ step_refused s w old =
     Q x l =
         Answered none_given (13 ∷ 10 ∷ []) (verdict (stepped_of w x).number 0 0)
         (◌≡◌ {A = Moving} (record { answer = stepped_of w x; left = l })
-        (record { answer = stepped_of w (NoStep (stepped_of w x).number); left = old }))
+        (record { answer = stepped_of w (Err (stepped_of w x).number); left = old }))
 
 pub begin_refused : (s : List ℕ) (n : ℕ)
     → Answered (image_verdict s) (13 ∷ []) (ours.begin s n).verdict
-    (ours.begin s n ≡ beginning_of (NotBegun (ours.begin s n).verdict))
+    (ours.begin s n ≡ beginning_of (Err (ours.begin s n).verdict))
 unfolding begun_at beginning_of
 begin_refused s n = if_case Q (eqb (image_verdict s).number 0) _ _ (λ _. by_file (file_numbered s n)) (λ e. is_given _ _ _ e refl)
   where
-    Q : Begun → Type 0
+    Q : Result FileAt Verdict → Type 0
     Q b =
         Answered (image_verdict s) (13 ∷ []) (beginning_of b).verdict
-        (beginning_of b ≡ beginning_of (NotBegun (beginning_of b).verdict))
+        (beginning_of b ≡ beginning_of (Err (beginning_of b).verdict))
 
-    by_file : (x : NextFile) → Q (begun_by x)
-    by_file (There f) = unfold begun_by in is_done _ _ _
-    by_file NoFile = unfold begun_by is_in if_b in is_other _ _ _ 13 refl refl
+    by_file : (x : Option FileAt) → Q (begun_by x)
+    by_file (Some f) = unfold begun_by in is_done _ _ _
+    by_file None = unfold begun_by is_in if_b in is_other _ _ _ 13 refl refl
 
 -- a search, whatever it found
-pub search_refused : (x : NextFile)
-    → Answered none_given (13 ∷ []) (file_of x).verdict (file_of x ≡ beginning_of (NotBegun (file_of x).verdict))
+pub search_refused : (x : Option FileAt)
+    → Answered none_given (13 ∷ []) (file_of x).verdict (file_of x ≡ beginning_of (Err (file_of x).verdict))
 unfolding begun_by beginning_of is_in if_b
-search_refused (There f) = is_done _ _ _
-search_refused NoFile = is_other _ _ _ 13 refl refl
+search_refused (Some f) = is_done _ _ _
+search_refused None = is_other _ _ _ 13 refl refl
 
 pub find_refused : (s : List ℕ) (n r : ℕ) (old : List ℕ)
     → Answered (image_verdict s) (13 ∷ 10 ∷ []) (ours.find s n r old).at.verdict
     (ours.find s n r old ≡ no_record (ours.find s n r old).at.verdict old)
 unfolding found_at left_at begun_at
 find_refused s n r old =
-    if_case (λ (b : Begun). Q (record { at = record_of (found_from s r (length old) b); left = left_from s r old b }))
+    if_case (λ (b : Result FileAt Verdict). Q (record { at = record_of (found_from s r (length old) b); left = left_from s r old b }))
     (eqb (image_verdict s).number 0) _ _
     (λ _. by_file (file_numbered s n)) by_image
   where
@@ -139,41 +134,41 @@ find_refused s n r old =
 
     by_image : eqb (image_verdict s).number 0 ≡ false
         → Q (record {
-          at = record_of (found_from s r (length old) (NotBegun (image_verdict s)));
-          left = left_from s r old (NotBegun (image_verdict s));
+          at = record_of (found_from s r (length old) (Err (image_verdict s)));
+          left = left_from s r old (Err (image_verdict s));
         })
     by_image e = unfold found_from left_from record_of in is_given _ _ _ e refl
 
-    by_place : (p : Place) → Q (record { at = record_of (found_in s (length old) p); left = left_in s old p })
-    by_place Nowhere = unfold found_in left_in record_of is_in if_b in is_other _ _ _ 13 refl refl
-    by_place (Behind w) =
+    by_place : (p : Option Walk) → Q (record { at = record_of (found_in s (length old) p); left = left_in s old p })
+    by_place None = unfold found_in left_in record_of is_in if_b in is_other _ _ _ 13 refl refl
+    by_place (Some w) =
         unfold found_in left_in step_at join_at found_by record_of in
         by_record (λ x l. Q (record { at = record_of (found_by x); left = l })) old (record_at s w) (λ start k v. is_done _ _ _)
         (λ bs v. is_done _ _ _)
         (λ k h. is_other _ _ _ k h refl)
 
-    by_zero : (t : Bool) (p : Place)
+    by_zero : (t : Bool) (p : Option Walk)
         → Q (record {
           at = record_of
-              (if_b t (found_from s 0 (length old) (NotBegun (verdict 13 0 0))) (found_in s (length old) p));
+              (if_b t (found_from s 0 (length old) (Err (verdict 13 0 0))) (found_in s (length old) p));
           left = if_b t old
               (left_in s old p);
         })
     by_zero true p = unfold if_b found_from record_of is_in in is_other _ _ _ 13 refl refl
     by_zero false p = unfold if_b in by_place p
 
-    by_file : (x : NextFile)
+    by_file : (x : Option FileAt)
         → Q (record { at = record_of (found_from s r (length old) (begun_by x)); left = left_from s r old (begun_by x) })
-    by_file (There f) = unfold begun_by found_from left_from in by_zero (eqb r 0) (passed s (r - 1) f.walk)
-    by_file NoFile = unfold begun_by found_from left_from record_of is_in if_b in is_other _ _ _ 13 refl refl
+    by_file (Some f) = unfold begun_by found_from left_from in by_zero (eqb r 0) (passed s (r - 1) f.walk)
+    by_file None = unfold begun_by found_from left_from record_of is_in if_b in is_other _ _ _ 13 refl refl
 
 -- ---- a reader, and facts
 
 reads_step : (w : Walk) (x : Step) → reading_of (read_by w x) ≡ stepped_of w x
 unfolding reading_of read_by found_by walk_behind record_of stepped_of verdict
-reads_step w (InImage start n v) = refl
-reads_step w (Joined n v) = refl
-reads_step w (NoStep k) = refl
+reads_step w (Ok (InImage start n, v)) = refl
+reads_step w (Ok (Joined n, v)) = refl
+reads_step w (Err k) = refl
 
 opened_begun : (s : List ℕ) (w : Walk) (n : ℕ)
     → opened_at s w n ≡ record {
@@ -186,7 +181,7 @@ opened_begun s w n =
     if_case Q (eqb (image_verdict s).number 0) _ _ (λ _. by_file (file_numbered s n))
     (λ e. ap (λ (v : Walk). record { verdict = image_verdict s; walk = v }) (sym (if_false _ _ _ e)))
   where
-    Q : Begun → Type 0
+    Q : Result FileAt Verdict → Type 0
     Q b =
         opened_by w b ≡ record {
           verdict = (beginning_of b).verdict;
@@ -194,21 +189,21 @@ opened_begun s w n =
               (beginning_of b).walk w;
         }
 
-    by_file : (x : NextFile) → Q (begun_by x)
-    by_file (There f) = unfold begun_by verdict if_b in refl
-    by_file NoFile = unfold begun_by verdict if_b in refl
+    by_file : (x : Option FileAt) → Q (begun_by x)
+    by_file (Some f) = unfold begun_by verdict if_b in refl
+    by_file None = unfold begun_by verdict if_b in refl
 
 counted_begun : (s : List ℕ) (n : ℕ)
     → count_at s n ≡ record { verdict = (ours.begin s n).verdict; facts = ours.facts s (ours.begin s n).walk }
 unfolding count_at opened_at opened_by beginning_of
 counted_begun s n = by_begun (begun_at s n)
   where
-    by_begun : (b : Begun)
+    by_begun : (b : Result FileAt Verdict)
         → ◌≡◌ {A = FileFacts}
         (record { verdict = (opened_by no_walk b).verdict; facts = facts_of (records_at s (opened_by no_walk b).walk) })
         (record { verdict = (beginning_of b).verdict; facts = facts_of (records_at s (beginning_of b).walk) })
-    by_begun (At f) = refl
-    by_begun (NotBegun v) = refl
+    by_begun (Ok f) = refl
+    by_begun (Err v) = refl
 
 pub by_reader : ByReader ours
 unfolding read_at
@@ -290,7 +285,7 @@ write_refused x out =
     if_case (Writes numbers out) (eqb (sheet_number x) 0) _ _ (λ _. laid_refused (lay (sheet_of x)) out) (λ e. writes_refused numbers out (sheet_number x) (sheet_in x e))
 
 -- the same where a refusal may have a place
-abbrev Gives : Verdict → List ℕ → List ℕ → Result → Type 0
+abbrev Gives : Verdict → List ℕ → List ℕ → Stored → Type 0
 Gives own ns out r = Answered own ns r.verdict ((r.len ≡ 0) × (r.out ≡ out))
 
 gives_writes : (own : Verdict) (ns out : List ℕ) (w : Written) → Writes ns out w → Gives own ns out (placed w)
@@ -321,7 +316,7 @@ import_refused tape lengths out =
     (λ _. is_other _ _ _ 14 (unfold is_in if_b in refl) (refl, refl)))
     (λ e. is_given _ _ _ e (refl, refl))
   where
-    Q : Result → Type 0
+    Q : Stored → Type 0
     Q = Gives (tape_verdict tape lengths) (14 ∷ 10 ∷ []) out
 
 pub export_refused : (s out lengths : List ℕ) → Answered (framing s) (10 ∷ []) (to_simh s out lengths).verdict

@@ -1,5 +1,6 @@
 -- Document 01's whole set meets every condition that the demands ask of a set, a quota and names, and its order sheet every one
 -- that they ask of a sheet: so nothing there is said of nothing. What is claimed is computed. Assumes nothing.
+use Rattle.std.specs.Prelude.{Ok, Err}
 use mathlib.Core.Path.{◌≡◌, refl, ap, ◌∙◌}
 use mathlib.Core.List.{List, [], ◌∷◌, ◌++◌}
 use Prim.Native.Nat.{ℕ, ◌≤◌}
@@ -44,7 +45,7 @@ use Rattle.content.specs.Part.{place_behind, begins_file, led_to, continues_behi
 use Rattle.content.specs.Section.{as_block, block_in, data_from}
 use Rattle.content.specs.Walk.{before, rest_by, rest_f, rest_at, split_by, join_by, join_at, whole, left_of, is_inside, taken as unit_taken, unit_here, opened, block_next, unit_in as next_unit_in, unit_next, or_next, unit_from, begun_by as begun_record, record_at, step_by, step_at}
 use Rattle.content.specs.Found.{passed, found_by, found_in, found_from, found_at, left_in, left_from, left_at}
-use Rattle.content.specs.declared.Found.TheVariants.{InImage, Joined, Refused}
+use Rattle.content.specs.declared.Found.TheVariants.{InImage, Joined}
 use Rattle.content.specs.File.{mark_from, as_file, file_in, file_from, first_file, from_file, files_on, file_numbered, begun_by, begun_at}
 use Rattle.content.specs.Numbers.{beginning_of}
 use Rattle.listing.proofs.Examples.{ledger}
@@ -128,7 +129,7 @@ unfolding ledger if_b part same all_are is_digit all_digits value digits fault v
 miscounted = (refl, refl, refl)
 
 -- the record stands in one unit: a part of the image, whatever the joining buffer
-pub record_found : ((room : ℕ) → found_at set 1 1 room ≡ InImage 260 10)
+pub record_found : ((room : ℕ) → found_at set 1 1 room ≡ Ok (InImage 260 10))
     × (record_at set (beginning_of (begun_at set 1)).walk
     ≡ whole 260 10 (record { format = 70; record_length = 10; offset = 0; at = 270; left = 0 }))
 unfolding ledger if_b part same all_are is_digit all_digits value digits fault verdict or_else is_a class_of all_a is_century is_year_day is_date number_in framed_from items framing word led_by shape item_of behind decode_f decode three bytes_of encode_by encode up_to_nine dues choose due_after is_kind volume_of set_of section_of sequence_of count_of format_of block_length_of record_length_of offset_of least_record suits suits_both is_length is_record_length is_positive is_format has_record_length good first_bad good_at agree_at access_of access_at field_fault label_fault required family numbered optional or_named named_by kind_of fields_of bytes onto cut_one cut_f cut some_units units outcome is_turn open_after turns_from turned block_outcome fixed measured variable segment unit_of length_of says value_of lower crossed is_among volume_fault new_file_place later_place file_fault hdr1_fault hdr2_fault trailer1_fault open_fault file_end_fault trailer2_fault outcome_in block_fault context_fault item_fault on_first joined fields_from collect set_from meaning_of handed_out content further next runs answer_of image_verdict start is_due kind_in bytes_in volumes_after files_after continues_after hdr1_after hdr2_after count_after pending_after state_after segments_of segments_in events_of judged ordered step put_at fitted filled made_volume made_first made_second format_from block_length_from in_parts_f in_parts enters taken indicator_of control_word start_of unit_in fill after weights weight blocks_f blocks_left blocks_of put headers file_end volume_end rest lay_files lay_on reels_of lay sheet_from word_of is_sound legal_entry record_length_from legal_record legal_records legal_file legal_files legal_meaning legal_name fresh_names legal_names legal_quota legal_sheet files_from adds_up sheet_of sheet_number reels_number sum cut_by place_behind mark_from begins_file led_to continues_behind first_behind part_in onto_parts parts_by parts_from is_wanted first_in as_file file_in file_from first_file from_file files_on file_numbered begun_by beginning_of found_at found_from found_in passed step_at step_by record_at is_inside begun_record unit_from unit_here or_next unit_taken unit_next next_unit_in block_next opened left_of data_from block_in as_block found_by begun_at
@@ -154,9 +155,9 @@ message =
     ∷ [])
 
 -- it is joined in a buffer of three bytes, and refused with 10 in one of two
-pub record_joined : (image_verdict message ≡ verdict 0 0 0) × (found_at message 1 1 3 ≡ Joined 3)
+pub record_joined : (image_verdict message ≡ verdict 0 0 0) × (found_at message 1 1 3 ≡ Ok (Joined 3))
     × (left_at message 1 1 (0 ∷ 0 ∷ 0 ∷ 0 ∷ []) ≡ bytes "ABC" ++ (0 ∷ []))
-    × (found_at message 1 1 2 ≡ Refused (verdict 10 0 0))
+    × (found_at message 1 1 2 ≡ Err (verdict 10 0 0))
 unfolding message if_b part same all_are is_digit all_digits value digits fault verdict or_else is_a class_of all_a is_century is_year_day is_date number_in framed_from items framing word led_by shape item_of behind decode_f decode three bytes_of encode_by encode up_to_nine dues choose due_after is_kind volume_of set_of section_of sequence_of count_of format_of block_length_of record_length_of offset_of least_record suits suits_both is_length is_record_length is_positive is_format has_record_length good first_bad good_at agree_at access_of access_at field_fault label_fault required family numbered optional or_named named_by kind_of fields_of bytes onto cut_one cut_f cut some_units units outcome is_turn open_after turns_from turned block_outcome fixed measured variable segment unit_of length_of says value_of lower crossed is_among volume_fault new_file_place later_place file_fault hdr1_fault hdr2_fault trailer1_fault open_fault file_end_fault trailer2_fault outcome_in block_fault context_fault item_fault on_first joined fields_from collect set_from meaning_of handed_out content further next runs answer_of image_verdict start is_due kind_in bytes_in volumes_after files_after continues_after hdr1_after hdr2_after count_after pending_after state_after segments_of segments_in events_of judged ordered step put_at fitted filled made_volume made_first made_second format_from block_length_from in_parts_f in_parts enters taken indicator_of control_word start_of unit_in fill after weights weight blocks_f blocks_left blocks_of put headers file_end volume_end rest lay_files lay_on reels_of lay sheet_from word_of is_sound legal_entry record_length_from legal_record legal_records legal_file legal_files legal_meaning legal_name fresh_names legal_names legal_quota legal_sheet files_from adds_up sheet_of sheet_number reels_number sum cut_by place_behind mark_from begins_file led_to continues_behind first_behind part_in onto_parts parts_by parts_from is_wanted first_in as_file file_in file_from first_file from_file files_on file_numbered begun_by beginning_of found_at found_from found_in passed step_at step_by record_at is_inside begun_record unit_from unit_here or_next unit_taken unit_next next_unit_in block_next opened left_of data_from block_in as_block found_by begun_at split_by rest_at rest_f rest_by before left_at left_from left_in join_at join_by
 record_joined = (refl, refl, refl, refl)
 

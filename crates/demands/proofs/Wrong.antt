@@ -1,4 +1,6 @@
 -- Wrong programs that the page of demands names: each is ours but for one operation, and does not meet it. Assumes nothing.
+use Rattle.content.specs.declared.Found.{Found}
+use Rattle.std.specs.Prelude.{Err, Ok, Result}
 use mathlib.Core.Path.{◌≡◌, refl, sym, ap, ap₂, ◌∙◌, subst}
 use mathlib.Core.List.{List, [], ◌∷◌, ◌++◌}
 use Prim.Native.Nat.{ℕ, ◌+◌, ◌≤◌}
@@ -14,7 +16,7 @@ use Rattle.base.specs.declared.Verdict.{Verdict}
 use Rattle.base.specs.Part.{part, put_at, same}
 use Rattle.base.proofs.Parts.{put_none}
 use Rattle.image.specs.Framing.{framing, items}
-use Rattle.output.specs.Output.{Written, refused, Result, placed, image_in}
+use Rattle.output.specs.Output.{Written, refused, Result as Stored, placed, image_in}
 use Rattle.output.specs.Text.{bytes}
 use Rattle.volume.specs.Run.{image_verdict}
 use Rattle.volume.specs.Accepted.{Accepted, FirstFault, over_long, no_image, unframed, wrong}
@@ -27,10 +29,7 @@ use Rattle.content.specs.Row.{StepRow, stays, steps_by, steps_at, steps_in, row_
 use Rattle.content.specs.Found.{passed, left_at}
 use Rattle.content.specs.File.{file_numbered, begun_by}
 use Rattle.content.specs.Numbers.{no_walk, record_of, beginning_of, stepped_of}
-use Rattle.content.specs.declared.Begun.TheVariants.{Refused as NotBegun}
-use Rattle.content.specs.declared.Found.{Found}
-use Rattle.content.specs.declared.Found.TheVariants.{Joined}
-use Rattle.content.specs.declared.Step.TheVariants.{InImage}
+use Rattle.content.specs.declared.Found.TheVariants.{Joined, InImage}
 use Rattle.content.specs.declared.numbers.Located.{Located}
 use Rattle.content.specs.declared.numbers.Beginning.{Beginning}
 use Rattle.content.specs.declared.numbers.Stepped.{Stepped}
@@ -48,7 +47,7 @@ use Rattle.demands.proofs.Witness.{set, names, document01, set_accepted, reels_l
 -- rewriter
 abbrev pub program : (List ℕ → Verdict) → (List ℕ → ℕ → Beginning) → (List ℕ → ℕ → ℕ → Beginning)
     → (List ℕ → ℕ → ℕ → List ℕ → Handing) → (List ℕ → Walk → List ℕ → Moving) → (List ℕ → Walk → List ℕ → List ℕ → Listing)
-    → (Flat → List ℕ → Written) → (List ℕ → ℕ → List ℕ → List ℕ → Result) → Operations
+    → (Flat → List ℕ → Written) → (List ℕ → ℕ → List ℕ → List ℕ → Stored) → Operations
 program check begin further find step steps write rewrite =
     record {
       check = check;
@@ -93,7 +92,7 @@ rowing steps = program image_verdict ours.begin ours.further ours.find ours.step
 abbrev pub writing : (Flat → List ℕ → Written) → Operations
 writing write = program image_verdict ours.begin ours.further ours.find ours.step ours.steps write rewrite
 
-abbrev pub rewriting : (List ℕ → ℕ → List ℕ → List ℕ → Result) → Operations
+abbrev pub rewriting : (List ℕ → ℕ → List ℕ → List ℕ → Stored) → Operations
 rewriting rewrite = program image_verdict ours.begin ours.further ours.find ours.step ours.steps write rewrite
 
 -- an answer without the walk's move
@@ -225,7 +224,7 @@ unfolding verdict beginning_of
 same_file_again d =
     let one : (ours.begin set 1).verdict.number ≡ 0 = ap (λ (v : Verdict). v.number) (d.files set [] ledger_file [] set_accepted set_files).begun in
     let again : ours.begin set 1 ≡ ours.begin set 2 = sym (d.first set set_accepted) ∙ d.further set 1 one in
-    let over : ours.begin set 2 ≡ beginning_of (NotBegun (verdict 13 0 0)) = (d.no_file set 2 set_accepted behind).0 in
+    let over : ours.begin set 2 ≡ beginning_of (Err (verdict 13 0 0)) = (d.no_file set 2 set_accepted behind).0 in
     let z : ◌≡◌ {A = ℕ} 0 13 = sym one ∙ ap (λ (b : Beginning). b.verdict.number) (again ∙ over) in
     omega arith
   where
@@ -235,7 +234,7 @@ same_file_again d =
 -- a search that joins every record in the buffer, be it one unit, and so gives 10 for it
 unfoldable pub copied : List ℕ → List ℕ → Located → Handing
 copied s old x =
-    if_b (leb x.len (length old)) (record { at = record_of (Joined x.len); left = put_at old 0 (part x.start x.len s) })
+    if_b (leb x.len (length old)) (record { at = record_of (Ok (Joined x.len)); left = put_at old 0 (part x.start x.len s) })
     (no_record (verdict 10 0 0) old)
 
 pub joins_all : Demand2
@@ -254,7 +253,7 @@ joins_all d =
 
     asks : (f []).at.verdict.number ≡ 10
     asks =
-        ap (λ (x : Found). (if_b (eqb (record_of x).verdict.number 0) (copied set [] (record_of x))
+        ap (λ (x : Result Found Verdict). (if_b (eqb (record_of x).verdict.number 0) (copied set [] (record_of x))
         (record { at = record_of x; left = left_at set 1 1 [] })).at.verdict.number) (record_found.0 0)
 
     by_way : Handed set (bytes "0123456789") f (record_at set (ours.begin set 1).walk) → ⊥
@@ -262,7 +261,7 @@ joins_all d =
     by_way (several v stood at) = let q = sym record_found.1 ∙ stood in let z : ◌≡◌ {A = ℕ} 0 1 = cc in omega arith
 
 -- a step that hands out all of an image, whatever it is
-pub hands_over_all : Demand2 (stepping (λ s w old. record { answer = stepped_of w (InImage 0 (length s) w); left = old })) → ⊥
+pub hands_over_all : Demand2 (stepping (λ s w old. record { answer = stepped_of w (Ok (InImage 0 (length s), w)); left = old })) → ⊥
 unfolding stepped_of step_at step_by record_at if_b
 hands_over_all d = let z : ◌≡◌ {A = ℕ} 0 13 = ap (λ (x : Moving). x.answer.number) (d.step [] no_walk []) in omega arith
 
@@ -322,7 +321,7 @@ rest_stays n x out w (few_reels z q) e = absurd (omega arith)
 rest_stays n x out w (too_long z xs q l) e = absurd (omega arith)
 rest_stays n x out w (no_room z xs q l h) e = absurd (omega arith)
 
-unfoldable pub filled : Result → Result
+unfoldable pub filled : Stored → Stored
 filled r = record { verdict = r.verdict; len = r.len; out = image_in r ++ (94 ∷ []) }
 
 pub fills_behind : Demand2 (rewriting (λ s quota names out. filled (rewrite s quota names out))) → ⊥
@@ -333,10 +332,10 @@ fills_behind d =
     let done : rewrite set 1 names out ≡ placed (written (image f) out) = rewritten set 1 names out set_accepted reels_legal f in
     let (w, o, e) = d.rewritten set 1 names out set_accepted in
     let q : filled (placed (written (image f) out)) ≡ placed w = ap filled (sym done) ∙ e in
-    let number : w.number ≡ 0 = sym (ap (λ (r : Result). r.verdict.number) q) in
-    let len : w.len ≡ length (image f) = sym (ap (λ (r : Result). r.len) q) in
+    let number : w.number ≡ 0 = sym (ap (λ (r : Stored). r.verdict.number) q) in
+    let len : w.len ≡ length (image f) = sym (ap (λ (r : Stored). r.len) q) in
     let end : length (image f) ≡ 448 = size in
-    let held : w.out ≡ image f ++ (94 ∷ []) = sym (ap (λ (r : Result). r.out) q) ∙ ap (λ (l : List ℕ). l ++ (94 ∷ [])) (take_at (image f) (drop (length (image f)) out) (length (image f)) refl) in
+    let held : w.out ≡ image f ++ (94 ∷ []) = sym (ap (λ (r : Stored). r.out) q) ∙ ap (λ (l : List ℕ). l ++ (94 ∷ [])) (take_at (image f) (drop (length (image f)) out) (length (image f)) refl) in
     let stays : drop w.len w.out ≡ drop w.len out = rest_stays _ _ out w o number in
     let here : drop w.len w.out ≡ 94 ∷ [] = ap₂ (λ (n : ℕ) (l : List ℕ). drop n l) len held ∙ drop-append_seam (image f) (94 ∷ []) in
     let there : drop w.len out ≡ 0 ∷ [] = ap (λ (n : ℕ). drop n out) (len ∙ end) in

@@ -1,7 +1,8 @@
 -- The owner's three demands, in his words and as statements about any operations. `Met.antt` proves that ours meet them,
 -- `Wrong.antt` that wrong ones do not; `Terms.antt` has the words that are used here, `Witness.antt` a set of which every
 -- condition holds.
-use Rattle.std.specs.Prelude.{◌≡◌, ◌↔◌, List, [], ◌∷◌, ◌++◌, ℕ, ◌+◌, ◌≤◌, min, length, take}
+use Rattle.std.specs.Prelude.{◌≡◌, ◌↔◌, List, [], ◌∷◌, ◌++◌, ℕ, ◌+◌, ◌≤◌, min, length, take, Err, Result}
+use Rattle.content.specs.declared.Found.{Found}
 use Rattle.base.specs.Answer.{verdict}
 use Rattle.base.specs.declared.Verdict.{Verdict}
 use Rattle.image.specs.Framing.{framing, items}
@@ -22,10 +23,6 @@ use Rattle.content.specs.Found.{part_of}
 use Rattle.content.specs.Records.{records_at, facts_of}
 use Rattle.content.specs.Numbers.{beginning_of, stepped_of}
 use Rattle.content.specs.declared.Walk.{Walk}
-use Rattle.content.specs.declared.Found.{Found}
-use Rattle.content.specs.declared.Found.TheVariants.{Refused as NotFound}
-use Rattle.content.specs.declared.Begun.TheVariants.{Refused as NotBegun}
-use Rattle.content.specs.declared.Step.TheVariants.{Refused as NoStep}
 use Rattle.listing.specs.Text.{listing_of, refusal_line}
 use Rattle.writing.specs.Rewrite.{sheet_from}
 use Rattle.demands.specs.Operations.{listing, Operations}
@@ -41,24 +38,24 @@ pub record Demand1 (p : Operations) : Type 0 where
   -- (`moves_and_refuses`), a number that no table has (`unknown_number`).
   pub check : (s : List ℕ) → Placed (p.check s).number (p.check s).byte
   pub begin : (s : List ℕ) (n : ℕ)
-      → Answered (p.check s) (13 ∷ []) (p.begin s n).verdict (p.begin s n ≡ beginning_of (NotBegun (p.begin s n).verdict))
+      → Answered (p.check s) (13 ∷ []) (p.begin s n).verdict (p.begin s n ≡ beginning_of (Err (p.begin s n).verdict))
   pub first : (s : List ℕ)
-      → Answered none_given (13 ∷ []) (p.first s).verdict (p.first s ≡ beginning_of (NotBegun (p.first s).verdict))
+      → Answered none_given (13 ∷ []) (p.first s).verdict (p.first s ≡ beginning_of (Err (p.first s).verdict))
   pub further : (s : List ℕ) (a b : ℕ)
       → Answered none_given (13 ∷ []) (p.further s a b).verdict
-      (p.further s a b ≡ beginning_of (NotBegun (p.further s a b).verdict))
+      (p.further s a b ≡ beginning_of (Err (p.further s a b).verdict))
   pub find : (s : List ℕ) (n r : ℕ) (old : List ℕ)
       → Answered (p.check s) (13 ∷ 10 ∷ []) (p.find s n r old).at.verdict
       (p.find s n r old ≡ no_record (p.find s n r old).at.verdict old)
   pub step : (s : List ℕ) (w : Walk) (old : List ℕ)
       → Answered none_given (13 ∷ 10 ∷ []) (verdict (p.step s w old).answer.number 0 0)
-      (p.step s w old ≡ record { answer = stepped_of w (NoStep (p.step s w old).answer.number); left = old })
+      (p.step s w old ≡ record { answer = stepped_of w (Err (p.step s w old).answer.number); left = old })
   -- Steps at once give no number: where none is taken the walk and both lists stay. Ruled out: one that shortens the lists to
   -- what it found (`shortens`).
   pub steps : (s : List ℕ) (w : Walk) (places lengths : List ℕ) → (p.steps s w places lengths).answer.count ≡ 0
       → p.steps s w places lengths ≡ listing places lengths (stays w)
   pub reader : ByReader p
-  pub part : (s join : List ℕ) (v : Verdict) → p.part s join (NotFound v) ≡ []
+  pub part : (s join : List ℕ) (v : Verdict) → p.part s join (Err v) ≡ []
   pub facts : (s : List ℕ) (n : ℕ) → ((p.begin s n).verdict.number ≡ 0 → ⊥) → p.facts s (p.begin s n).walk ≡ facts_of []
   pub list : (s out : List ℕ)
       → Answered none_given (10 ∷ []) (verdict (p.list s out).number 0 0) (((p.list s out).len ≡ 0) × ((p.list s out).out ≡ out))
@@ -81,7 +78,7 @@ pub record Demand1 (p : Operations) : Type 0 where
 -- was found. Export goes by the framing alone, as document 02 has it.) Ruled out: a reader that hands over what came before the
 -- fault (`hands_over`).
 pub record NotAtAll (p : Operations) (s : List ℕ) : Type 0 where
-  pub begin : (n : ℕ) → p.begin s n ≡ beginning_of (NotBegun (p.check s))
+  pub begin : (n : ℕ) → p.begin s n ≡ beginning_of (Err (p.check s))
   pub find : (n r : ℕ) (old : List ℕ) → p.find s n r old ≡ no_record (p.check s) old
   pub list : (out : List ℕ) → p.list s out ≡ fitted (refusal_line (p.check s)) out
   pub rewrite : (quota : ℕ) (names out : List ℕ)
@@ -102,7 +99,7 @@ pub record Demand2 (p : Operations) : Type 0 where
   pub files : (s : List ℕ) (ds : List File) (d : File) (es : List File) → Accepted s → (content s).files ≡ ds ++ (d ∷ es)
       → FileGiven p s (length ds + 1) d
   pub no_file : (s : List ℕ) (n : ℕ) → Accepted s → OutOf (length (content s).files) n
-      → (p.begin s n ≡ beginning_of (NotBegun (verdict 13 0 0)))
+      → (p.begin s n ≡ beginning_of (Err (verdict 13 0 0)))
       × ((r : ℕ) (old : List ℕ) → p.find s n r old ≡ no_record (verdict 13 0 0) old)
   pub begin : (s : List ℕ) (n : ℕ) → p.begin s n ≡ beginning_of (begun_at s n)
   -- From file to file it is the same way as by their numbers. Ruled out: a search that stays at its file (`same_file_again`).
@@ -122,7 +119,7 @@ pub record Demand2 (p : Operations) : Type 0 where
   pub steps : (s : List ℕ) (w : Walk) (places lengths : List ℕ)
       → p.steps s w places lengths ≡ listing places lengths (row_by p s (min (length places) (length lengths)) w)
   pub facts : (s : List ℕ) (w : Walk) → p.facts s w ≡ facts_of (records_at s w)
-  pub part : (s join : List ℕ) (x : Found) → p.part s join x ≡ part_of s join x
+  pub part : (s join : List ℕ) (x : Result Found Verdict) → p.part s join x ≡ part_of s join x
   pub listed : (s out : List ℕ) → Accepted s → p.list s out ≡ fitted (listing_of (content s)) out
   -- "The reel writer turns any order sheet that it doesn't refuse into the image fixed there, which reads back as an accepted set
   -- with that sheet's meaning." It does not refuse a legal one whose image has room. Ruled out: an idle writer (`idle`), one that

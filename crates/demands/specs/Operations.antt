@@ -2,9 +2,10 @@
 -- list of bytes. `ours` are the definitions that the promises of the public functions cite: what these say of lists, the
 -- functions do with slices. The measures of `content` by which these are made, its search from a file's data on and the line of a
 -- refusal are no operations of their own: each function's promise is its definition, on any bytes.
-use Rattle.std.specs.Prelude.{List, ℕ, length}
+use Rattle.std.specs.Prelude.{List, ℕ, length, Result}
+use Rattle.content.specs.declared.Found.{Found}
 use Rattle.base.specs.declared.Verdict.{Verdict}
-use Rattle.output.specs.Output.{Written, Result, fitted}
+use Rattle.output.specs.Output.{Written, Result as Stored, fitted}
 use Rattle.simh.specs.Set.{Converted, from_simh, to_simh}
 use Rattle.volume.specs.Run.{image_verdict}
 use Rattle.sheet.specs.Flat.{Flat}
@@ -18,7 +19,6 @@ use Rattle.content.specs.Found.{found_at, left_at, part_of}
 use Rattle.content.specs.Records.{records_at, facts_of}
 use Rattle.content.specs.Numbers.{record_of, beginning_of, file_of, stepped_of}
 use Rattle.content.specs.declared.Walk.{Walk}
-use Rattle.content.specs.declared.Found.{Found}
 use Rattle.content.specs.declared.items.ItemAt.{ItemAt}
 use Rattle.content.specs.declared.numbers.Located.{Located}
 use Rattle.content.specs.declared.numbers.Beginning.{Beginning}
@@ -64,7 +64,7 @@ pub record Operations : Type 0 where
   -- steps from a walk's place, as many as two lists have room for
   pub steps : List ℕ → Walk → List ℕ → List ℕ → Listing
   -- the record that was found: a part of the image or the front of the joining buffer
-  pub part : List ℕ → List ℕ → Found → List ℕ
+  pub part : List ℕ → List ℕ → Result Found Verdict → List ℕ
   -- how many records, and how many bytes of them, there are from a walk on
   pub facts : List ℕ → Walk → Facts
   -- a reader that stands at a walk's place: file n opened, the record there, and the facts of file n
@@ -79,9 +79,9 @@ pub record Operations : Type 0 where
   -- an order sheet written into a buffer
   pub write : Flat → List ℕ → Written
   -- an image rewritten with a quota and a list of names into a buffer
-  pub rewrite : List ℕ → ℕ → List ℕ → List ℕ → Result
+  pub rewrite : List ℕ → ℕ → List ℕ → List ℕ → Stored
   -- tape files, end to end, and their lengths, into an image in a buffer
-  pub import : List ℕ → List ℕ → List ℕ → Result
+  pub import : List ℕ → List ℕ → List ℕ → Stored
   -- an image into tape files in a buffer, and their lengths in a list
   pub export : List ℕ → List ℕ → List ℕ → Converted
 

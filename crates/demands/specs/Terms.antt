@@ -1,5 +1,5 @@
 -- The words of the page of demands.
-use Rattle.std.specs.Prelude.{◌≡◌, true, Bool, false, List, [], ◌∷◌, ◌++◌, ℕ, ◌+◌, zero, suc, ◌≤◌, ◌<◌, eqb, leb, length, drop}
+use Rattle.std.specs.Prelude.{◌≡◌, true, Bool, false, List, [], ◌∷◌, ◌++◌, ℕ, ◌+◌, zero, suc, ◌≤◌, ◌<◌, eqb, leb, length, drop, Some, Err, Ok}
 use Rattle.base.specs.If.{if_b}
 use Rattle.base.specs.Answer.{verdict}
 use Rattle.base.specs.declared.Verdict.{Verdict}
@@ -17,9 +17,7 @@ use Rattle.content.specs.Numbers.{record_of, stepped_of}
 use Rattle.content.specs.declared.Walk.{Walk}
 use Rattle.content.specs.declared.numbers.Stepped.{Stepped}
 use Rattle.content.specs.declared.numbers.Located.{Located}
-use Rattle.content.specs.declared.Step.TheVariants.{Refused as NoStep}
-use Rattle.content.specs.declared.Found.TheVariants.{InImage, Joined, Refused as NotFound}
-use Rattle.content.specs.declared.unit.Place.TheVariants.{At}
+use Rattle.content.specs.declared.Found.TheVariants.{InImage, Joined}
 use Rattle.writing.specs.Lay.{laid, short, lay}
 use Rattle.demands.specs.Operations.{Handing, Moving, Operations}
 
@@ -52,17 +50,17 @@ OutOf n k = (i : ℕ) → i < n → i + 1 ≡ k → ⊥
 
 -- no record, with the buffer as it was
 abbrev pub no_record : Verdict → List ℕ → Handing
-no_record v old = record { at = record_of (NotFound v); left = old }
+no_record v old = record { at = record_of (Err v); left = old }
 
 -- Record r of image s is handed out by f, whatever the joining buffer held. Where x, the record as it stands, is one unit, it is
 -- that part of the image, and the buffer, of whatever length, stays; where it is several segments, they are joined in the front
 -- of the buffer, and refused with 10 exactly where that is shorter than the record.
 pub data Handed (s r : List ℕ) (f : List ℕ → Handing) (x : Record) : Type 0 where
   one : (start : ℕ) (v : Walk) → x ≡ whole start (length r) v → part start (length r) s ≡ r
-      → ((old : List ℕ) → f old ≡ record { at = record_of (InImage start (length r)); left = old }) → Handed s r f x
+      → ((old : List ℕ) → f old ≡ record { at = record_of (Ok (InImage start (length r))); left = old }) → Handed s r f x
   several : (v : Walk) → x ≡ split r v
       → ((old : List ℕ) → f old
-      ≡ if_b (leb (length r) (length old)) (record { at = record_of (Joined (length r)); left = put_at old 0 r })
+      ≡ if_b (leb (length r) (length old)) (record { at = record_of (Ok (Joined (length r))); left = put_at old 0 r })
       (no_record (verdict 10 0 0) old))
       → Handed s r f x
 
@@ -75,7 +73,7 @@ handing x = record { at = located_in x.answer; left = x.left }
 
 -- step after step from w hands out these records, each with the walk moved on, and the step behind the last is 13
 abbrev pub Steps : Operations → List ℕ → Walk → List (List ℕ) → Type 0
-Steps p s w [] = (old : List ℕ) → p.step s w old ≡ record { answer = stepped_of w (NoStep 13); left = old }
+Steps p s w [] = (old : List ℕ) → p.step s w old ≡ record { answer = stepped_of w (Err 13); left = old }
 Steps p s w (r ∷ rs) =
     (v : Walk) × Handed s r (λ old. handing (p.step s w old)) (record_at s w)
     × ((old : List ℕ) → (p.step s w old).answer.number ≡ 0 → (p.step s w old).answer.walk ≡ v)
@@ -96,7 +94,7 @@ pub record FileGiven (p : Operations) (s : List ℕ) (n : ℕ) (d : File) : Type
   pub fields : d.fields ≡ fields_from (part (p.begin s n).hdr1 80 s) (part (p.begin s n).hdr2 80 s)
   pub walked : Steps p s (p.begin s n).walk d.records
   pub asked : (rs : List (List ℕ)) (r : List ℕ) (ts : List (List ℕ)) → d.records ≡ rs ++ (r ∷ ts)
-      → (w : Walk) × (passed s (length rs) (p.begin s n).walk ≡ At w)
+      → (w : Walk) × (passed s (length rs) (p.begin s n).walk ≡ Some w)
       × Handed s r (λ old. p.find s n (length rs + 1) old) (record_at s w)
   pub counted : p.facts s (p.begin s n).walk ≡ facts_of d.records
   pub none : (k : ℕ) → OutOf (length d.records) k → (old : List ℕ) → p.find s n k old ≡ no_record (verdict 13 0 0) old

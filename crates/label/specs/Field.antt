@@ -2,7 +2,7 @@
 -- for the record length, the whole label.
 -- The record length of a D file counts its control word: 8.5.2.6 of ECMA-13 makes it the maximum length of an MDU, and 7.2.3 puts
 -- the word into the MDU. So for D it is 5 or more, and a record has at most R - 4 bytes.
-use Rattle.std.specs.Prelude.{Bool, true, false, ◌||◌, List, [], ◌∷◌, ℕ, ◌+◌, leb, eqb, get_or}
+use Rattle.std.specs.Prelude.{Bool, true, false, ◌||◌, List, [], ◌∷◌, ℕ, ◌+◌, leb, eqb, get_or, Option, Some, None}
 use Rattle.base.specs.If.{if_b}
 use Rattle.base.specs.Format.{format_f, format_d, format_s}
 use Rattle.base.specs.Part.{same, all_are}
@@ -10,8 +10,6 @@ use Rattle.base.specs.Digits.{all_digits}
 use Rattle.charset.specs.Class.{all_a}
 use Rattle.charset.specs.Number.{number_in}
 use Rattle.charset.specs.Date.{is_date}
-use Rattle.charset.specs.declared.Number.{Number}
-use Rattle.charset.specs.declared.Number.TheVariants.{Value, Wrong}
 use Rattle.label.specs.Table.{characters, spaces, digits, zeros, positive, date, standard, format, record_length, place_of, field, vol1, hdr1, hdr2, volume_row, set_row, section_row, sequence_row, count_row, format_row, block_length_row, record_length_row, offset_row}
 
 -- ---- the volume identifier of VOL1, and what the cross-checks read of HDR1, EOV1 and EOF1
@@ -22,13 +20,13 @@ volume_of l = field vol1 volume_row l
 unfoldable pub set_of : List ℕ → List ℕ
 set_of l = field hdr1 set_row l
 
-unfoldable pub section_of : List ℕ → Number
+unfoldable pub section_of : List ℕ → Option ℕ
 section_of l = number_in (field hdr1 section_row l)
 
-unfoldable pub sequence_of : List ℕ → Number
+unfoldable pub sequence_of : List ℕ → Option ℕ
 sequence_of l = number_in (field hdr1 sequence_row l)
 
-unfoldable pub count_of : List ℕ → Number
+unfoldable pub count_of : List ℕ → Option ℕ
 count_of l = number_in (field hdr1 count_row l)
 
 -- ---- the record format and the three lengths of HDR2, EOV2 and EOF2
@@ -36,13 +34,13 @@ count_of l = number_in (field hdr1 count_row l)
 unfoldable pub format_of : List ℕ → ℕ
 format_of l = get_or l (place_of hdr2 format_row) 0
 
-unfoldable pub block_length_of : List ℕ → Number
+unfoldable pub block_length_of : List ℕ → Option ℕ
 block_length_of l = number_in (field hdr2 block_length_row l)
 
-unfoldable pub record_length_of : List ℕ → Number
+unfoldable pub record_length_of : List ℕ → Option ℕ
 record_length_of l = number_in (field hdr2 record_length_row l)
 
-unfoldable pub offset_of : List ℕ → Number
+unfoldable pub offset_of : List ℕ → Option ℕ
 offset_of l = number_in (field hdr2 offset_row l)
 
 -- the least record length of a format
@@ -54,24 +52,24 @@ unfoldable pub suits : ℕ → ℕ → ℕ → ℕ → Bool
 suits f b r o = if_b (eqb f format_s) (leb (o + 6) b) (leb (r + o) b)
 
 -- R against B and O: only where both are numbers
-unfoldable pub suits_both : ℕ → Number → ℕ → Number → Bool
-suits_both f Wrong r o = true
-suits_both f (Value b) r Wrong = true
-suits_both f (Value b) r (Value o) = suits f b r o
+unfoldable pub suits_both : ℕ → Option ℕ → ℕ → Option ℕ → Bool
+suits_both f None r o = true
+suits_both f (Some b) r None = true
+suits_both f (Some b) r (Some o) = suits f b r o
 
 -- R by itself, and against B and O
-unfoldable pub is_length : ℕ → Number → ℕ → Number → Bool
+unfoldable pub is_length : ℕ → Option ℕ → ℕ → Option ℕ → Bool
 is_length f b r o = if_b (leb (least_record f) r) (suits_both f b r o) false
 
 -- R, if it is a number
-unfoldable pub is_record_length : ℕ → Number → Number → Number → Bool
-is_record_length f b Wrong o = false
-is_record_length f b (Value r) o = is_length f b r o
+unfoldable pub is_record_length : ℕ → Option ℕ → Option ℕ → Option ℕ → Bool
+is_record_length f b None o = false
+is_record_length f b (Some r) o = is_length f b r o
 
 -- a number of 1 or more
-unfoldable pub is_positive : Number → Bool
-is_positive (Value n) = leb 1 n
-is_positive Wrong = false
+unfoldable pub is_positive : Option ℕ → Bool
+is_positive (Some n) = leb 1 n
+is_positive None = false
 
 unfoldable pub is_format : List ℕ → Bool
 is_format f = same f (format_f ∷ []) || (same f (format_d ∷ []) || same f (format_s ∷ []))

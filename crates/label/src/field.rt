@@ -9,7 +9,7 @@ ghost use Rattle.label.specs.Judged.{good_at};
 
 use super::table;
 use base::{SEGMENTED, VARIABLE, equal, part_of};
-use charset::{Number, all_characters, all_digits, date, number_in};
+use charset::{all_characters, all_digits, date, number_in};
 
 // The byte at a place, or another one behind the end.
 pub(crate) fn byte_or(s: &[u8], at: usize, other: u8) -> u8
@@ -36,21 +36,21 @@ pub fn set_of(l: &[u8]) -> &[u8]
 }
 
 // HDR1, EOV1 and EOF1: the section number.
-pub fn section_of(l: &[u8]) -> Number
+pub fn section_of(l: &[u8]) -> Option<u32>
     ensures { result ≡ section_of l.now }
 {
     number_in(part_of(l, table::SECTION, table::SECTION_WIDTH))
 }
 
 // HDR1, EOV1 and EOF1: the sequence number.
-pub fn sequence_of(l: &[u8]) -> Number
+pub fn sequence_of(l: &[u8]) -> Option<u32>
     ensures { result ≡ sequence_of l.now }
 {
     number_in(part_of(l, table::SEQUENCE, table::SEQUENCE_WIDTH))
 }
 
 // HDR1, EOV1 and EOF1: the block count.
-pub fn count_of(l: &[u8]) -> Number
+pub fn count_of(l: &[u8]) -> Option<u32>
     ensures { result ≡ count_of l.now }
 {
     number_in(part_of(l, table::COUNT, table::COUNT_WIDTH))
@@ -64,21 +64,21 @@ pub fn format_of(l: &[u8]) -> u8
 }
 
 // HDR2, EOV2 and EOF2: the block length B.
-pub fn block_length(l: &[u8]) -> Number
+pub fn block_length(l: &[u8]) -> Option<u32>
     ensures { result ≡ block_length_of l.now }
 {
     number_in(part_of(l, table::BLOCK_LENGTH, table::BLOCK_LENGTH_WIDTH))
 }
 
 // HDR2, EOV2 and EOF2: the record length R.
-pub fn record_length(l: &[u8]) -> Number
+pub fn record_length(l: &[u8]) -> Option<u32>
     ensures { result ≡ record_length_of l.now }
 {
     number_in(part_of(l, table::SIZE, table::SIZE_WIDTH))
 }
 
 // HDR2, EOV2 and EOF2: the offset length O.
-pub fn offset_length(l: &[u8]) -> Number
+pub fn offset_length(l: &[u8]) -> Option<u32>
     ensures { result ≡ offset_of l.now }
 {
     number_in(part_of(l, table::OFFSET, table::OFFSET_WIDTH))
@@ -88,23 +88,21 @@ pub fn offset_length(l: &[u8]) -> Number
 fn all_are(b: u8, s: &[u8]) -> bool
     ensures { result ≡ all_are b s.now }
 {
-    let mut i = 0;
-    while i < s.len() {
-        if s[i] != b {
+    for x in s {
+        if *x != b {
             return false;
         }
-        i += 1;
     }
     true
 }
 
 // Whether a number is 1 or more, and whether a field holds such a number.
-fn is_positive(n: Number) -> bool
+fn is_positive(n: Option<u32>) -> bool
     ensures { result ≡ is_positive n }
 {
     match n {
-        Number::Value(v) => 1 <= v,
-        Number::Wrong => false,
+        Some(v) => 1 <= v,
+        None => false,
     }
 }
 
@@ -142,20 +140,20 @@ fn suits(f: u8, b: u32, r: u32, o: u32) -> bool
 }
 
 // The same where B and O are numbers.
-fn suits_both(f: u8, b: Number, r: u32, o: Number) -> bool
+fn suits_both(f: u8, b: Option<u32>, r: u32, o: Option<u32>) -> bool
     ensures { result ≡ suits_both f b r o }
 {
-    let Number::Value(bv) = b else {
+    let Some(bv) = b else {
         return true;
     };
-    let Number::Value(ov) = o else {
+    let Some(ov) = o else {
         return true;
     };
     suits(f, bv, r, ov)
 }
 
 // Whether R is good by itself, and against B and O.
-fn is_length(f: u8, b: Number, r: u32, o: Number) -> bool
+fn is_length(f: u8, b: Option<u32>, r: u32, o: Option<u32>) -> bool
     ensures { result ≡ is_length f b r o }
 {
     if is_enough(f, r) {
@@ -165,12 +163,12 @@ fn is_length(f: u8, b: Number, r: u32, o: Number) -> bool
 }
 
 // The same, if R is a number.
-fn is_record_length(f: u8, b: Number, r: Number, o: Number) -> bool
+fn is_record_length(f: u8, b: Option<u32>, r: Option<u32>, o: Option<u32>) -> bool
     ensures { result ≡ is_record_length f b r o }
 {
     match r {
-        Number::Value(v) => is_length(f, b, v, o),
-        Number::Wrong => false,
+        Some(v) => is_length(f, b, v, o),
+        None => false,
     }
 }
 

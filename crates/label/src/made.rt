@@ -15,10 +15,8 @@ fn with_field(l: [u8; 80], at: usize, w: usize, f: &[u8]) -> [u8; 80]
     ensures { result ≡ put_at l at (fitted w f.now) }
 {
     let mut made = l;
-    let mut i = 0;
-    while i < w {
+    for i in 0..w {
         made[at + i] = byte_or(f, i, b' ');
-        i += 1;
     }
     made
 }

@@ -1,4 +1,6 @@
 -- The lines of the files of an accepted set, one after the other. Assumes nothing.
+use Rattle.content.specs.declared.part.Part.{Part}
+use Rattle.std.specs.Prelude.{Option, Some, None}
 use mathlib.Core.Path.{◌≡◌, refl, sym, ap, ap₂, ◌∙◌, subst}
 use mathlib.Core.Bool.{Bool, true, false, false≢true}
 use mathlib.Core.List.{List, [], ◌∷◌, ◌++◌, append_assoc, append-nil}
@@ -24,10 +26,7 @@ use Rattle.content.specs.Walked.{FileIs}
 use Rattle.content.specs.Code.Files.{Filed}
 use Rattle.content.specs.declared.holding.FileHeld.{FileHeld}
 use Rattle.content.specs.declared.FileAt.{FileAt}
-use Rattle.content.specs.declared.NextFile.{NextFile}
-use Rattle.content.specs.declared.NextFile.TheVariants.{At, Nowhere}
-use Rattle.content.specs.declared.part.Part.{Part}
-use Rattle.content.specs.declared.part.Part.TheVariants.{File as NewFile, Section, Block, None}
+use Rattle.content.specs.declared.part.Part.TheVariants.{File as NewFile, Section, Block}
 use Rattle.content.proofs.Parts.{stands, IsAhead, first_ahead}
 use Rattle.content.proofs.Walked.{files_all}
 use Rattle.listing.specs.Code.Page.{DidPutPage, endless}
@@ -73,19 +72,19 @@ line_is s n f d c =
 -- ---- from file to file
 
 -- a file stands no earlier than at a place
-abbrev pub NoEarlier : ℕ → NextFile → Type 0
-NoEarlier at (At f) = at ≤ f.hdr2
-NoEarlier at Nowhere = 0 ≤ at
+abbrev pub NoEarlier : ℕ → Option FileAt → Type 0
+NoEarlier at (Some f) = at ≤ f.hdr2
+NoEarlier at None = 0 ≤ at
 
-behind_less : (a b : ℕ) (x : NextFile) → a ≤ b → NoEarlier b x → NoEarlier a x
-behind_less a b (At f) h c = omega arith
-behind_less a b Nowhere h c = omega arith
+behind_less : (a b : ℕ) (x : Option FileAt) → a ≤ b → NoEarlier b x → NoEarlier a x
+behind_less a b (Some f) h c = omega arith
+behind_less a b None h c = omega arith
 
-file_behind_lem : (s : List ℕ) (at : ℕ) (p : Part) → IsAhead s at p → NoEarlier at (as_file s p)
+file_behind_lem : (s : List ℕ) (at : ℕ) (p : Option Part) → IsAhead s at p → NoEarlier at (as_file s p)
 unfolding as_file
-file_behind_lem s at (NewFile a b) h = omega (arith, h.onward)
-file_behind_lem s at (Section a b) h = omega arith
-file_behind_lem s at (Block start n) h = omega arith
+file_behind_lem s at (Some (NewFile a b)) h = omega (arith, h.onward)
+file_behind_lem s at (Some (Section a b)) h = omega arith
+file_behind_lem s at (Some (Block start n)) h = omega arith
 file_behind_lem s at None h = omega arith
 
 -- what is found from a place on stands behind it
@@ -95,7 +94,7 @@ found_behind s at hdr1 p = file_behind_lem s at _ (first_ahead s false false at 
 
 -- ---- the loop of `put_listing`: the lines written, then those of the files that are left
 
-pub record Lining (s o : List ℕ) (a : ℕ) (p : List ℕ) (r n : ℕ) (x : NextFile) : Type 0 where
+pub record Lining (s o : List ℕ) (a : ℕ) (p : List ℕ) (r n : ℕ) (x : Option FileAt) : Type 0 where
   pub room : length s < 18446744073709551616
   pub before : List ℕ
   pub rest : List File
@@ -108,7 +107,7 @@ pub record Lining (s o : List ℕ) (a : ℕ) (p : List ℕ) (r n : ℕ) (x : Nex
 wrote_none : (o : List ℕ) (a : ℕ) → a ≤ endless → DidPutPage o a [] o a
 wrote_none o a h = record { kept = refl; place = omega arith; done = λ _ _. sym (put_none o a) }
 
-pub lining_none : (s o p : List ℕ) (r : ℕ) (x : NextFile) → length s < 18446744073709551616 → (image_verdict s).number ≡ 0
+pub lining_none : (s o p : List ℕ) (r : ℕ) (x : Option FileAt) → length s < 18446744073709551616 → (image_verdict s).number ≡ 0
     → x ≡ first_file s → DidPutPage o 0 heading p r
     → Lining s p r p r 1 x
 unfolding first_file
@@ -117,20 +116,20 @@ lining_none s o p r x l h e w =
       room = l;
       before = [];
       rest = (content s).files;
-      filed = subst (λ (y : NextFile). Filed s y (content s).files) (sym e) (files_all s h);
+      filed = subst (λ (y : Option FileAt). Filed s y (content s).files) (sym e) (files_all s h);
       wrote = wrote_none p r (omega (arith, w.place));
       whole = refl;
       number = subst (NoEarlier 2) (sym e) (behind_less 2 5 (first_file s) (omega arith) (found_behind s 5 (length s) Reel));
     }
 
 -- what the search for the next file found
-is_file : NextFile → Bool
-is_file (At f) = true
-is_file Nowhere = false
+is_file : Option FileAt → Bool
+is_file (Some f) = true
+is_file None = false
 
-file_in : FileAt → NextFile → FileAt
-file_in f (At g) = g
-file_in f Nowhere = f
+file_in : FileAt → Option FileAt → FileAt
+file_in f (Some g) = g
+file_in f None = f
 
 -- of the files left the first stands at f
 pub record NextAt (s : List ℕ) (n : ℕ) (f : FileAt) (rest : List File) : Type 0 where
@@ -140,7 +139,7 @@ pub record NextAt (s : List ℕ) (n : ℕ) (f : FileAt) (rest : List File) : Typ
   pub filed : Filed s (next_file s f.hdr1 f.hdr2) others
   pub lined : lines n rest ≡ line_at s n f (file_held s f.walk).held ++ lines (n + 1) others
 
-next_file_lem : (s : List ℕ) (n : ℕ) (x : NextFile) (f : FileAt) (ds : List File) → Filed s x ds → x ≡ At f → NextAt s n f ds
+next_file_lem : (s : List ℕ) (n : ℕ) (x : Option FileAt) (f : FileAt) (ds : List File) → Filed s x ds → x ≡ Some f → NextAt s n f ds
 unfolding is_file file_in lines
 next_file_lem s n x f [] c e = absurd (false≢true (sym (ap is_file c) ∙ ap is_file e))
 next_file_lem s n x f (d ∷ ds) (g, e', is, others) e =
@@ -154,9 +153,9 @@ next_file_lem s n x f (d ∷ ds) (g, e', is, others) e =
       lined = ap (λ (l : List ℕ). l ++ lines (n + 1) ds) (sym (line_is s n f d here));
     }
 
-pub lining_all : (s e o : List ℕ) (a : ℕ) (p : List ℕ) (r n : ℕ) (x : NextFile) → DidPutPage e 0 heading o a
+pub lining_all : (s e o : List ℕ) (a : ℕ) (p : List ℕ) (r n : ℕ) (x : Option FileAt) → DidPutPage e 0 heading o a
     → Lining s o a p r n x
-    → x ≡ Nowhere
+    → x ≡ None
     → DidPutPage e 0 (listing_of (content s)) p r
 unfolding is_file lines listing_of
 lining_all s e o a p r n x w c z =
@@ -170,16 +169,16 @@ lining_all s e o a p r n x w c z =
     all (d ∷ ds) (g, e', _, _) q = absurd (false≢true (sym (ap is_file z) ∙ ap is_file e'))
 
 -- how far the image goes on behind a file's HDR2
-abbrev pub left : List ℕ → NextFile → ℕ
-left s (At f) = suc (length s - f.hdr2)
-left s Nowhere = 0
+abbrev pub left : List ℕ → Option FileAt → ℕ
+left s (Some f) = suc (length s - f.hdr2)
+left s None = 0
 
-left_falls : (s : List ℕ) (f : FileAt) (y : NextFile) → f.hdr2 + 80 ≤ length s → NoEarlier (f.hdr2 + 80) y
-    → left s y < left s (At f)
-left_falls s f (At g) h b = omega arith
-left_falls s f Nowhere h b = omega arith
+left_falls : (s : List ℕ) (f : FileAt) (y : Option FileAt) → f.hdr2 + 80 ≤ length s → NoEarlier (f.hdr2 + 80) y
+    → left s y < left s (Some f)
+left_falls s f (Some g) h b = omega arith
+left_falls s f None h b = omega arith
 
-module _ (s o : List ℕ) (a : ℕ) (p : List ℕ) (r n : ℕ) (x : NextFile) (f : FileAt) (c : Lining s o a p r n x) (e : x ≡ At f) where
+module _ (s o : List ℕ) (a : ℕ) (p : List ℕ) (r n : ℕ) (x : Option FileAt) (f : FileAt) (c : Lining s o a p r n x) (e : x ≡ Some f) where
   next : NextAt s n f c.rest
   next = next_file_lem s n x f c.rest c.filed e
 
@@ -194,11 +193,11 @@ module _ (s o : List ℕ) (a : ℕ) (p : List ℕ) (r n : ℕ) (x : NextFile) (f
   number_fits = let inside : f.hdr2 + 80 ≤ length s = next.is.second_within in omega (arith, after, c.room)
 
   -- the next file is found from behind the file's last block on
-  found : (y : FileHeld) (z : NextFile) → y ≡ file_held s f.walk → z ≡ file_behind s f.hdr1 y.end
+  found : (y : FileHeld) (z : Option FileAt) → y ≡ file_held s f.walk → z ≡ file_behind s f.hdr1 y.end
       → z ≡ next_file s f.hdr1 f.hdr2
   found y z h k = k ∙ ap (λ (x : FileHeld). file_behind s f.hdr1 x.end) h ∙ next.is.amounts.behind
 
-  pub lining_more : (y : FileHeld) (q : List ℕ) (t : ℕ) (z : NextFile) → y ≡ file_held s f.walk
+  pub lining_more : (y : FileHeld) (q : List ℕ) (t : ℕ) (z : Option FileAt) → y ≡ file_held s f.walk
       → DidPutPage p r (line_at s n f y.held) q t
       → z ≡ file_behind s f.hdr1 y.end → Lining s o a q t (n + 1) z
   lining_more y q t z h w k =
@@ -206,7 +205,7 @@ module _ (s o : List ℕ) (a : ℕ) (p : List ℕ) (r n : ℕ) (x : NextFile) (f
         room = c.room;
         before = c.before ++ line_at s n f y.held;
         rest = next.others;
-        filed = subst (λ (u : NextFile). Filed s u next.others) (sym (found y z h k)) next.filed;
+        filed = subst (λ (u : Option FileAt). Filed s u next.others) (sym (found y z h k)) next.filed;
         wrote = wrote_wrote o a c.before p r (line_at s n f y.held) q t c.wrote w;
         whole =
             append_assoc c.before (line_at s n f y.held) (lines (n + 1) next.others)
@@ -218,10 +217,10 @@ module _ (s o : List ℕ) (a : ℕ) (p : List ℕ) (r n : ℕ) (x : NextFile) (f
             (behind_less (n + 1 + 1) (f.hdr2 + 80) (next_file s f.hdr1 f.hdr2) (omega (arith, after)) behind);
       }
 
-  pub lining_falls : (y : FileHeld) (z : NextFile) → y ≡ file_held s f.walk → z ≡ file_behind s f.hdr1 y.end
+  pub lining_falls : (y : FileHeld) (z : Option FileAt) → y ≡ file_held s f.walk → z ≡ file_behind s f.hdr1 y.end
       → left s z < left s x
   lining_falls y z h k =
-      subst (λ (u : NextFile). left s z < left s u) (sym e)
+      subst (λ (u : Option FileAt). left s z < left s u) (sym e)
       (left_falls s f z next.is.second_within (subst (NoEarlier (f.hdr2 + 80)) (sym (found y z h k)) behind))
 
 pub ruleset lining = (lining_none, lining_all, lining_more, number_fits, lining_falls, rules)

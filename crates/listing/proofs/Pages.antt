@@ -1,4 +1,5 @@
 -- The listing of an accepted set has room on a page: a heading of 40 bytes, and at most 64 lines of at most 43. Assumes nothing.
+use Rattle.std.specs.Prelude.{Option}
 use mathlib.Core.Path.{◌≡◌, refl}
 use mathlib.Core.Bool.{Bool, true, false, false≢true}
 use mathlib.Core.List.{List, [], ◌∷◌, ◌++◌, map}
@@ -25,7 +26,6 @@ use Rattle.content.specs.File.{first_file, next_file}
 use Rattle.content.specs.Walked.{FileIs}
 use Rattle.content.specs.Code.Files.{Filed}
 use Rattle.content.specs.declared.FileAt.{FileAt}
-use Rattle.content.specs.declared.NextFile.{NextFile}
 use Rattle.content.proofs.Helds.{held_within}
 use Rattle.content.proofs.Walked.{files_all}
 use Rattle.listing.specs.Decimal.{decimal}
@@ -102,7 +102,7 @@ line_long n d a b =
       counted_long (length d.records) (sum (map length d.records)) a b,
     )
 
-lines_long : (s : List ℕ) (ds : List File) (x : NextFile) (n : ℕ) → length s ≤ 16777215 → Filed s x ds
+lines_long : (s : List ℕ) (ds : List File) (x : Option FileAt) (n : ℕ) → length s ≤ 16777215 → Filed s x ds
     → length (lines n ds) ≤ 43 * length ds
 unfolding lines
 lines_long s [] x n h c = omega arith

@@ -13,7 +13,7 @@ ghost use Rattle.listing.specs.Code.Page.{DidPutPage};
 ghost use Rattle.listing.specs.Text.{listing_of, refusal_line, text_of};
 
 use base::Verdict;
-use content::{NextFile, file_behind, file_held, first_file};
+use content::{file_behind, file_held, first_file};
 use line::{put_heading, put_line, put_refusal};
 use output::{Written, done, refusal};
 use page::put;
@@ -30,20 +30,14 @@ fn put_listing(out: &mut [u8], image: &[u8]) -> usize
     let mut end = put_heading(out);
     let mut n: usize = 1;
     let mut next = first_file(image);
-    loop {
-        match next {
-            NextFile::Nowhere => return end,
-            NextFile::At(f) => {
-                let w = f.walk;
-                let x = file_held(image, w);
-                let held = x.held;
-                end = put_line(out, end, image, n, f, held);
-                n += 1;
-                // The blocks are not gone over again: the next file is sought from behind the last of them on.
-                next = file_behind(image, f.hdr1, x.end);
-            }
-        }
+    while let Some(f) = next {
+        let x = file_held(image, f.walk);
+        end = put_line(out, end, image, n, f, x.held);
+        n += 1;
+        // The blocks are not gone over again: the next file is sought from behind the last of them on.
+        next = file_behind(image, f.hdr1, x.end);
     }
+    end
 }
 
 // The listing of an accepted set, written on a page of its own before the first byte of the lent buffer is.

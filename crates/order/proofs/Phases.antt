@@ -1,5 +1,6 @@
 -- The table of the twenty phases: what is known of each, and of every item that is due there. Whatever is proved of a reading by
 -- its phase is read off here. Assumes nothing.
+use Rattle.std.specs.Prelude.{Some}
 use mathlib.Core.Path.{◌≡◌, refl, sym, ap, ◌∙◌}
 use mathlib.Core.Bool.{Bool, true, false, not, ◌&&◌, ◌||◌, false≢true}
 use Prim.Native.Nat.{ℕ, ◌+◌}
@@ -14,7 +15,6 @@ use Rattle.order.specs.Group.{among_labels, among_headers, among_data, group_aft
 use Rattle.order.specs.declared.Kind.{Kind}
 use Rattle.order.specs.declared.Phase.{Phase}
 use Rattle.order.specs.declared.Phase.TheVariants.{Reel, Volume, UserVolume, FirstHeader, Header, UserHeader, Data, Trailer, FirstEof, Eof, EofUser, FirstEov, Eov, EovUser, FileEnd, VolumeEnd, SetClosed, ReelClosed, Over, Accepted}
-use Rattle.order.specs.declared.Due.TheVariants.{To}
 use Rattle.order.proofs.Laws.{Each, nine, chosen}
 use Rattle.order.proofs.Moves.{Stage, before, named, within, file_over, reel_over, Move, stays, next_reel, header1, next_file, header2, datum, eof1, eov1, finish, quiet_hdr, quiet_eof, quiet_eov, quiet_vol, quiet_uvl, quiet_uhl, quiet_utl, quiet_mark, quiet_reel}
 
@@ -216,25 +216,25 @@ rows Accepted = (never, tt)
 pub only_data : (p : Phase) → group_of p ≡ among_data → p ≡ Data
 only_data p e = (rows p).0 (eq-eqb (group_of p) among_data e)
 
-row : (p : Phase) (k : Kind) (q : Phase) → due_after p k ≡ To q → Row p k q
+row : (p : Phase) (k : Kind) (q : Phase) → due_after p k ≡ Some q → Row p k q
 unfolding due_after
 row p k q e = chosen (Row p) (dues p) k q (rows p).1 e
 
 -- what is seen of an item that is due
-pub due_seen : (p : Phase) (k : Kind) (q : Phase) → due_after p k ≡ To q → seen p k q ≡ wanted p k
+pub due_seen : (p : Phase) (k : Kind) (q : Phase) → due_after p k ≡ Some q → seen p k q ≡ wanted p k
 due_seen p k q e = (row p k q e).told
 
 -- an item that is due moves the stages, or leaves them as they are
-pub due_goes : (p : Phase) (k : Kind) (q : Phase) → Numbered p → due_after p k ≡ To q → Goes p k q
+pub due_goes : (p : Phase) (k : Kind) (q : Phase) → Numbered p → due_after p k ≡ Some q → Goes p k q
 due_goes p k q h e = (row p k q e).goes h
 
 -- it stands where its kind may stand
-pub due_stands : (p : Phase) (k : Kind) (q : Phase) → due_after p k ≡ To q → stands p k ≡ true
+pub due_stands : (p : Phase) (k : Kind) (q : Phase) → due_after p k ≡ Some q → stands p k ≡ true
 due_stands p k q e =
     and_second (not (is_kind k data_block) || eqb (group_of p) among_data) _
     (and_second (not (is_kind k other)) _ (ap (λ (x : Seen). x.suited) (due_seen p k q e)))
 
 -- an end of reel leads out of a reel
-pub reel_left : (p q : Phase) → due_after p end_of_reel ≡ To q → Outside q
+pub reel_left : (p q : Phase) → due_after p end_of_reel ≡ Some q → Outside q
 unfolding is_kind
 reel_left p q e = (row p end_of_reel q e).left refl

@@ -10,14 +10,12 @@
 -- EOF.
 --
 -- No byte of a label stands here: another alphabet or label version uses it unchanged.
-use Rattle.std.specs.Prelude.{List, [], ◌∷◌, ℕ, ◌+◌, ltb}
+use Rattle.std.specs.Prelude.{List, [], ◌∷◌, ℕ, ◌+◌, ltb, Option, Some, None}
 use Rattle.base.specs.If.{if_b}
 use Rattle.order.specs.Kind.{vol, uvl, hdr, uhl, eof, eov, utl, data_block, tape_mark, end_of_reel, end_of_image, is_kind}
 use Rattle.order.specs.declared.Kind.{Kind}
 use Rattle.order.specs.declared.Phase.{Phase}
 use Rattle.order.specs.declared.Phase.TheVariants.{Reel, Volume, UserVolume, FirstHeader, Header, UserHeader, Data, Trailer, FirstEof, Eof, EofUser, FirstEov, Eov, EovUser, FileEnd, VolumeEnd, SetClosed, ReelClosed, Over, Accepted}
-use Rattle.order.specs.declared.Due.{Due}
-use Rattle.order.specs.declared.Due.TheVariants.{To, Wrong}
 
 -- a kind that is due, and the phase behind it
 pub record DueItem : Type 0 where
@@ -54,10 +52,10 @@ dues ReelClosed = turn end_of_reel Reel ∷ []
 dues Over = turn end_of_image Accepted ∷ []
 dues Accepted = []
 
--- the phase behind an item of this kind, or Wrong where it is not due
-unfoldable pub choose : List DueItem → Kind → Due
-choose [] k = Wrong
-choose (t ∷ ts) k = if_b (is_kind k t.item) (To t.phase) (choose ts k)
+-- the phase behind an item of this kind, if it is due
+unfoldable pub choose : List DueItem → Kind → Option Phase
+choose [] k = None
+choose (t ∷ ts) k = if_b (is_kind k t.item) (Some t.phase) (choose ts k)
 
-unfoldable pub due_after : Phase → Kind → Due
+unfoldable pub due_after : Phase → Kind → Option Phase
 due_after p k = choose (dues p) k

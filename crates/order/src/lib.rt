@@ -2,7 +2,7 @@
 
 #![tactic(auto)]
 
-ghost use Rattle.std.specs.Prelude.{◌≡◌, ◌&&◌, ◌+◌, ltb};
+ghost use Rattle.std.specs.Prelude.{◌≡◌, ◌&&◌, ◌+◌, ltb, Some};
 ghost use Rattle.base.specs.If.{if_b};
 ghost use Rattle.order.specs.Kind.{kind, is_kind};
 ghost use Rattle.order.specs.Due.{due_after};
@@ -82,13 +82,6 @@ pub enum Phase {
     Accepted,
 }
 
-// The phase behind an item that was due, or Wrong.
-#[derive(Clone, Copy)]
-pub enum Due {
-    To(Phase),
-    Wrong,
-}
-
 // Whether k is the kind of this family and number.
 pub fn is(k: Kind, family: u32, number: u32) -> bool
     ensures { result ≡ is_kind k (kind family number) }
@@ -111,134 +104,134 @@ fn is_user(k: Kind, family: u32, n: u32) -> bool
 }
 
 // To that phase where k is of this family and number, else what else is due.
-fn either(k: Kind, family: u32, number: u32, phase: Phase, rest: Due) -> Due
-    ensures { result ≡ if_b (is_kind k (kind family number)) (Due.To phase) rest }
+fn either(k: Kind, family: u32, number: u32, phase: Phase, rest: Option<Phase>) -> Option<Phase>
+    ensures { result ≡ if_b (is_kind k (kind family number)) (Some phase) rest }
 {
     if is(k, family, number) {
-        Due::To(phase)
+        Some(phase)
     } else {
         rest
     }
 }
 
 // Behind VOL n.
-fn after_volume(n: u32, k: Kind) -> Due
+fn after_volume(n: u32, k: Kind) -> Option<Phase>
     ensures { result ≡ due_after (Phase.Volume n) k }
 {
     if is_next(k, VOL, n) {
-        return Due::To(Phase::Volume(n + 1));
+        return Some(Phase::Volume(n + 1));
     }
-    let header = either(k, HDR, 1, Phase::FirstHeader, Due::Wrong);
+    let header = either(k, HDR, 1, Phase::FirstHeader, None);
     either(k, UVL, 1, Phase::UserVolume(1), header)
 }
 
 // Behind UVL n.
-fn after_user_volume(n: u32, k: Kind) -> Due
+fn after_user_volume(n: u32, k: Kind) -> Option<Phase>
     ensures { result ≡ due_after (Phase.UserVolume n) k }
 {
     if is_next(k, UVL, n) {
-        return Due::To(Phase::UserVolume(n + 1));
+        return Some(Phase::UserVolume(n + 1));
     }
-    either(k, HDR, 1, Phase::FirstHeader, Due::Wrong)
+    either(k, HDR, 1, Phase::FirstHeader, None)
 }
 
 // Behind HDR n.
-fn after_header(n: u32, k: Kind) -> Due
+fn after_header(n: u32, k: Kind) -> Option<Phase>
     ensures { result ≡ due_after (Phase.Header n) k }
 {
     if is_next(k, HDR, n) {
-        return Due::To(Phase::Header(n + 1));
+        return Some(Phase::Header(n + 1));
     }
-    let mark = either(k, TAPE_MARK, 0, Phase::Data, Due::Wrong);
+    let mark = either(k, TAPE_MARK, 0, Phase::Data, None);
     either(k, UHL, 0, Phase::UserHeader(1), mark)
 }
 
 // Behind n UHL.
-fn after_user_header(n: u32, k: Kind) -> Due
+fn after_user_header(n: u32, k: Kind) -> Option<Phase>
     ensures { result ≡ due_after (Phase.UserHeader n) k }
 {
     if is_user(k, UHL, n) {
-        return Due::To(Phase::UserHeader(n + 1));
+        return Some(Phase::UserHeader(n + 1));
     }
-    either(k, TAPE_MARK, 0, Phase::Data, Due::Wrong)
+    either(k, TAPE_MARK, 0, Phase::Data, None)
 }
 
 // Behind EOF n.
-fn after_eof(n: u32, k: Kind) -> Due
+fn after_eof(n: u32, k: Kind) -> Option<Phase>
     ensures { result ≡ due_after (Phase.Eof n) k }
 {
     if is_next(k, EOF, n) {
-        return Due::To(Phase::Eof(n + 1));
+        return Some(Phase::Eof(n + 1));
     }
-    let mark = either(k, TAPE_MARK, 0, Phase::FileEnd, Due::Wrong);
+    let mark = either(k, TAPE_MARK, 0, Phase::FileEnd, None);
     either(k, UTL, 0, Phase::EofUser(1), mark)
 }
 
 // Behind n UTL of a file that ends.
-fn after_eof_user(n: u32, k: Kind) -> Due
+fn after_eof_user(n: u32, k: Kind) -> Option<Phase>
     ensures { result ≡ due_after (Phase.EofUser n) k }
 {
     if is_user(k, UTL, n) {
-        return Due::To(Phase::EofUser(n + 1));
+        return Some(Phase::EofUser(n + 1));
     }
-    either(k, TAPE_MARK, 0, Phase::FileEnd, Due::Wrong)
+    either(k, TAPE_MARK, 0, Phase::FileEnd, None)
 }
 
 // Behind EOV n.
-fn after_eov(n: u32, k: Kind) -> Due
+fn after_eov(n: u32, k: Kind) -> Option<Phase>
     ensures { result ≡ due_after (Phase.Eov n) k }
 {
     if is_next(k, EOV, n) {
-        return Due::To(Phase::Eov(n + 1));
+        return Some(Phase::Eov(n + 1));
     }
-    let mark = either(k, TAPE_MARK, 0, Phase::VolumeEnd, Due::Wrong);
+    let mark = either(k, TAPE_MARK, 0, Phase::VolumeEnd, None);
     either(k, UTL, 0, Phase::EovUser(1), mark)
 }
 
 // Behind n UTL of a file that goes on.
-fn after_eov_user(n: u32, k: Kind) -> Due
+fn after_eov_user(n: u32, k: Kind) -> Option<Phase>
     ensures { result ≡ due_after (Phase.EovUser n) k }
 {
     if is_user(k, UTL, n) {
-        return Due::To(Phase::EovUser(n + 1));
+        return Some(Phase::EovUser(n + 1));
     }
-    either(k, TAPE_MARK, 0, Phase::VolumeEnd, Due::Wrong)
+    either(k, TAPE_MARK, 0, Phase::VolumeEnd, None)
 }
 
-// The phase behind an item of kind k in phase p, or Wrong where it is not due.
-pub fn due_after(p: Phase, k: Kind) -> Due
+// The phase behind an item of kind k in phase p, if it is due there.
+pub fn due_after(p: Phase, k: Kind) -> Option<Phase>
     ensures { result ≡ due_after p k }
 {
     match p {
-        Phase::Reel => either(k, VOL, 1, Phase::Volume(1), Due::Wrong),
+        Phase::Reel => either(k, VOL, 1, Phase::Volume(1), None),
         Phase::Volume(n) => after_volume(n, k),
         Phase::UserVolume(n) => after_user_volume(n, k),
-        Phase::FirstHeader => either(k, HDR, 2, Phase::Header(2), Due::Wrong),
+        Phase::FirstHeader => either(k, HDR, 2, Phase::Header(2), None),
         Phase::Header(n) => after_header(n, k),
         Phase::UserHeader(n) => after_user_header(n, k),
         Phase::Data => {
-            let mark = either(k, TAPE_MARK, 0, Phase::Trailer, Due::Wrong);
+            let mark = either(k, TAPE_MARK, 0, Phase::Trailer, None);
             either(k, DATA_BLOCK, 0, Phase::Data, mark)
         }
         Phase::Trailer => {
-            let volume = either(k, EOV, 1, Phase::FirstEov, Due::Wrong);
+            let volume = either(k, EOV, 1, Phase::FirstEov, None);
             either(k, EOF, 1, Phase::FirstEof, volume)
         }
-        Phase::FirstEof => either(k, EOF, 2, Phase::Eof(2), Due::Wrong),
+        Phase::FirstEof => either(k, EOF, 2, Phase::Eof(2), None),
         Phase::Eof(n) => after_eof(n, k),
         Phase::EofUser(n) => after_eof_user(n, k),
-        Phase::FirstEov => either(k, EOV, 2, Phase::Eov(2), Due::Wrong),
+        Phase::FirstEov => either(k, EOV, 2, Phase::Eov(2), None),
         Phase::Eov(n) => after_eov(n, k),
         Phase::EovUser(n) => after_eov_user(n, k),
         Phase::FileEnd => {
-            let mark = either(k, TAPE_MARK, 0, Phase::SetClosed, Due::Wrong);
+            let mark = either(k, TAPE_MARK, 0, Phase::SetClosed, None);
             either(k, HDR, 1, Phase::FirstHeader, mark)
         }
-        Phase::VolumeEnd => either(k, TAPE_MARK, 0, Phase::ReelClosed, Due::Wrong),
-        Phase::SetClosed => either(k, END_OF_REEL, 0, Phase::Over, Due::Wrong),
-        Phase::ReelClosed => either(k, END_OF_REEL, 0, Phase::Reel, Due::Wrong),
-        Phase::Over => either(k, END_OF_IMAGE, 0, Phase::Accepted, Due::Wrong),
-        Phase::Accepted => Due::Wrong,
+        Phase::VolumeEnd => either(k, TAPE_MARK, 0, Phase::ReelClosed, None),
+        Phase::SetClosed => either(k, END_OF_REEL, 0, Phase::Over, None),
+        Phase::ReelClosed => either(k, END_OF_REEL, 0, Phase::Reel, None),
+        Phase::Over => either(k, END_OF_IMAGE, 0, Phase::Accepted, None),
+        Phase::Accepted => None,
     }
 }
 

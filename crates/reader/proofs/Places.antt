@@ -1,4 +1,7 @@
 -- Laws of a reader's place, by what a file's opening and a step say. Assumes nothing.
+use Rattle.content.specs.declared.Found.TheVariants.{InImage, Joined}
+use Rattle.content.specs.declared.Found.{Found}
+use Rattle.std.specs.Prelude.{Result, Ok, Err}
 use mathlib.Core.Path.{◌≡◌, refl, sym, ap, ◌∙◌}
 use mathlib.Core.List.{List, []}
 use Prim.Native.Nat.{ℕ}
@@ -6,7 +9,7 @@ use borrow.Author.Rules.{rules}
 use Rattle.base.specs.If.{if_b}
 use Rattle.base.specs.Answer.{verdict}
 use Rattle.base.specs.declared.Verdict.{Verdict}
-use Rattle.content.specs.Walk.{record_at, step_at}
+use Rattle.content.specs.Walk.{record_at, step_at, Step}
 use Rattle.content.specs.Walked.{handed}
 use Rattle.content.specs.File.{begun_at}
 use Rattle.content.specs.Found.{found_by}
@@ -14,29 +17,24 @@ use Rattle.content.specs.Numbers.{no_walk}
 use Rattle.content.specs.Records.{records_at, facts_of}
 use Rattle.content.specs.declared.Walk.{Walk}
 use Rattle.content.specs.declared.FileAt.{FileAt}
-use Rattle.content.specs.declared.Step.{Step}
-use Rattle.content.specs.declared.Step.TheVariants.{InImage, Joined, Refused}
-use Rattle.content.specs.declared.Begun.{Begun}
-use Rattle.content.specs.declared.Begun.TheVariants.{At, Refused as NotBegun}
 use Rattle.content.specs.declared.counting.Facts.{Facts}
-use Rattle.content.specs.declared.Found.TheVariants.{InImage as There, Joined as Here, Refused as No}
 use Rattle.content.proofs.Records.{records_over}
 use Rattle.reader.specs.Read.{opened_by, opened_at, count_at, walk_behind, read_by, read_at}
 use Rattle.reader.specs.declared.Opened.{Opened}
 use Rattle.reader.specs.declared.FileFacts.{FileFacts}
 use Rattle.reader.specs.declared.Reading.{Reading}
 
-pub by_begun : (w : Walk) (f : FileAt) (b : Begun) → b ≡ At f
+pub by_begun : (w : Walk) (f : FileAt) (b : Result FileAt Verdict) → b ≡ Ok f
     → ◌≡◌ {A = Opened} (record { verdict = record { number = 0; item = 0; byte = 0 }; walk = f.walk }) (opened_by w b)
 unfolding opened_by verdict
 by_begun w f b e = sym (ap (opened_by w) e)
 
-pub by_refused : (w : Walk) (a : Verdict) (b : Begun) → b ≡ NotBegun a
+pub by_refused : (w : Walk) (a : Verdict) (b : Result FileAt Verdict) → b ≡ Err a
     → ◌≡◌ {A = Opened} (record { verdict = a; walk = w }) (opened_by w b)
 unfolding opened_by
 by_refused w a b e = sym (ap (opened_by w) e)
 
-pub opened_at_lem : (s : List ℕ) (w : Walk) (n : ℕ) (b : Begun) (o : Opened) → b ≡ begun_at s n → o ≡ opened_by w b → o ≡ opened_at s w n
+pub opened_at_lem : (s : List ℕ) (w : Walk) (n : ℕ) (b : Result FileAt Verdict) (o : Opened) → b ≡ begun_at s n → o ≡ opened_by w b → o ≡ opened_at s w n
 unfolding opened_at
 opened_at_lem s w n b o e h = h ∙ ap (opened_by w) e
 
@@ -56,18 +54,13 @@ nowhere_none s = records_over s no_walk refl
 
 -- ---- the next record
 
-pub by_there : (w v : Walk) (start n : ℕ) (x : Step) → x ≡ InImage start n v
-    → ◌≡◌ {A = Reading} (record { found = There start n; walk = v }) (read_by w x)
+pub by_found : (w v : Walk) (f : Found) (x : Step) → x ≡ Ok (f, v) → ◌≡◌ {A = Reading} (record { found = Ok f; walk = v }) (read_by w x)
 unfolding read_by found_by walk_behind
-by_there w v start n x e = sym (ap (read_by w) e)
+by_found w v (InImage start n) x e = sym (ap (read_by w) e)
+by_found w v (Joined n) x e = sym (ap (read_by w) e)
 
-pub by_joined : (w v : Walk) (n : ℕ) (x : Step) → x ≡ Joined n v
-    → ◌≡◌ {A = Reading} (record { found = Here n; walk = v }) (read_by w x)
-unfolding read_by found_by walk_behind
-by_joined w v n x e = sym (ap (read_by w) e)
-
-pub by_stopped : (w : Walk) (k : ℕ) (x : Step) → x ≡ Refused k
-    → ◌≡◌ {A = Reading} (record { found = No (record { number = k; item = 0; byte = 0 }); walk = w }) (read_by w x)
+pub by_stopped : (w : Walk) (k : ℕ) (x : Step) → x ≡ Err k
+    → ◌≡◌ {A = Reading} (record { found = Err (record { number = k; item = 0; byte = 0 }); walk = w }) (read_by w x)
 unfolding read_by found_by walk_behind verdict
 by_stopped w k x e = sym (ap (read_by w) e)
 
@@ -76,4 +69,4 @@ pub read_at_lem : (s : List ℕ) (room : ℕ) (w : Walk) (x : Step) (y : Reading
 unfolding read_at
 read_at_lem s room w x y e h = h ∙ ap (read_by w) e
 
-pub ruleset places = (by_begun, by_refused, opened_at_lem, count_at_lem, by_there, by_joined, by_stopped, read_at_lem, rules)
+pub ruleset places = (by_begun, by_refused, opened_at_lem, count_at_lem, by_found, by_stopped, read_at_lem, rules)

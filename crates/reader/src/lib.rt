@@ -10,7 +10,7 @@ ghost use Rattle.content.specs.Walk.{join_at};
 ghost use Rattle.reader.specs.Read.{opened_by, opened_at, read_by, read_at, located_by, count_at, moved};
 
 use base::Verdict;
-use content::{Begun, Facts, Found, Step, Walk, begin, file_facts};
+use content::{Facts, FileAt, Found, Walk, begin, file_facts};
 
 // A lent image, and the place of a walk in it.
 #[derive(Clone, Copy)]
@@ -36,30 +36,24 @@ pub struct FileFacts {
 // What a step says of the record, and the place behind it.
 #[derive(Clone, Copy)]
 pub struct Reading {
-    pub found: Found,
+    pub found: Result<Found, Verdict>,
     pub walk: Walk,
 }
 
 // What opening a file says, by how it begins; a refusal does not move the place.
-fn opened_by(w: Walk, begun: Begun) -> Opened
+fn opened_by(w: Walk, begun: Result<FileAt, Verdict>) -> Opened
     ensures { result ≡ opened_by w begun }
 {
     match begun {
-        Begun::At(f) => {
-            let walk = f.walk;
-            Opened {
-                verdict: Verdict {
-                    number: 0,
-                    item: 0,
-                    byte: 0,
-                },
-                walk,
-            }
-        }
-        Begun::Refused(a) => Opened {
-            verdict: a,
-            walk: w,
+        Ok(f) => Opened {
+            verdict: Verdict {
+                number: 0,
+                item: 0,
+                byte: 0,
+            },
+            walk: f.walk,
         },
+        Err(verdict) => Opened { verdict, walk: w },
     }
 }
 
@@ -71,20 +65,16 @@ fn begin_at(image: &[u8], w: Walk, file: u64) -> Opened
 }
 
 // What a reading is, by the step; a refusal does not move the place.
-fn read_by(w: Walk, x: Step) -> Reading
+fn read_by(w: Walk, x: Result<(Found, Walk), u32>) -> Reading
     ensures { result ≡ read_by w x }
 {
     match x {
-        Step::InImage(start, len, v) => Reading {
-            found: Found::InImage(start, len),
-            walk: v,
+        Ok((found, walk)) => Reading {
+            found: Ok(found),
+            walk,
         },
-        Step::Joined(len, v) => Reading {
-            found: Found::Joined(len),
-            walk: v,
-        },
-        Step::Refused(number) => Reading {
-            found: Found::Refused(Verdict {
+        Err(number) => Reading {
+            found: Err(Verdict {
                 number,
                 item: 0,
                 byte: 0,
@@ -128,7 +118,7 @@ pub fn open_file<'s, 'a>(r: &'s mut Reader<'a>, file: u64) -> Verdict
 
 // The next record, as a step of a walk gives it: a part of the image, or the front of the joining buffer, or 13 or 10. With a
 // refusal the reader stays where it stood, and no byte is changed.
-pub fn next<'s, 'a, 'j>(r: &'s mut Reader<'a>, join: &'j mut [u8]) -> Found
+pub fn next<'s, 'a, 'j>(r: &'s mut Reader<'a>, join: &'j mut [u8]) -> Result<Found, Verdict>
     ensures { Said record_of result (read_at r.old.image.now (length join.old) r.old.walk).found
         × (join.new ≡ join_at r.old.image.now join.old r.old.walk)
         × (r.new ≡ moved r.old (read_at r.old.image.now (length join.old) r.old.walk).walk) }

@@ -1,10 +1,10 @@
 -- The records that the segments of accepted blocks make are legal ones. Assumes nothing.
 -- A segment is fair where what its format asks of it holds: every unit that a block is cut into is. What is owed behind a
 -- segment, with a record open or not, is carried backwards over the segments.
+use Rattle.std.specs.Prelude.{Option, Some, None}
 use mathlib.Core.Path.{◌≡◌, refl, sym, ap, ◌∙◌, subst}
 use mathlib.Core.Bool.{Bool, true, false, not, false≢true}
 use mathlib.Core.List.{List, [], ◌∷◌, ◌++◌}
-use mathlib.Core.Option.{Option, none, some}
 use Prim.Native.Nat.{ℕ, zero, suc, ◌+◌, ◌*◌, ◌-◌, ◌^◌, ◌≤◌, ◌<◌}
 use native.Mathlib.Nat.{pow-le-pow_right}
 use native.Mathlib.Numerals.{add-one}
@@ -19,15 +19,12 @@ use Rattle.base.specs.Part.{part, all_are}
 use Rattle.base.specs.Digits.{is_digit, all_digits, value}
 use Rattle.base.proofs.Parts.{length_part}
 use Rattle.charset.specs.Number.{number_in}
-use Rattle.charset.specs.declared.Number.{Number}
-use Rattle.charset.specs.declared.Number.TheVariants.{Value, Wrong}
 use Rattle.charset.proofs.Digits.{digit_high}
 use Rattle.charset.proofs.Numbers.{power_more}
-use Rattle.block.specs.Unit.{pad, fixed, measured, variable, segment, unit_of}
+use Rattle.block.specs.Unit.{pad, fixed, measured, variable, segment, unit_of, one_unit}
 use Rattle.block.specs.Cut.{Segment, segment_of, onto, cut_one, cut_f, cut, some_units, units}
 use Rattle.block.specs.Turn.{outcome, is_turn, open_after, turns_from, turned}
-use Rattle.block.specs.declared.Unit.{Unit as Found}
-use Rattle.block.specs.declared.Unit.TheVariants.{Of, None}
+use Rattle.block.specs.declared.Unit.{Unit}
 use Rattle.block.specs.declared.Outcome.{Outcome}
 use Rattle.block.proofs.Units.{IfAny}
 use Rattle.volume.specs.Meaning.{on_first, joined}
@@ -63,11 +60,11 @@ value_below (x ∷ s) n i h k =
     (λ _ q. absurd (false≢true q)) h
 
 -- four digits say at most 9,999
-four_digits : (s : List ℕ) (n : ℕ) → length s ≤ 4 → number_in s ≡ Value n → n ≤ 9999
+four_digits : (s : List ℕ) (n : ℕ) → length s ≤ 4 → number_in s ≡ Some n → n ≤ 9999
 unfolding number_in
 four_digits s n h =
-    if_case (λ (m : Number). m ≡ Value n → n ≤ 9999) (leb (length s) 9) (if_b (all_digits s) (Value (value 0 s)) Wrong) Wrong
-    (λ _. if_case (λ (m : Number). m ≡ Value n → n ≤ 9999) (all_digits s) (Value (value 0 s)) Wrong
+    if_case (λ (m : Option ℕ). m ≡ Some n → n ≤ 9999) (leb (length s) 9) (if_b (all_digits s) (Some (value 0 s)) None) None
+    (λ _. if_case (λ (m : Option ℕ). m ≡ Some n → n ≤ 9999) (all_digits s) (Some (value 0 s)) None
     (λ d e.
     let same : value 0 s ≡ n = cc in
     let one : 0 < 10 ^ 0 = omega arith in
@@ -77,7 +74,7 @@ four_digits s n h =
     omega arith) (λ _. wrong))
     (λ _. wrong)
   where
-    wrong : Wrong ≡ Value n → n ≤ 9999
+    wrong : None ≡ Some n → n ≤ 9999
     wrong e = let z : ◌≡◌ {A = ℕ} 0 1 = cc in omega arith
 
 -- ---- fair segments
@@ -89,12 +86,12 @@ pub record Fair (f r : ℕ) (x : Segment) : Type 0 where
   pub sized : length x.bytes ≤ r → x.indicator ≡ 0 → legal_record f r x.bytes ≡ true
 
 abbrev pub EachFair : ℕ → ℕ → List Segment → Type 0
-EachFair f r [] = Unit {0}
+EachFair f r [] = Prim.Unit {0}
 EachFair f r (x ∷ xs) = Fair f r x × EachFair f r xs
 
 abbrev pub Fairs : ℕ → ℕ → Option (List Segment) → Type 0
-Fairs f r none = Unit {0}
-Fairs f r (some xs) = EachFair f r xs
+Fairs f r None = Prim.Unit {0}
+Fairs f r (Some xs) = EachFair f r xs
 
 -- the segment of a unit with indicator i at the head of s
 abbrev FairUnit : ℕ → ℕ → List ℕ → ℕ → ℕ → ℕ → Type 0
@@ -105,15 +102,15 @@ unfolding fixed part
 fixed_fair r s =
     if_case (IfAny (FairUnit 70 r s)) (eqb r 0) None _ (λ _. refl)
     (λ _. if_case (IfAny (FairUnit 70 r s)) (leb r (length s)) _ None
-    (λ b. if_case (IfAny (FairUnit 70 r s)) (all_are 94 (take r s)) None (Of 0 0 r) (λ _. refl)
+    (λ b. if_case (IfAny (FairUnit 70 r s)) (all_are 94 (take r s)) None (one_unit 0 0 r) (λ _. refl)
     (λ c. record { whole = λ _. refl; sized = λ _ _. legal_f r (take r s) (length-take-le r s (leb-true r (length s) b)) c }))
     (λ _. refl))
 
-measured_any : (P : ℕ → ℕ → ℕ → Type 0) (i w m l : ℕ) (x : Number)
-    → ((k : ℕ) → x ≡ Value k → w ≤ k → k ≤ m → k ≤ l → P i w (k - w)) → IfAny P (measured i w m l x)
+measured_any : (P : ℕ → ℕ → ℕ → Type 0) (i w m l : ℕ) (x : Option ℕ)
+    → ((k : ℕ) → x ≡ Some k → w ≤ k → k ≤ m → k ≤ l → P i w (k - w)) → IfAny P (measured i w m l x)
 unfolding measured
-measured_any P i w m l Wrong g = refl
-measured_any P i w m l (Value k) g =
+measured_any P i w m l None g = refl
+measured_any P i w m l (Some k) g =
     if_case (IfAny P) (leb w k) _ None
     (λ a. if_case (IfAny P) (leb k m) _ None
     (λ b. if_case (IfAny P) (leb k l) _ None (λ c. g k refl (leb-true w k a) (leb-true k m b) (leb-true k l c)) (λ _. refl))
@@ -158,14 +155,14 @@ unit_fair f r s =
 
 onto_fair : (f r : ℕ) (x : Segment) (o : Option (List Segment)) → Fair f r x → Fairs f r o → Fairs f r (onto x o)
 unfolding onto
-onto_fair f r x none h k = tt
-onto_fair f r x (some xs) h k = (h, k)
+onto_fair f r x None h k = tt
+onto_fair f r x (Some xs) h k = (h, k)
 
-one_fair : (f r : ℕ) (u : Found) (s : List ℕ) (rest : List ℕ → Option (List Segment)) → IfAny (FairUnit f r s) u
+one_fair : (f r : ℕ) (u : Option Unit) (s : List ℕ) (rest : List ℕ → Option (List Segment)) → IfAny (FairUnit f r s) u
     → ((t : List ℕ) → Fairs f r (rest t)) → Fairs f r (cut_one u s rest)
 unfolding cut_one
-one_fair f r (Of i w n) s rest h k = onto_fair f r (segment_of i (part w n s)) (rest (drop (w + n) s)) h (k (drop (w + n) s))
-one_fair f r None s rest h k = if_case (Fairs f r) (all_are pad s) (some []) none (λ _. tt) (λ _. tt)
+one_fair f r (Some u) s rest h k = onto_fair f r (segment_of u.indicator (part u.word u.len s)) (rest (drop (u.word + u.len) s)) h (k (drop (u.word + u.len) s))
+one_fair f r None s rest h k = if_case (Fairs f r) (all_are pad s) (Some []) None (λ _. tt) (λ _. tt)
 
 cut_fair : (k f r : ℕ) (s : List ℕ) → Fairs f r (cut_f k f r s)
 unfolding cut_f
@@ -174,15 +171,15 @@ cut_fair (suc k) f r s = one_fair f r (unit_of f r s) s (λ t. cut_f k f r t) (u
 
 some_fair : (f r : ℕ) (o : Option (List Segment)) → Fairs f r o → Fairs f r (some_units o)
 unfolding some_units
-some_fair f r none h = tt
-some_fair f r (some []) h = tt
-some_fair f r (some (x ∷ xs)) h = h
+some_fair f r None h = tt
+some_fair f r (Some []) h = tt
+some_fair f r (Some (x ∷ xs)) h = h
 
 pub units_fair : (f b r o : ℕ) (s : List ℕ) → Fairs f r (units f b r o s)
 unfolding units cut
 units_fair f b r o s =
-    if_case (Fairs f r) (leb (length s) b) _ none
-    (λ _. if_case (Fairs f r) (leb o (length s)) _ none (λ _. some_fair f r _ (cut_fair (suc (length (drop o s))) f r (drop o s)))
+    if_case (Fairs f r) (leb (length s) b) _ None
+    (λ _. if_case (Fairs f r) (leb o (length s)) _ None (λ _. some_fair f r _ (cut_fair (suc (length (drop o s))) f r (drop o s)))
     (λ _. tt))
     (λ _. tt)
 
@@ -295,5 +292,5 @@ turns_owed f r o head (x ∷ xs) ys (fair, fairs) =
 pub block_owed : (f r q : ℕ) (o : Option (List Segment)) (ys : List Segment) → Fairs f r o → (turned r q true o).number ≡ 0
     → Owed f r (turned r q true o).pending (joined ys) → Owed f r q (joined (segments_of o ++ ys))
 unfolding turned segments_of outcome
-block_owed f r q none ys fair e h = absurd (eqb-false 7 0 refl e)
-block_owed f r q (some xs) ys fair e h = turns_owed f r q true xs ys fair e h
+block_owed f r q None ys fair e h = absurd (eqb-false 7 0 refl e)
+block_owed f r q (Some xs) ys fair e h = turns_owed f r q true xs ys fair e h

@@ -1,5 +1,6 @@
 -- Dates are compared between a trailer and its header alone, and those of later sections are no part of the meaning: two accepted
 -- sets which are the same without them have one meaning. Assumes nothing.
+use Rattle.std.specs.Prelude.{Some}
 use mathlib.Core.Path.{◌≡◌, refl, sym, ap, ap₂, ◌∙◌, subst}
 use mathlib.Core.Bool.{Bool, true, false, false≢true, ◌&&◌}
 use mathlib.Core.List.{List, [], ◌∷◌, ◌++◌}
@@ -20,7 +21,6 @@ use Rattle.order.specs.Kind.{other, hdr, data_block, is_kind}
 use Rattle.order.specs.Due.{due_after}
 use Rattle.order.specs.declared.Kind.{Kind}
 use Rattle.order.specs.declared.Phase.{Phase}
-use Rattle.order.specs.declared.Due.TheVariants.{To}
 use Rattle.charset.specs.Number.{number_in}
 use Rattle.label.specs.Field.{set_of, section_of, sequence_of}
 use Rattle.label.specs.Judged.{first_bad, agree_at, unequal_in}
@@ -313,7 +313,7 @@ alike s f p l m finish h new e = record { events = λ es fs h. h; state = refl; 
 
 -- ---- whole readings
 
-due_same : (p q : Phase) → To p ≡ To q → p ≡ q
+due_same : (p q : Phase) → Some p ≡ Some q → p ≡ q
 due_same p q e = cc
 
 first_item : (x y : Item) (xs ys : List Item) → x ∷ xs ≡ y ∷ ys → x ≡ y

@@ -1,6 +1,7 @@
 -- The entry of a file whose header labels were read without fault is a legal one: the header labels that the writer makes of it
 -- have no fault.
 -- Their fields are those that were read; the others are SPACEs, ZEROs and numbers that suit their rules. Assumes nothing.
+use Rattle.std.specs.Prelude.{Option, Some, None}
 use mathlib.Core.Path.{◌≡◌, refl, sym, ap, ◌∙◌, subst}
 use mathlib.Core.Bool.{Bool, true, false, false≢true}
 use mathlib.Core.List.{List, [], ◌∷◌, ◌++◌}
@@ -19,8 +20,6 @@ use Rattle.base.specs.declared.Fault.{Fault}
 use Rattle.base.proofs.Parts.{length_part, part_part}
 use Rattle.charset.specs.Class.{is_a, all_a}
 use Rattle.charset.specs.Number.{number_in}
-use Rattle.charset.specs.declared.Number.{Number}
-use Rattle.charset.specs.declared.Number.TheVariants.{Value, Wrong}
 use Rattle.charset.proofs.Numbers.{number_value}
 use Rattle.order.specs.Kind.{hdr, is_kind}
 use Rattle.label.specs.Name.{hdr1_name, hdr2_name}
@@ -160,11 +159,11 @@ suits_none f b r o = by_format (eqb f 83)
     by_format true h = let k : o + 6 ≤ b = leb-true (o + 6) b (sym (if_true true _ (leb (r + o) b) refl) ∙ h) in if_true _ _ _ refl ∙ le-leb 6 b (omega arith)
     by_format false h = let k : r + o ≤ b = leb-true (r + o) b (sym (if_false false (leb (o + 6) b) _ refl) ∙ h) in if_false _ _ _ refl ∙ le-leb (r + 0) b (omega arith)
 
-length_none : (f : ℕ) (b r : Number) (o : ℕ) → is_record_length f b r (Value o) ≡ true → is_record_length f b r (Value 0) ≡ true
+length_none : (f : ℕ) (b r : Option ℕ) (o : ℕ) → is_record_length f b r (Some o) ≡ true → is_record_length f b r (Some 0) ≡ true
 unfolding is_record_length is_length suits_both
-length_none f b Wrong o h = h
-length_none f Wrong (Value r) o h = h
-length_none f (Value b) (Value r) o h =
+length_none f b None o h = h
+length_none f None (Some r) o h = h
+length_none f (Some b) (Some r) o h =
     if_case (λ (t : Bool). t ≡ true → if_b (leb (least_record f) r) (suits f b r 0) false ≡ true) (leb (least_record f) r)
     (suits f b r o) false
     (λ e q. if_true _ _ _ e ∙ suits_none f b r o q) (λ _ q. absurd (false≢true q)) h
@@ -201,7 +200,7 @@ module _ (f s : List ℕ) (lf : length f ≡ 80) (ls : length s ≡ 80) where
       second_field hdr2_name (fields_from f s) record_length_row (length_part 41 5 _ (omega (arith, length_entry f s lf ls)))
       ∙ entry_second f s lf ls 6 5 (omega arith)
 
-  made_offset : number_in (part 50 2 (made2 (fields_from f s))) ≡ Value 0
+  made_offset : number_in (part 50 2 (made2 (fields_from f s))) ≡ Some 0
   unfolding digits number_in all_digits is_digit value if_b
   made_offset = ap number_in (second_field hdr2_name (fields_from f s) offset_row refl)
 
@@ -211,13 +210,13 @@ module _ (f s : List ℕ) (lf : length f ≡ 80) (ls : length s ≡ 80) where
   made_suits o h =
       let format : get_or m 4 0 ≡ get_or s 4 0 = byte_part 4 m ∙ ap (λ (x : List ℕ). get_or x 0 0) made_format ∙ sym (byte_part 4 s) in
       let two : length (part 50 2 s) ≡ 2 = length_part 50 2 s (omega arith) in
-      let offset : number_in (part 50 2 s) ≡ Value (value 0 (part 50 2 s)) = number_value (part 50 2 s) (omega arith) o in
+      let offset : number_in (part 50 2 s) ≡ Some (value 0 (part 50 2 s)) = number_value (part 50 2 s) (omega arith) o in
       ap (λ (x : ℕ). is_record_length x (number_in (part 5 5 m)) (number_in (part 10 5 m)) (number_in (part 50 2 m))) format
       ∙ ap (λ (x : List ℕ). is_record_length (get_or s 4 0) (number_in x) (number_in (part 10 5 m)) (number_in (part 50 2 m))) made_block
       ∙ ap (λ (x : List ℕ). is_record_length (get_or s 4 0) (number_in (part 5 5 s)) (number_in x) (number_in (part 50 2 m))) made_record
-      ∙ ap (λ (x : Number). is_record_length (get_or s 4 0) (number_in (part 5 5 s)) (number_in (part 10 5 s)) x) made_offset
+      ∙ ap (λ (x : Option ℕ). is_record_length (get_or s 4 0) (number_in (part 5 5 s)) (number_in (part 10 5 s)) x) made_offset
       ∙ length_none (get_or s 4 0) (number_in (part 5 5 s)) (number_in (part 10 5 s)) (value 0 (part 50 2 s))
-      (subst (λ (x : Number). is_record_length (get_or s 4 0) (number_in (part 5 5 s)) (number_in (part 10 5 s)) x ≡ true) offset h)
+      (subst (λ (x : Option ℕ). is_record_length (get_or s 4 0) (number_in (part 5 5 s)) (number_in (part 10 5 s)) x ≡ true) offset h)
     where
       m : List ℕ
       m = made2 (fields_from f s)

@@ -1,4 +1,5 @@
 -- The meaning of an accepted set is a legal one, so that rewriting refuses no set for what it holds. Assumes nothing.
+use Rattle.std.specs.Prelude.{Option, Some, None}
 use mathlib.Core.Path.{◌≡◌, refl, sym, ap, ◌∙◌, subst}
 use mathlib.Core.Bool.{true, false, false≢true}
 use mathlib.Core.List.{List, [], ◌∷◌, ◌++◌}
@@ -15,8 +16,6 @@ use Rattle.order.specs.Kind.{other, data_block, end_of_image, is_kind}
 use Rattle.order.specs.Due.{due_after}
 use Rattle.order.specs.declared.Kind.{Kind}
 use Rattle.order.specs.declared.Phase.{Phase}
-use Rattle.order.specs.declared.Due.{Due}
-use Rattle.order.specs.declared.Due.TheVariants.{To, Wrong}
 use Rattle.label.specs.Name.{named as named_kind, kind_of}
 use Rattle.volume.specs.State.{State, start}
 use Rattle.volume.specs.Step.{Event, Next, kind_in, bytes_in, is_due, state_after, events_of}
@@ -67,9 +66,9 @@ pub image_end_lem : (p : Phase) → Numbered p → is_due (due_after p end_of_im
 unfolding is_due
 image_end_lem p n = by_due (due_after p end_of_image) refl
   where
-    by_due : (d : Due) → due_after p end_of_image ≡ d → is_due d ≡ true → stage p ≡ file_over
-    by_due (To q) e _ = end_stage (due_goes p end_of_image q n e).move refl
-    by_due Wrong e h = absurd (false≢true h)
+    by_due : (d : Option Phase) → due_after p end_of_image ≡ d → is_due d ≡ true → stage p ≡ file_over
+    by_due (Some q) e _ = end_stage (due_goes p end_of_image q n e).move refl
+    by_due None e h = absurd (false≢true h)
 
 -- ---- a whole reading
 

@@ -1,6 +1,7 @@
 -- What holds at each stage of the reading of an accepted set, and what is promised there of all that is still handed out: one
 -- item at a time.
 -- An invariant goes forwards over the items, a promise backwards over the events. Assumes nothing.
+use Rattle.std.specs.Prelude.{Option}
 use mathlib.Core.Path.{◌≡◌, refl, sym, ap, ap₂, ◌∙◌, subst}
 use mathlib.Core.Bool.{Bool, true, false, false≢true}
 use mathlib.Core.List.{List, [], ◌∷◌}
@@ -17,7 +18,6 @@ use Rattle.base.specs.Answer.{fault, or_else}
 use Rattle.base.specs.declared.Fault.{Fault}
 use Rattle.base.proofs.Bytes.{same_true}
 use Rattle.charset.specs.Number.{number_in}
-use Rattle.charset.specs.declared.Number.{Number}
 use Rattle.order.specs.Kind.{hdr}
 use Rattle.label.specs.Field.{set_of, section_of, format_of, block_length_of, record_length_of, offset_of}
 use Rattle.label.specs.Table.{hdr1, hdr2, per_file, bp_of, set_row, section_row, format_row, record_length_row, offset_row}
@@ -243,7 +243,7 @@ again_promise n f s q l es e h =
       legal = h.legal;
       owed = λ on.
           subst (λ (x : ℕ). Owed x (value_of (record_length_of s)) q (joined (collect es).segments)) (sym (second_same s l e).0)
-          (subst (λ (x : Number). Owed (format_of l) (value_of x) q (joined (collect es).segments)) (sym (second_same s l e).1)
+          (subst (λ (x : Option ℕ). Owed (format_of l) (value_of x) q (joined (collect es).segments)) (sym (second_same s l e).1)
           (h.owed on));
       none = h.none;
     }

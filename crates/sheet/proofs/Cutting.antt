@@ -1,14 +1,14 @@
--- Laws of lists cut into parts, and of the place behind a part. Assumes nothing.
+-- Laws of lists cut into parts. Assumes nothing.
 use mathlib.Core.Path.{◌≡◌, refl, sym, ap, ◌∙◌}
 use mathlib.Core.List.{List, [], ◌∷◌, ◌++◌}
-use Prim.Native.Nat.{ℕ, zero, suc, ◌+◌, ◌*◌, ◌-◌, ◌≤◌, ◌<◌, min}
+use Prim.Native.Nat.{ℕ, zero, suc, ◌+◌, ◌*◌, ◌≤◌, ◌<◌, min}
 use native.Mathlib.Nat.{suc-mul}
 use native.Mathlib.Omega.{arith}
 use lib.ListN.{length, take, drop, length-append, length-drop}
-use lib.Seq.{take_at, drop_at, drop-drop}
+use lib.Seq.{take_at, drop_at}
 use Rattle.sheet.specs.Flat.{in_parts_f, in_parts}
 
--- ---- the place behind a part, or the end
+-- ---- a part of n elements, or to the end
 
 pub drop_min : (n : ℕ) (s : List ℕ) → drop (min n (length s)) s ≡ drop n s
 drop_min zero s = let e : min 0 (length s) ≡ 0 = omega arith in rw e
@@ -19,16 +19,6 @@ pub take_min : (n : ℕ) (s : List ℕ) → take (min n (length s)) s ≡ take n
 take_min zero s = let e : min 0 (length s) ≡ 0 = omega arith in rw e
 take_min (suc n) [] = let e : min (suc n) 0 ≡ 0 = omega arith in rw e
 take_min (suc n) (x ∷ s) = let e : min (suc n) (suc (length s)) ≡ suc (min n (length s)) = omega arith in rw e (ap (λ (l : List ℕ). x ∷ l) (take_min n s))
-
-pub drop_past : (at n b : ℕ) (s : List ℕ) → b ≡ min (at + n) (length s) → drop b s ≡ drop n (drop at s)
-drop_past at n b s e = rw e (drop_min (at + n) s ∙ sym (drop-drop n at s))
-
--- the code's `&s[at..b]`, where b is the place n behind
-pub take_past : (at n b : ℕ) (s : List ℕ) → b ≡ min (at + n) (length s) → take (b - at) (drop at s) ≡ take n (drop at s)
-take_past at n b s e =
-    let l = length-drop at s in
-    let k : b - at ≡ min n (length (drop at s)) = omega arith in
-    rw k (take_min n (drop at s))
 
 -- ---- parts
 
@@ -58,6 +48,14 @@ parts_some w (x ∷ s) z h =
     let e = length-drop w (x ∷ s) in
     ap (λ (r : List (List ℕ)). take w (x ∷ s) ∷ r)
     (parts_enough (length s) (length (drop w (x ∷ s))) w (drop w (x ∷ s)) z (omega arith) (omega arith))
+
+-- the first part, and the rest behind it
+pub parts_cut : (w : ℕ) (s e t : List ℕ) → 0 < w → s ≡ e ++ t → length e ≡ min w (length s) → 0 < length s
+    → in_parts w s ≡ e ∷ in_parts w t
+parts_cut w s e t z q k h =
+    let front : take w s ≡ e = sym (take_min w s) ∙ ap (take (min w (length s))) q ∙ take_at e t (min w (length s)) k in
+    let back : drop w s ≡ t = sym (drop_min w s) ∙ ap (drop (min w (length s))) q ∙ drop_at e t (min w (length s)) k in
+    parts_some w s z h ∙ rw (front, back)
 
 -- a part of full length before others
 pub parts_cons : (w : ℕ) (s t : List ℕ) → 0 < w → length s ≡ w → in_parts w (s ++ t) ≡ s ∷ in_parts w t

@@ -1,4 +1,3 @@
-mod Composed
 pub mod Cutting
 pub mod Records
 pub mod Files

@@ -82,54 +82,13 @@ pub ruleset reels = (reels_many, reels_odd, reels_none, reels_quota, reels_wrong
 
 -- ---- the files
 
-module _ (set files counts lengths bytes : List ℕ) where
-  pub says_uneven : (length files % 46 ≡ 0 → ⊥) → false ≡ says_files set files counts lengths bytes
-  unfolding says_files
-  says_uneven h = sym (if_false _ _ _ (ne_eqb (length files % 46) 0 h))
-
-  pub says_other : length files % 46 ≡ 0 → (length files / 46 ≡ length counts → ⊥)
-      → false ≡ says_files set files counts lengths bytes
-  unfolding says_files
-  says_other h k =
-      sym (if_true _ _ _ (eq-eqb (length files % 46) 0 h) ∙ if_false _ _ _ (ne_eqb (length files / 46) (length counts) k))
-
-  -- whole entries, as many as there are counts
-  says_whole : length files % 46 ≡ 0 → length files / 46 ≡ length counts
-      → says_files set files counts lengths bytes
-      ≡ if_b (eqb (length counts) 0) false
-      (if_b (eqb (sum counts) (length lengths)) (fill_bytes set files counts lengths bytes) false)
-  unfolding says_files
-  says_whole h k = if_true _ _ _ (eq-eqb (length files % 46) 0 h) ∙ if_true _ _ _ (eq-eqb (length files / 46) (length counts) k)
-
-  pub says_none : length files % 46 ≡ 0 → length files / 46 ≡ length counts → length counts ≡ 0
-      → false ≡ says_files set files counts lengths bytes
-  says_none h k z = sym (says_whole h k ∙ if_true _ _ _ (eq-eqb (length counts) 0 z))
-
-  pub says_counts : (p : Bool) → length files % 46 ≡ 0 → length files / 46 ≡ length counts → (length counts ≡ 0 → ⊥)
-      → p ≡ eqb (sum counts) (length lengths) → p ≡ false → false ≡ says_files set files counts lengths bytes
-  says_counts p h k z e t = sym (says_whole h k ∙ if_false _ _ _ (ne_eqb (length counts) 0 z) ∙ if_false _ _ _ (sym e ∙ t))
-
-  pub says_filled : (p a : Bool) → length files % 46 ≡ 0 → length files / 46 ≡ length counts → (length counts ≡ 0 → ⊥)
-      → p ≡ eqb (sum counts) (length lengths) → p ≡ true → a ≡ fill_bytes set files counts lengths bytes
-      → a ≡ says_files set files counts lengths bytes
-  says_filled p a h k z e t l = l ∙ sym (says_whole h k ∙ if_false _ _ _ (ne_eqb (length counts) 0 z) ∙ if_true _ _ _ (sym e ∙ t))
-
-  -- the lengths and the bytes
-  pub fills_within : (r : Bool) → r ≡ eqb (sum lengths) (length bytes) → r ≡ true → sum lengths ≤ length bytes
-  fills_within r e t = omega (arith, eqb-true (sum lengths) (length bytes) (sym e ∙ t))
-
-  pub fills_not : (r : Bool) → r ≡ eqb (sum lengths) (length bytes) → r ≡ false → false ≡ fill_bytes set files counts lengths bytes
-  unfolding fill_bytes
-  fills_not r e t = sym (if_false _ _ _ (sym e ∙ t))
-
-  pub fills_legal : (r a : Bool) → r ≡ eqb (sum lengths) (length bytes) → r ≡ true
-      → a ≡ legal_files set (files_from (in_parts 46 files) counts lengths bytes) → a ≡ fill_bytes set files counts lengths bytes
-  unfolding fill_bytes
-  fills_legal r a e t l = l ∙ sym (if_true _ _ _ (sym e ∙ t))
-
-pub ruleset fills = (fills_within, fills_not, fills_legal, rules)
-
-pub ruleset says = (says_uneven, says_other, says_none, says_counts, says_filled, rules)
+-- whole entries, as many as there are counts
+says_whole : (set files counts lengths bytes : List ℕ) → length files % 46 ≡ 0 → length files / 46 ≡ length counts
+    → says_files set files counts lengths bytes
+    ≡ if_b (eqb (length counts) 0) false
+    (if_b (eqb (sum counts) (length lengths)) (fill_bytes set files counts lengths bytes) false)
+unfolding says_files
+says_whole set files counts lengths bytes h k = if_true _ _ _ (eq-eqb (length files % 46) 0 h) ∙ if_true _ _ _ (eq-eqb (length files / 46) (length counts) k)
 
 length_files : (es : List (List ℕ)) (cs ls bs : List ℕ) → length es ≡ length cs → length (files_from es cs ls bs) ≡ length cs
 unfolding files_from

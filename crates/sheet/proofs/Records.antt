@@ -1,12 +1,12 @@
 -- Laws of one record, and of records cut one behind the other, as a loop over their lengths wants them. Assumes nothing.
 use mathlib.Core.Path.{◌≡◌, refl, sym, ap, ◌∙◌}
-use mathlib.Core.Bool.{Bool, true, false, not, false≢true}
+use mathlib.Core.Bool.{Bool, true, false, not}
 use mathlib.Core.List.{List, []}
 use Prim.Native.Nat.{ℕ, ◌+◌, ◌-◌, ◌≤◌, ◌<◌, min}
 use native.Mathlib.Omega.{arith}
 use native.Mathlib.Numerals.{add-one}
 use borrow.Author.Rules.{rules}
-use borrow.Author.Tests.{eq-eqb, ne_eqb, leb-true, le-leb, lt-leb, not-true, not-false}
+use borrow.Author.Tests.{ne_eqb, leb-true, le-leb, lt-leb, not-true, not-false}
 use mir.Val.{Fits}
 use mir.Syntax.{w64}
 use lib.Dec.{eqb, leb}
@@ -14,45 +14,15 @@ use lib.ListN.{length, take, drop, get_or, drop_of_length-le}
 use lib.Seq.{drop-cons, drop-drop}
 use Rattle.base.specs.If.{if_b}
 use Rattle.base.proofs.Ifs.{if_true, if_false, if_case}
-use Rattle.base.specs.Part.{part, all_are}
+use Rattle.base.specs.Part.{part}
 use Rattle.reading.specs.Legal.{legal_record, legal_records}
-use Rattle.sheet.specs.Code.Passing.{DidPassRecords, too_long}
-use Rattle.sheet.specs.declared.file.Passed.{Passed}
+use Rattle.sheet.specs.Code.Passing.{passed, too_long}
+use Rattle.std.specs.Prelude.{Some, None}
 use Rattle.base.specs.Sum.{sum, cut_by}
 use Rattle.base.proofs.Parts.{length_part, part_within}
 use Rattle.base.proofs.Sums.{sum_at}
 
 -- ---- one record
-
-pub fixed_right : (r : ℕ) (x : List ℕ) (p : Bool) → length x ≡ r → p ≡ all_are 94 x → not p ≡ legal_record 70 r x
-unfolding legal_record
-fixed_right r x p h q = sym (if_true _ _ _ refl ∙ if_true _ _ _ (eq-eqb (length x) r h) ∙ ap not (sym q))
-
-pub fixed_other : (r : ℕ) (x : List ℕ) → (length x ≡ r → ⊥) → false ≡ legal_record 70 r x
-unfolding legal_record
-fixed_other r x h = sym (if_true _ _ _ refl ∙ if_false _ _ _ (ne_eqb (length x) r h))
-
-pub ruleset records = (fixed_right, fixed_other, rules)
-
--- ---- the lengths of D and S records
-
-pub limit_none : (f r : ℕ) → f ≡ 68 → r < 3 → 0 ≡ too_long f r
-unfolding too_long
-limit_none f r e h = let k : 0 ≡ min (r - 3) 9996 = omega arith in k ∙ sym (if_true _ _ _ (eq-eqb f 68 e))
-
-pub limit_less : (f r : ℕ) → f ≡ 68 → 3 ≤ r → r - 3 < 9996 → r - 3 ≡ too_long f r
-unfolding too_long
-limit_less f r e h l = let k : r - 3 ≡ min (r - 3) 9996 = omega arith in k ∙ sym (if_true _ _ _ (eq-eqb f 68 e))
-
-pub limit_most : (f r : ℕ) → f ≡ 68 → 9996 ≤ r - 3 → 9996 ≡ too_long f r
-unfolding too_long
-limit_most f r e h = let k : 9996 ≡ min (r - 3) 9996 = omega arith in k ∙ sym (if_true _ _ _ (eq-eqb f 68 e))
-
-pub limit_over : (f r : ℕ) → (f ≡ 68 → ⊥) → r + 1 ≡ too_long f r
-unfolding too_long
-limit_over f r e = sym (if_false _ _ _ (ne_eqb f 68 e))
-
-pub ruleset limits = (limit_none, limit_less, limit_most, limit_over, rules)
 
 -- a record of another file than F is legal where it is not too long
 module _ (f r : ℕ) (x : List ℕ) (h : f ≡ 70 → ⊥) where
@@ -109,19 +79,18 @@ module _ (f r : ℕ) (ls s : List ℕ) (from at i : ℕ) (c : Cut f r ls s from 
       }
 
   cut_no : legal_record f r (part at (get_or ls i 0) s) ≡ false
-      → DidPassRecords (legal_records f r (cut_by ls (drop from s))) ls from (record { legal = false; at = at })
-  cut_no e = record { answer = sym (records_at_lem f r ls s at i h ∙ if_false _ _ _ e) ∙ c.left; place = λ q. absurd (false≢true q) }
+      → None ≡ passed (legal_records f r (cut_by ls (drop from s))) ls from
+  unfolding passed
+  cut_no e = sym (if_false _ _ _ (sym c.left ∙ records_at_lem f r ls s at i h ∙ if_false _ _ _ e))
 
 pub cut_all : (f r : ℕ) (ls s : List ℕ) (from at i : ℕ) → Cut f r ls s from at i → length ls ≤ i
-    → DidPassRecords (legal_records f r (cut_by ls (drop from s))) ls from (record { legal = true; at = at })
-unfolding legal_records cut_by sum
+    → Some at ≡ passed (legal_records f r (cut_by ls (drop from s))) ls from
+unfolding passed legal_records cut_by sum
 cut_all f r ls s from at i c h =
     let e : drop i ls ≡ [] = drop_of_length-le ls h in
     let none : sum (drop i ls) ≡ 0 = ap sum e in
-    record {
-      answer = sym (ap (λ (l : List ℕ). legal_records f r (cut_by l (drop at s))) e) ∙ c.left;
-      place = λ q. omega (arith, c.place, none);
-    }
+    let place : at ≡ from + sum ls = omega (arith, c.place, none) in
+    ap Some place ∙ sym (if_true _ _ _ (sym c.left ∙ ap (λ (l : List ℕ). legal_records f r (cut_by l (drop at s))) e))
 
 -- by the bytes of an F record, as the code takes them
 module _ (r : ℕ) (ls s : List ℕ) (from at i : ℕ) (p : Bool) (c : Cut 70 r ls s from at i) (h : i < length ls)
@@ -131,7 +100,7 @@ module _ (r : ℕ) (ls s : List ℕ) (from at i : ℕ) (p : Bool) (c : Cut 70 r 
       cut_yes 70 r ls s from at i c h (ap (legal_record 70 r) (sym (part_within at (get_or ls i 0) s)) ∙ sym e ∙ not-false p n)
 
   pub fixed_wrong : not p ≡ true
-      → DidPassRecords (legal_records 70 r (cut_by ls (drop from s))) ls from (record { legal = false; at = at })
+      → None ≡ passed (legal_records 70 r (cut_by ls (drop from s))) ls from
   fixed_wrong n =
       cut_no 70 r ls s from at i c h (ap (legal_record 70 r) (sym (part_within at (get_or ls i 0) s)) ∙ sym e ∙ not-true p n)
 
@@ -145,15 +114,8 @@ module _ (f r : ℕ) (ls s : List ℕ) (from at i over : ℕ) (k : f ≡ 70 → 
   length_more l = cut_yes f r ls s from at i c h (length_legal f r (part at (get_or ls i 0) s) k (omega (arith, long, e)))
 
   pub length_wrong : over ≤ get_or ls i 0
-      → DidPassRecords (legal_records f r (cut_by ls (drop from s))) ls from (record { legal = false; at = at })
+      → None ≡ passed (legal_records f r (cut_by ls (drop from s))) ls from
   length_wrong l = cut_no f r ls s from at i c h (length_illegal f r (part at (get_or ls i 0) s) k (omega (arith, long, e)))
 
--- either way
-pub passed_fixed : (f r : ℕ) (ls s : List ℕ) (from : ℕ) (x : Passed) → f ≡ 70
-    → DidPassRecords (legal_records 70 r (cut_by ls (drop from s))) ls from x
-    → DidPassRecords (legal_records f r (cut_by ls (drop from s))) ls from x
-passed_fixed f r ls s from x e b =
-    record { answer = b.answer ∙ ap (λ (k : ℕ). legal_records k r (cut_by ls (drop from s))) (sym e); place = b.place }
-
 pub ruleset cuts =
-    (cut_none, cut_room, cut_fits, cut_all, fixed_more, fixed_wrong, length_more, length_wrong, passed_fixed, rules)
+    (cut_none, cut_room, cut_fits, cut_all, fixed_more, fixed_wrong, length_more, length_wrong, rules)

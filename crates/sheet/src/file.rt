@@ -7,28 +7,21 @@ ghost use Rattle.label.specs.Judged.{label_fault};
 ghost use Rattle.label.specs.Made.{entry_length, made_first, made_second};
 ghost use Rattle.reading.specs.Legal.{is_sound, format_from, record_length_from, legal_entry, legal_record, legal_records, legal_file, legal_files};
 ghost use Rattle.sheet.specs.Flat.{in_parts, files_from};
-ghost use Rattle.sheet.specs.Code.Passing.{DidPassRecords, too_long};
+ghost use Rattle.sheet.specs.Code.Passing.{passed, too_long};
 
-use crate::sum::past;
 use base::{FIXED, VARIABLE, part_of};
 use block::all_padding;
-use charset::{Number, number_in};
+use charset::number_in;
 use label::{ENTRY, FORMAT_IN, SIZE_IN, SIZE_WIDTH, first_label, label_fault, second_label};
 use order::{HDR, Kind};
 
 // The least length of a record that four digits of a control word cannot say.
 const UNSAYABLE: usize = 9_996;
 
-// The records of a file, passed: whether all are legal and, if so, the place behind their bytes.
-#[derive(Clone, Copy)]
-pub struct Passed {
-    pub legal: bool,
-    pub at: usize,
-}
-
 // ---- a file's entry
 
 // Whether HDR1 made of an entry has no fault.
+#[tactic(auto, unfolding(reading::specs::Legal::is_sound))]
 fn is_first_sound(set: &[u8], entry: &[u8]) -> bool
     ensures { result ≡ is_sound (label_fault (hdr 1) (made_first hdr1_name set.now entry.now 1 1 0)) }
 {
@@ -44,6 +37,7 @@ fn is_first_sound(set: &[u8], entry: &[u8]) -> bool
 }
 
 // Whether HDR2 made of an entry has no fault.
+#[tactic(auto, unfolding(reading::specs::Legal::is_sound))]
 fn is_second_sound(entry: &[u8]) -> bool
     ensures { result ≡ is_sound (label_fault (hdr 2) (made_second hdr2_name entry.now)) }
 {
@@ -59,113 +53,91 @@ fn is_second_sound(entry: &[u8]) -> bool
 }
 
 // Whether the set identifier and an entry are legal.
+#[tactic(auto, unfolding(reading::specs::Legal::legal_entry, base::specs::If::if_b))]
 fn is_legal_entry(set: &[u8], entry: &[u8]) -> bool
     ensures { result ≡ legal_entry set.now entry.now }
 {
-    if set.len() == 6 {
-        if entry.len() == ENTRY {
-            if is_first_sound(set, entry) {
-                return is_second_sound(entry);
-            }
-            return false;
-        }
-        return false;
-    }
-    false
+    set.len() == 6 && entry.len() == ENTRY && is_first_sound(set, entry) && is_second_sound(entry)
 }
 
 // The format of an entry.
+#[tactic(auto, unfolding(reading::specs::Legal::format_from))]
 pub fn format_in(entry: &[u8]) -> u8
     ensures { result ≡ format_from entry.now }
 {
-    if FORMAT_IN < entry.len() {
-        return entry[FORMAT_IN];
-    }
-    0
+    entry.get(FORMAT_IN).copied().unwrap_or(0)
 }
 
 // The record length of an entry.
+#[tactic(auto, unfolding(reading::specs::Legal::record_length_from, volume::specs::Fault::value_of))]
 fn record_length_in(entry: &[u8]) -> u32
     ensures { result ≡ record_length_from entry.now }
 {
-    let n = number_in(part_of(entry, SIZE_IN, SIZE_WIDTH));
-    match n {
-        Number::Value(v) => v,
-        Number::Wrong => 0,
-    }
+    number_in(part_of(entry, SIZE_IN, SIZE_WIDTH)).unwrap_or(0)
 }
 
 // ---- records
 
 // Whether a record is legal in an F file of that record length.
+#[tactic(auto, unfolding(reading::specs::Legal::legal_record, base::specs::If::if_b))]
 fn is_fixed(record_length: u32, x: &[u8]) -> bool
     ensures { result ≡ legal_record 70 record_length x.now }
 {
-    if x.len() == record_length as usize {
-        return !all_padding(x);
-    }
-    false
+    x.len() == record_length as usize && !all_padding(x)
 }
 
-// The records of an F file, of these lengths from a place on.
-fn fixed_passed(record_length: u32, lengths: &[u64], bytes: &[u8], from: usize) -> Passed
+// The records of an F file, of these lengths from a place on: the place behind them, if all are legal.
+#[tactic(auto, using(crate::proofs::Records::cuts))]
+fn fixed_passed(record_length: u32, lengths: &[u64], bytes: &[u8], from: usize) -> Option<usize>
     requires { from + sum lengths.now ≤ length bytes.now }
-    ensures { DidPassRecords (legal_records 70 record_length (cut_by lengths.now (drop from bytes.now))) lengths.now from result }
+    ensures { result ≡ passed (legal_records 70 record_length (cut_by lengths.now (drop from bytes.now))) lengths.now from }
 {
     let mut at = from;
-    let mut i = 0;
-    while i < lengths.len() {
-        let end = at + lengths[i] as usize;
+    for n in lengths {
+        let end = at + *n as usize;
         if !is_fixed(record_length, &bytes[at..end]) {
-            return Passed { legal: false, at };
+            return None;
         }
         at = end;
-        i += 1;
     }
-    Passed { legal: true, at }
+    Some(at)
 }
 
 // The least length that is too long for a record of a D or S file.
+#[tactic(auto, unfolding(crate::specs::Code::Passing::too_long, base::specs::If::if_b))]
 fn too_long(format: u8, record_length: u32) -> usize
     ensures { result ≡ too_long format record_length }
 {
     let most = record_length as usize;
     if format == VARIABLE {
-        if most < 3 {
-            return 0;
-        }
-        if most - 3 < UNSAYABLE {
-            return most - 3;
-        }
-        return UNSAYABLE;
+        return most.saturating_sub(3).min(UNSAYABLE);
     }
     most + 1
 }
 
 // The records of a D or S file, of these lengths from a place on: no byte of theirs is looked at.
+#[tactic(auto, using(crate::proofs::Records::cuts))]
 fn lengths_passed(
     format: u8,
     record_length: u32,
     lengths: &[u64],
     bytes: &[u8],
     from: usize,
-) -> Passed
+) -> Option<usize>
     requires fact { format ≡ 70 → ⊥ }
     requires lengths_in_bounds { from + sum lengths.now ≤ length bytes.now }
-    ensures { DidPassRecords (legal_records format record_length (cut_by lengths.now (drop from bytes.now))) lengths.now from result }
+    ensures { result ≡ passed (legal_records format record_length (cut_by lengths.now (drop from bytes.now))) lengths.now from }
 {
     let over = too_long(format, record_length);
     let mut at = from;
-    let mut i = 0;
-    while i < lengths.len() {
-        let n = lengths[i] as usize;
+    for length in lengths {
+        let n = *length as usize;
         if over <= n {
-            return Passed { legal: false, at };
+            return None;
         }
         at += n;
-        i += 1;
     }
-    Passed { legal: true, at }
+    Some(at)
 }
 
 // The records of these lengths from a place on.
@@ -175,9 +147,9 @@ fn records_passed(
     lengths: &[u64],
     bytes: &[u8],
     from: usize,
-) -> Passed
+) -> Option<usize>
     requires { from + sum lengths.now ≤ length bytes.now }
-    ensures { DidPassRecords (legal_records format record_length (cut_by lengths.now (drop from bytes.now))) lengths.now from result }
+    ensures { result ≡ passed (legal_records format record_length (cut_by lengths.now (drop from bytes.now))) lengths.now from }
 {
     if format == FIXED {
         return fixed_passed(record_length, lengths, bytes, from);
@@ -188,28 +160,33 @@ fn records_passed(
 // ---- files
 
 // A file with that entry, and records of these lengths from a place on.
-fn file_passed(set: &[u8], entry: &[u8], lengths: &[u64], bytes: &[u8], from: usize) -> Passed
+#[tactic(auto, unfolding(reading::specs::Legal::legal_file, crate::specs::Code::Passing::passed, base::specs::If::if_b))]
+fn file_passed(
+    set: &[u8],
+    entry: &[u8],
+    lengths: &[u64],
+    bytes: &[u8],
+    from: usize,
+) -> Option<usize>
     requires { from + sum lengths.now ≤ length bytes.now }
-    ensures { DidPassRecords
+    ensures { result ≡ passed
         (legal_file set.now (record { fields = entry.now; records = cut_by lengths.now (drop from bytes.now) }))
-        lengths.now from result }
+        lengths.now from }
 {
-    if is_legal_entry(set, entry) {
-        return records_passed(
-            format_in(entry),
-            record_length_in(entry),
-            lengths,
-            bytes,
-            from,
-        );
+    if !is_legal_entry(set, entry) {
+        return None;
     }
-    Passed {
-        legal: false,
-        at: from,
-    }
+    records_passed(
+        format_in(entry),
+        record_length_in(entry),
+        lengths,
+        bytes,
+        from,
+    )
 }
 
 // Whether every file is legal: each has the next entry, the next count, and as many of the next lengths as that count says.
+#[tactic(auto, using(crate::proofs::Files::lefts))]
 pub(crate) fn are_legal(
     set: &[u8],
     files: &[u8],
@@ -220,29 +197,16 @@ pub(crate) fn are_legal(
     requires { sum lengths.now ≤ length bytes.now }
     ensures { result ≡ legal_files set.now (files_from (in_parts entry_length files.now) counts.now lengths.now bytes.now) }
 {
-    let mut entry = 0;
-    let mut first = 0;
+    let mut left = lengths;
     let mut at = 0;
-    let mut i = 0;
-    while i < counts.len() {
-        if files.len() <= entry {
-            return true;
+    for (entry, count) in files.chunks(ENTRY).zip(counts) {
+        let n = left.len().min(*count as usize);
+        let (here, behind) = left.split_at(n);
+        match file_passed(set, entry, here, bytes, at) {
+            None => return false,
+            Some(end) => at = end,
         }
-        let end = past(first, counts[i], lengths.len());
-        let p = file_passed(
-            set,
-            part_of(files, entry, ENTRY),
-            &lengths[first..end],
-            bytes,
-            at,
-        );
-        if !p.legal {
-            return false;
-        }
-        entry = past(entry, ENTRY as u64, files.len());
-        first = end;
-        at = p.at;
-        i += 1;
+        left = behind;
     }
     true
 }

@@ -5,7 +5,6 @@
 
 mod file; // file.rt: the files, their entries and records
 mod reels; // reels.rt: the quota and the names
-mod sum; // sum.rt: a number that a caller gave, added to a place
 
 ghost use Rattle.std.specs.Prelude.{◌≡◌};
 ghost use Rattle.sheet.specs.Flat.{reels_number, sheet_number};
@@ -24,57 +23,41 @@ const FILES: usize = 64;
 const REELS: usize = 16;
 
 // The number for the quota and the names alone: 9 for a 17th name, 11 where they are not legal, else 0.
+#[tactic(auto, using(crate::proofs::Numbers::reels))]
 pub fn reels_number(quota: u64, names: &[u8]) -> u32
     ensures { result ≡ reels_number quota names.now }
 {
     if REELS < names.len() / NAME {
         return 9;
     }
-    if names.len() % NAME != 0 {
-        return 11;
+    if names.len() % NAME == 0 && names.len() != 0 && is_legal_quota(quota) && are_fresh(names) {
+        return 0;
     }
-    if names.len() == 0 {
-        return 11;
-    }
-    if !is_legal_quota(quota) {
-        return 11;
-    }
-    if !are_fresh(names) {
-        return 11;
-    }
-    0
+    11
 }
 
 // Whether the lengths add up to the bytes, and all files are legal.
+#[tactic(auto, unfolding(crate::specs::Code::Passing::fill_bytes, base::specs::If::if_b))]
 fn fill_bytes(set: &[u8], files: &[u8], counts: &[u64], lengths: &[u64], bytes: &[u8]) -> bool
     ensures { result ≡ fill_bytes set.now files.now counts.now lengths.now bytes.now }
 {
-    if add_up_to(lengths, bytes.len()) {
-        return are_legal(set, files, counts, lengths, bytes);
-    }
-    false
+    add_up_to(lengths, bytes.len()) && are_legal(set, files, counts, lengths, bytes)
 }
 
 // Whether counts and lengths add up, and there are files, all of them legal.
+#[tactic(auto, unfolding(crate::specs::Code::Passing::says_files, base::specs::If::if_b))]
 fn says_files(set: &[u8], files: &[u8], counts: &[u64], lengths: &[u64], bytes: &[u8]) -> bool
     ensures { result ≡ says_files set.now files.now counts.now lengths.now bytes.now }
 {
-    if files.len() % ENTRY != 0 {
-        return false;
-    }
-    if files.len() / ENTRY != counts.len() {
-        return false;
-    }
-    if counts.len() == 0 {
-        return false;
-    }
-    if add_up_to(counts, lengths.len()) {
-        return fill_bytes(set, files, counts, lengths, bytes);
-    }
-    false
+    files.len() % ENTRY == 0
+        && files.len() / ENTRY == counts.len()
+        && counts.len() != 0
+        && add_up_to(counts, lengths.len())
+        && fill_bytes(set, files, counts, lengths, bytes)
 }
 
 // The number for a whole sheet: 9 for a 65th file or a 17th name, 11 where it is not legal, else 0.
+#[tactic(auto, using(crate::proofs::Numbers::sheets))]
 pub fn sheet_number(
     set: &[u8],
     files: &[u8],

@@ -3,7 +3,6 @@ ghost use Rattle.std.specs.Prelude.{◌≡◌, [], ◌≤◌, length};
 ghost use Rattle.reading.specs.Legal.{legal_name, legal_quota, fresh_names};
 ghost use Rattle.sheet.specs.Flat.{in_parts};
 
-use base::part_of;
 use label::{label_fault, volume_label};
 use order::{Kind, VOL};
 use volume::{NAME, is_among};
@@ -12,16 +11,15 @@ use volume::{NAME, is_among};
 const MOST_BLOCKS: u64 = 999_999;
 
 // Whether a quota is legal.
+#[tactic(auto, unfolding(reading::specs::Legal::legal_quota, base::specs::If::if_b))]
 pub(crate) fn is_legal_quota(quota: u64) -> bool
     ensures { result ≡ legal_quota quota }
 {
-    if 1 <= quota {
-        return quota <= MOST_BLOCKS;
-    }
-    false
+    1 <= quota && quota <= MOST_BLOCKS
 }
 
 // Whether a name is legal: VOL1 made of it has no fault.
+#[tactic(auto, unfolding(reading::specs::Legal::legal_name, reading::specs::Legal::is_sound, base::specs::If::if_b))]
 fn is_legal_name(name: &[u8]) -> bool
     ensures { result ≡ legal_name name.now }
 {
@@ -40,24 +38,17 @@ fn is_legal_name(name: &[u8]) -> bool
 }
 
 // Whether each of the names is legal, and none is among those before it. There are few: each is compared with all before it.
+#[tactic(auto, using(crate::proofs::Names::freshes))]
 pub(crate) fn are_fresh(names: &[u8]) -> bool
     requires { length names.now ≤ 96 }
     ensures { result ≡ fresh_names [] (in_parts 6 names.now) }
 {
     let mut places = [0usize; 16];
-    let mut before = 0;
-    let mut at = 0;
-    while at < names.len() {
-        let name = part_of(names, at, NAME);
-        if !is_legal_name(name) {
+    for (i, name) in names.chunks(NAME).enumerate() {
+        if !is_legal_name(name) || is_among(names, &places[..i], name) {
             return false;
         }
-        if is_among(names, &places[..before], name) {
-            return false;
-        }
-        places[before] = at;
-        before += 1;
-        at += NAME;
+        places[i] = i * NAME;
     }
     true
 }

@@ -1,4 +1,5 @@
 -- Number 0 is given exactly to accepted sets, and a refusal names the first wrong item. Assumes nothing.
+use Rattle.std.specs.Prelude.{Option, Some, None}
 use mathlib.Core.Path.{◌≡◌, refl, sym, ap, ◌∙◌, subst}
 use mathlib.Core.Logic.{◌↔◌}
 use mathlib.Core.List.{List, [], ◌∷◌}
@@ -15,8 +16,6 @@ use Rattle.image.specs.Framing.{framing, items}
 use Rattle.order.specs.Kind.{end_of_image}
 use Rattle.order.specs.Due.{due_after}
 use Rattle.order.specs.declared.Phase.{Phase}
-use Rattle.order.specs.declared.Due.{Due}
-use Rattle.order.specs.declared.Due.TheVariants.{To, Wrong}
 use Rattle.volume.specs.State.{State, start}
 use Rattle.volume.specs.Fault.{item_fault}
 use Rattle.volume.specs.Step.{Event, Next, go, no, step, judged, ordered, events_of, kind_in, bytes_in, is_due}
@@ -52,12 +51,12 @@ by_step P s x good bad = due (due_after s.phase (kind_in s.phase x)) refl
     f : Fault
     f = item_fault s (kind_in s.phase x) l
 
-    due : (d : Due) → due_after s.phase (kind_in s.phase x) ≡ d → P (ordered s (kind_in s.phase x) l d)
-    due (To p) e =
+    due : (d : Option Phase) → due_after s.phase (kind_in s.phase x) ≡ d → P (ordered s (kind_in s.phase x) l d)
+    due (Some p) e =
         if_case P (eqb f.number 0) (go (state_behind s x p) (events_of s (kind_in s.phase x) l)) (no f.number f.byte)
         (λ h. good p (record { due = e; sound = eqb-true f.number 0 h }))
         (λ h. bad f.number f.byte (eqb-false f.number 0 h) (ap (ordered s (kind_in s.phase x) l) e ∙ if_false _ _ _ h))
-    due Wrong e = bad 3 0 (λ q. eqb-false 3 0 refl q) (ap (ordered s (kind_in s.phase x) l) e)
+    due None e = bad 3 0 (λ q. eqb-false 3 0 refl q) (ap (ordered s (kind_in s.phase x) l) e)
 
 -- ---- all items
 

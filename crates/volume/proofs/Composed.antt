@@ -1,5 +1,6 @@
 -- A call's answer at what its arguments are equal to: one law for each function that is called on the answers of calls. Assumes
 -- nothing.
+use Rattle.std.specs.Prelude.{Option, Some, None}
 use mathlib.Core.Path.{◌≡◌, sym, ◌∙◌}
 use mathlib.Core.Bool.{Bool, true, false}
 use mathlib.Core.List.{List}
@@ -12,8 +13,6 @@ use Rattle.base.proofs.Bytes.{same_is, same_second}
 use Rattle.base.specs.declared.Fault.{Fault}
 use Rattle.block.specs.Turn.{block_outcome}
 use Rattle.block.specs.declared.Outcome.{Outcome}
-use Rattle.charset.specs.declared.Number.{Number}
-use Rattle.charset.specs.declared.Number.TheVariants.{Value, Wrong}
 use Rattle.label.specs.Judged.{label_fault}
 use Rattle.order.specs.declared.Kind.{Kind}
 use Rattle.volume.specs.Fault.{names_at, says, value_of, lower, crossed, context_fault, item_fault}
@@ -21,15 +20,15 @@ use Rattle.volume.specs.Code.Place.{contents, label_at}
 use Rattle.volume.specs.declared.Reading.{Reading}
 use Rattle.volume.proofs.Faults.{value_some, value_none}
 
-pub says_value : (n v : ℕ) (x : Number) → x ≡ Value v → eqb v n ≡ says n x
+pub says_value : (n v : ℕ) (x : Option ℕ) → x ≡ Some v → eqb v n ≡ says n x
 unfolding says
 says_value n v x e = cc
 
-pub says_wrong : (n : ℕ) (x : Number) → x ≡ Wrong → false ≡ says n x
+pub says_wrong : (n : ℕ) (x : Option ℕ) → x ≡ None → false ≡ says n x
 unfolding says
 says_wrong n x e = cc
 
-pub value_is : (n : ℕ) (x y : Number) → n ≡ value_of x → x ≡ y → n ≡ value_of y
+pub value_is : (n : ℕ) (x y : Option ℕ) → n ≡ value_of x → x ≡ y → n ≡ value_of y
 value_is n x y e f = cc
 
 pub crossed_is : (r : Fault) (p q : ℕ) → r ≡ crossed p → p ≡ q → r ≡ crossed q
@@ -41,15 +40,15 @@ lower_is r p q a b e f g = cc
 pub or_else_is : (r p q a b : Fault) → r ≡ or_else p q → p ≡ a → q ≡ b → r ≡ or_else a b
 or_else_is r p q a b e f g = cc
 
-pub one_higher : (b : Bool) (n : ℕ) (x y f l : Number) → b ≡ says (n + 1) y → y ≡ l → n ≡ value_of x → x ≡ f
+pub one_higher : (b : Bool) (n : ℕ) (x y f l : Option ℕ) → b ≡ says (n + 1) y → y ≡ l → n ≡ value_of x → x ≡ f
     → b ≡ says (value_of f + 1) l
 one_higher b n x y f l e g h i = cc
 
-pub section_then : (b : Bool) (n : ℕ) (x y f l : Number) → b ≡ says (n + 1) y → y ≡ l → n ≡ value_of x → x ≡ f → b ≡ true
+pub section_then : (b : Bool) (n : ℕ) (x y f l : Option ℕ) → b ≡ says (n + 1) y → y ≡ l → n ≡ value_of x → x ≡ f → b ≡ true
     → ◌≡◌ {A = ℕ} 0 (if_b (says (value_of f + 1) l) 0 28)
 section_then b n x y f l e g h i t = sym (if_true _ _ _ (sym (one_higher b n x y f l e g h i) ∙ t))
 
-pub section_else : (b : Bool) (n : ℕ) (x y f l : Number) → b ≡ says (n + 1) y → y ≡ l → n ≡ value_of x → x ≡ f → b ≡ false
+pub section_else : (b : Bool) (n : ℕ) (x y f l : Option ℕ) → b ≡ says (n + 1) y → y ≡ l → n ≡ value_of x → x ≡ f → b ≡ false
     → ◌≡◌ {A = ℕ} 28 (if_b (says (value_of f + 1) l) 0 28)
 section_else b n x y f l e g h i t = sym (if_false _ _ _ (sym (one_higher b n x y f l e g h i) ∙ t))
 

@@ -1,9 +1,9 @@
 -- What a reading hands out, item by item; when the meaning of two readings is one; as many files as begin; segments and bytes.
 -- Assumes nothing.
+use Rattle.std.specs.Prelude.{Option, Some, None}
 use mathlib.Core.Path.{◌≡◌, refl, sym, ap, ◌∙◌, subst}
 use mathlib.Core.Bool.{Bool, true, false}
 use mathlib.Core.List.{List, [], ◌∷◌, ◌++◌}
-use mathlib.Core.Option.{Option, none, some}
 use Prim.Native.Nat.{ℕ, suc}
 use borrow.Author.Tests.{eqb-false}
 use lib.ListN.{length}
@@ -114,15 +114,15 @@ abbrev pub Cuts : List ℕ → List Event → Type 0
 Cuts h [] = Unit {0}
 Cuts h (begins f s ∷ es) = Cuts s es
 Cuts h (resumes f s ∷ es) = Cuts s es
-Cuts h (holds l xs ∷ es) = (units_by h l ≡ some xs) × Cuts h es
+Cuts h (holds l xs ∷ es) = (units_by h l ≡ Some xs) × Cuts h es
 
-turned_some : (r q : ℕ) (c : Option (List Segment)) → (turned r q true c).number ≡ 0 → c ≡ some (segments_of c)
+turned_some : (r q : ℕ) (c : Option (List Segment)) → (turned r q true c).number ≡ 0 → c ≡ Some (segments_of c)
 unfolding turned outcome segments_of
-turned_some r q none h = absurd (eqb-false 7 0 refl h)
-turned_some r q (some xs) h = refl
+turned_some r q None h = absurd (eqb-false 7 0 refl h)
+turned_some r q (Some xs) h = refl
 
 block_cuts : (t : State) (k : Kind) (l : List ℕ) → (item_fault t k l).number ≡ 0 → is_kind k data_block ≡ true
-    → units_by t.hdr2 l ≡ some (segments_in t l)
+    → units_by t.hdr2 l ≡ Some (segments_in t l)
 unfolding item_fault context_fault block_fault outcome_in block_outcome segments_in fault
 block_cuts t k l h e =
     turned_some (value_of (record_length_of t.hdr2)) t.pending (units_by t.hdr2 l)
@@ -137,7 +137,7 @@ cuts_step : (t : State) (k : Kind) (l : List ℕ) (es : List Event) → (item_fa
 unfolding hdr2_after events_of if_b
 cuts_step t k l es h = by_kind (is_kind k data_block) (is_kind k (hdr 2)) t.continues (block_cuts t k l h) (no_header k)
   where
-    by_kind : (a b g : Bool) → (a ≡ true → units_by t.hdr2 l ≡ some (segments_in t l)) → (a ≡ true → b ≡ false)
+    by_kind : (a b g : Bool) → (a ≡ true → units_by t.hdr2 l ≡ Some (segments_in t l)) → (a ≡ true → b ≡ false)
         → Cuts (if_b b l t.hdr2) es
         → Cuts t.hdr2 (if_b a (holds l (segments_in t l) ∷ [])
         (if_b b (if_b g (resumes t.hdr1 l) (begins t.hdr1 l) ∷ []) []) ++ es)

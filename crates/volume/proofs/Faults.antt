@@ -1,4 +1,5 @@
 -- Laws of the names that were read, as a loop over their places wants them, and of the volume label's fault. Assumes nothing.
+use Rattle.std.specs.Prelude.{Option, Some, None}
 use mathlib.Core.Path.{◌≡◌, refl, sym, ap, ◌∙◌}
 use mathlib.Core.Bool.{Bool, true, false}
 use mathlib.Core.List.{List, [], ◌∷◌}
@@ -14,8 +15,6 @@ use Rattle.base.specs.If.{if_b}
 use Rattle.base.proofs.Ifs.{if_true, if_false, so_true, so_false}
 use Rattle.base.specs.Part.{part, same}
 use Rattle.base.specs.Answer.{fault}
-use Rattle.charset.specs.declared.Number.{Number}
-use Rattle.charset.specs.declared.Number.TheVariants.{Value, Wrong}
 use Rattle.label.specs.Field.{volume_of}
 use Rattle.volume.specs.Fault.{names_at, says, value_of, is_among, crossed, volume_fault}
 
@@ -29,17 +28,17 @@ is_else t a b r h e = e ∙ sym (if_false t a b h)
 
 -- ---- a field that was read, and what it says
 
-pub said : (b : Bool) (n : ℕ) (x y : Number) → b ≡ says n x → x ≡ y → b ≡ true → says n y ≡ true
+pub said : (b : Bool) (n : ℕ) (x y : Option ℕ) → b ≡ says n x → x ≡ y → b ≡ true → says n y ≡ true
 said b n x y e f h = cc
 
-pub unsaid : (b : Bool) (n : ℕ) (x y : Number) → b ≡ says n x → x ≡ y → b ≡ false → says n y ≡ false
+pub unsaid : (b : Bool) (n : ℕ) (x y : Option ℕ) → b ≡ says n x → x ≡ y → b ≡ false → says n y ≡ false
 unsaid b n x y e f h = cc
 
-pub value_some : (x : Number) (n : ℕ) → x ≡ Value n → n ≡ value_of x
+pub value_some : (x : Option ℕ) (n : ℕ) → x ≡ Some n → n ≡ value_of x
 unfolding value_of
 value_some x n e = sym (ap value_of e)
 
-pub value_none : (x : Number) → x ≡ Wrong → 0 ≡ value_of x
+pub value_none : (x : Option ℕ) → x ≡ None → 0 ≡ value_of x
 unfolding value_of
 value_none x e = sym (ap value_of e)
 

@@ -1,6 +1,7 @@
 -- What is read without fault is well framed: a broken item is never due, a 17th volume label is a fault, and the image may end
 -- only behind an end of reel. So the framing of the whole is that of what is left from the first wrong item on. Assumes
 -- nothing.
+use Rattle.std.specs.Prelude.{Option, Some, None}
 use mathlib.Core.Path.{◌≡◌, refl, sym, ap, ap₂, ◌∙◌, subst}
 use mathlib.Core.Bool.{Bool, true, false, not, ◌&&◌, ◌||◌, false≢true}
 use mathlib.Core.List.{List, [], ◌∷◌, ◌++◌}
@@ -23,8 +24,6 @@ use Rattle.order.specs.Due.{dues, choose, due_after}
 use Rattle.order.specs.declared.Kind.{Kind}
 use Rattle.order.specs.declared.Phase.{Phase}
 use Rattle.order.specs.declared.Phase.TheVariants.{Reel}
-use Rattle.order.specs.declared.Due.{Due}
-use Rattle.order.specs.declared.Due.TheVariants.{To, Wrong}
 use Rattle.order.proofs.Laws.{kind_is}
 use Rattle.order.proofs.Phases.{at, Numbered, Outside, before_reel, behind_last, Seen, due_seen, due_stands, due_goes, reel_left}
 use Rattle.label.specs.Name.{kind_of}
@@ -49,7 +48,7 @@ outside_reel before_reel = refl
 outside_reel behind_last = refl
 
 -- where one of them is due, reading is outside a reel
-outside_volume : (p : Phase) (k : Kind) (q : Phase) → due_after p k ≡ To q → is_kind k (vol 1) ≡ true → is_inside p ≡ false
+outside_volume : (p : Phase) (k : Kind) (q : Phase) → due_after p k ≡ Some q → is_kind k (vol 1) ≡ true → is_inside p ≡ false
 unfolding is_inside is_due
 outside_volume p k q e v = if_true _ _ _ (ap is_due (ap (due_after p) (sym (kind_is k (vol 1) v)) ∙ e))
 
@@ -65,13 +64,13 @@ inside p h w = if_false _ _ _ (undue (vol 1) refl) ∙ ap not (undue end_of_imag
     undue : (k : Kind) → is_kind k end_of_image || is_kind k (vol 1) ≡ true → is_due (due_after p k) ≡ false
     undue k v = by_due (due_after p k) refl
       where
-        by_due : (d : Due) → due_after p k ≡ d → is_due d ≡ false
-        by_due (To q) e =
+        by_due : (d : Option Phase) → due_after p k ≡ d → is_due d ≡ false
+        by_due (Some q) e =
             absurd (false≢true (sym (if_true _ _ _ v ∙ ap₂ (λ (a b : Bool). not (a && b)) w h) ∙ due_stands p k q e))
-        by_due Wrong e = refl
+        by_due None e = refl
 
 -- a broken item is never due
-pub broken_undue : (p q : Phase) → due_after p other ≡ To q → ⊥
+pub broken_undue : (p q : Phase) → due_after p other ≡ Some q → ⊥
 unfolding is_kind
 broken_undue p q e = false≢true (ap (λ (x : Seen). x.suited) (due_seen p other q e))
 
@@ -173,7 +172,7 @@ record FramedOn (n : ℕ) (s : State) (x : Item) (xs : List Item) (t : State) : 
 -- one of a kind that ends neither a reel nor the image
 item_on : (s : State) (k : Kind) (l : List ℕ) (q : Phase) → Reels s.phase (length s.volumes) → is_kind k end_of_reel ≡ false
     → is_kind k end_of_image ≡ false
-    → due_after s.phase k ≡ To q → (item_fault s k l).number ≡ 0
+    → due_after s.phase k ≡ Some q → (item_fault s k l).number ≡ 0
     → Passed s.phase q (length s.volumes) (length (volumes_after s k l))
 item_on s k l q h e i d z =
     subst (Passed s.phase q (length s.volumes)) (length_names s k l)

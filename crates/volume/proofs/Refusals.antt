@@ -1,8 +1,8 @@
 -- A refusal names what is first wrong, by a number of reading with its place. Assumes nothing.
+use Rattle.std.specs.Prelude.{Option, Some, None}
 use mathlib.Core.Path.{◌≡◌, refl, sym, ap, ◌∙◌, subst}
 use mathlib.Core.Bool.{Bool, true, false, not}
 use mathlib.Core.List.{List, [], ◌∷◌}
-use mathlib.Core.Option.{Option, none, some}
 use Prim.Native.Nat.{ℕ, zero, suc, ◌+◌, ◌≤◌}
 use native.Mathlib.Omega.{arith}
 use borrow.Author.Tests.{eqb-true, eqb-false, ltb-true, ltb-false}
@@ -16,11 +16,10 @@ use Rattle.base.specs.declared.Fault.{Fault}
 use Rattle.base.specs.declared.Verdict.{Verdict}
 use Rattle.image.specs.Item.{Item, block, mark, reel_end, broken}
 use Rattle.image.specs.Framing.{head, most_image, most_reels, framed_from, framing, items, opens}
+use Rattle.order.specs.declared.Phase.{Phase}
 use Rattle.order.specs.Kind.{vol, hdr, eov, eof, data_block, is_kind}
 use Rattle.order.specs.Due.{due_after}
 use Rattle.order.specs.declared.Kind.{Kind}
-use Rattle.order.specs.declared.Due.{Due}
-use Rattle.order.specs.declared.Due.TheVariants.{To, Wrong}
 use Rattle.label.specs.Judged.{access_at, access_of, field_fault, label_fault, wrong_in}
 use Rattle.label.specs.Table.{fields_of}
 use Rattle.block.specs.Cut.{Segment}
@@ -165,8 +164,8 @@ turns_cut r o head (x ∷ xs) =
 
 turned_cut : (r o : ℕ) (head : Bool) (x : Option (List Segment)) → Cuts (turned r o head x)
 unfolding turned outcome
-turned_cut r o head none = bare 7 (λ l h. omega arith) (omega arith)
-turned_cut r o head (some xs) = turns_cut r o head xs
+turned_cut r o head None = bare 7 (λ l h. omega arith) (omega arith)
+turned_cut r o head (Some xs) = turns_cut r o head xs
 
 sound_block : (second : List ℕ) (pending : ℕ) (l : List ℕ) → Sound (block_fault second pending l)
 unfolding block_fault outcome_in block_outcome
@@ -210,11 +209,11 @@ step_stops : (s : State) (x : Item) → Stops (step s x)
 unfolding step ordered judged Stops fault
 step_stops s x = by_due (due_after s.phase (kind_in s.phase x))
   where
-    by_due : (d : Due) → Stops (ordered s (kind_in s.phase x) (bytes_in x) d)
-    by_due (To p) =
+    by_due : (d : Option Phase) → Stops (ordered s (kind_in s.phase x) (bytes_in x) d)
+    by_due (Some p) =
         if_case Stops (eqb (item_fault s (kind_in s.phase x) (bytes_in x)).number 0) _ _ (λ _. tt)
         (λ _. sound_item s (kind_in s.phase x) (bytes_in x))
-    by_due Wrong = bare 3 (λ l h. omega arith) (omega arith)
+    by_due None = bare 3 (λ l h. omega arith) (omega arith)
 
 stops_at : (s : State) (xs : List Item) (k i b : ℕ) → All (Refused (drop i xs) k b) s (take i xs) → Placed k b
 unfolding Stops fault

@@ -1,4 +1,5 @@
 -- The turn of what stands at a spot: a block, or an item without bytes. Assumes nothing.
+use Rattle.std.specs.Prelude.{Option, Some, None}
 use mathlib.Core.Path.{◌≡◌, refl, sym, ap, ◌∙◌, subst}
 use mathlib.Core.Bool.{true, false, false≢true}
 use mathlib.Core.List.{List, [], ◌∷◌}
@@ -24,8 +25,6 @@ use Rattle.order.specs.Kind.{kind, other, data_block, is_kind}
 use Rattle.order.specs.Due.{due_after}
 use Rattle.order.specs.declared.Kind.{Kind}
 use Rattle.order.specs.declared.Phase.{Phase}
-use Rattle.order.specs.declared.Due.{Due}
-use Rattle.order.specs.declared.Due.TheVariants.{To, Wrong}
 use Rattle.base.proofs.Parts.{part_within, length_part}
 use Rattle.label.specs.Name.{kind_of, named}
 use Rattle.label.specs.Table.{fields_of}
@@ -54,12 +53,12 @@ told_item s volumes x y behind h =
 
 -- ---- what a block is
 
-pub kind_label : (p : Phase) (l : List ℕ) (d : Due) (k : Kind) → d ≡ due_after p data_block → d ≡ Wrong → k ≡ kind_of l
+pub kind_label : (p : Phase) (l : List ℕ) (d : Option Phase) (k : Kind) → d ≡ due_after p data_block → d ≡ None → k ≡ kind_of l
     → k ≡ kind_in p (block l)
 unfolding kind_in is_due
 kind_label p l d k e w q = q ∙ sym (if_false _ _ _ (ap is_due (sym e ∙ w)))
 
-pub kind_data : (p t : Phase) (l : List ℕ) (d : Due) → d ≡ due_after p data_block → d ≡ To t → data_block ≡ kind_in p (block l)
+pub kind_data : (p t : Phase) (l : List ℕ) (d : Option Phase) → d ≡ due_after p data_block → d ≡ Some t → data_block ≡ kind_in p (block l)
 unfolding kind_in is_due
 kind_data p t l d e w = sym (if_true _ _ _ (ap is_due (sym e ∙ w)))
 
@@ -104,15 +103,15 @@ bare_told s volumes x family h =
     ∙ ap (λ (j : Kind). told_by s volumes x j (bytes_in y) (x.at + 3)) (sym h.here.2)
     ∙ told_item s volumes x y (x.at + 3) h.here.1
 
-pub bare_undue : (s volumes : List ℕ) (x : Spot) (family : ℕ) (d : Due) (r : Turn) → BareHere s x family
-    → d ≡ due_after x.state.phase (kind family 0) → d ≡ Wrong
+pub bare_undue : (s volumes : List ℕ) (x : Spot) (family : ℕ) (d : Option Phase) (r : Turn) → BareHere s x family
+    → d ≡ due_after x.state.phase (kind family 0) → d ≡ None
     → r ≡ last_turn x 3 0 → DidTurn s volumes x.at (told_at s volumes x) r
 bare_undue s volumes x family d r h e w q =
     owes_last s volumes x _ 3 0 r h.bounded q
     (sym (bare_told s volumes x family h) ∙ undue_told s volumes x (kind family 0) [] (x.at + 3) d e w)
 
-pub bare_on : (s volumes : List ℕ) (x : Spot) (family : ℕ) (d : Due) (p : Phase) (r : Turn) → BareHere s x family
-    → d ≡ due_after x.state.phase (kind family 0) → d ≡ To p → r ≡ bare_turn x p
+pub bare_on : (s volumes : List ℕ) (x : Spot) (family : ℕ) (d : Option Phase) (p : Phase) (r : Turn) → BareHere s x family
+    → d ≡ due_after x.state.phase (kind family 0) → d ≡ Some p → r ≡ bare_turn x p
     → DidTurn s volumes x.at (told_at s volumes x) r
 unfolding told_by ordered judged told_after told_at places_after if_b contents
 bare_on s volumes x family d p r h e w q =
@@ -123,7 +122,7 @@ bare_on s volumes x family d p r h e w q =
     let bare : Bare u p k = h.bare u p in
     let told : told_at s volumes x ≡ told_from (x.item + 1) (phased u p) (decode (drop behind s))
     = sym (bare_told s volumes x family h)
-    ∙ ap (λ (y : Due). told_step s volumes x behind (ordered u k [] y)) (sym e ∙ w)
+    ∙ ap (λ (y : Option Phase). told_step s volumes x behind (ordered u k [] y)) (sym e ∙ w)
     ∙ ap (told_step s volumes x behind) (if_true _ _ _ (eq-eqb _ 0 bare.sound))
     ∙ told_on s volumes x behind (state_after u p k []) (events_of u k [])
     ∙ ap (λ (y : State). told_from (x.item + 1) y (decode (drop behind s))) bare.same in
@@ -168,9 +167,9 @@ bare_reel_end s x p b m e q =
     }
 
 -- what is broken is never due
-broken_wrong : (p : Phase) (d : Due) → d ≡ due_after p other → d ≡ Wrong
-broken_wrong p Wrong e = refl
-broken_wrong p (To q) e = absurd (broken_undue p q (sym e))
+broken_wrong : (p : Phase) (d : Option Phase) → d ≡ due_after p other → d ≡ None
+broken_wrong p None e = refl
+broken_wrong p (Some q) e = absurd (broken_undue p q (sym e))
 
 pub owes_broken : (s volumes : List ℕ) (x : Spot) (p : Shape) (r : Turn) → Bounded s x.at x.item x.state
     → x.at < length s

@@ -1,4 +1,5 @@
 -- Laws of the walk's turns. Assumes nothing.
+use Rattle.std.specs.Prelude.{Option, Some, None}
 use mathlib.Core.Path.{◌≡◌, refl, sym, ap, ◌∙◌, subst}
 use mathlib.Core.Bool.{Bool, true, false, not, false≢true}
 use mathlib.Core.List.{List, [], ◌∷◌, ◌++◌}
@@ -23,8 +24,6 @@ use Rattle.order.specs.Kind.{vol, end_of_image, is_kind}
 use Rattle.order.specs.Due.{due_after}
 use Rattle.order.specs.declared.Kind.{Kind}
 use Rattle.order.specs.declared.Phase.{Phase}
-use Rattle.order.specs.declared.Due.{Due}
-use Rattle.order.specs.declared.Due.TheVariants.{To, Wrong}
 use Rattle.base.proofs.Parts.{part_within}
 use Rattle.volume.specs.declared.Reading.{Reading}
 use Rattle.volume.specs.declared.walk.Spot.{Spot}
@@ -51,11 +50,11 @@ small s x n h =
 
 -- ---- the framing from a spot on
 
-pub is_due_lem : (p q : Phase) (k : Kind) (d : Due) → d ≡ due_after p k → d ≡ To q → true ≡ is_due (due_after p k)
+pub is_due_lem : (p q : Phase) (k : Kind) (d : Option Phase) → d ≡ due_after p k → d ≡ Some q → true ≡ is_due (due_after p k)
 unfolding is_due
 is_due_lem p q k d e h = sym (ap is_due (sym e ∙ h))
 
-pub is_undue : (p : Phase) (k : Kind) (d : Due) → d ≡ due_after p k → d ≡ Wrong → false ≡ is_due (due_after p k)
+pub is_undue : (p : Phase) (k : Kind) (d : Option Phase) → d ≡ due_after p k → d ≡ None → false ≡ is_due (due_after p k)
 unfolding is_due
 is_undue p k d e h = sym (ap is_due (sym e ∙ h))
 
@@ -166,16 +165,16 @@ not_three : ◌≡◌ {A = ℕ} 3 0 → ⊥
 not_three = eqb-false 3 0 refl
 
 -- an item that is not due
-pub undue_told : (s volumes : List ℕ) (x : Spot) (k : Kind) (l : List ℕ) (behind : ℕ) (d : Due) → d ≡ due_after x.state.phase k
-    → d ≡ Wrong
+pub undue_told : (s volumes : List ℕ) (x : Spot) (k : Kind) (l : List ℕ) (behind : ℕ) (d : Option Phase) → d ≡ due_after x.state.phase k
+    → d ≡ None
     → told_by s volumes x k l behind ≡ told_end s volumes x (fault 3 0)
 unfolding told_by ordered
 undue_told s volumes x k l behind d e w =
-    ap (λ (y : Due). told_step s volumes x behind (ordered (contents s volumes x.state) k l y)) (sym e ∙ w)
+    ap (λ (y : Option Phase). told_step s volumes x behind (ordered (contents s volumes x.state) k l y)) (sym e ∙ w)
     ∙ told_stop s volumes x behind 3 0 not_three
 
-pub owes_undue : (s volumes : List ℕ) (x : Spot) (k : Kind) (l : List ℕ) (n behind : ℕ) (d : Due) (r : Turn) → BlockHere s x n
-    → d ≡ due_after x.state.phase k → d ≡ Wrong
+pub owes_undue : (s volumes : List ℕ) (x : Spot) (k : Kind) (l : List ℕ) (n behind : ℕ) (d : Option Phase) (r : Turn) → BlockHere s x n
+    → d ≡ due_after x.state.phase k → d ≡ None
     → r ≡ last_turn x 3 0 → DidTurn s volumes x.at (told_by s volumes x k l behind) r
 owes_undue s volumes x k l n behind d r h e w q =
     owes_last s volumes x _ 3 0 r h.bounded q (undue_told s volumes x k l behind d e w)
@@ -257,26 +256,26 @@ owes_on s volumes x p k n f r h e z o =
     }
 
 -- an item that is due owes what its judgement owes
-pub owes_due : (s volumes : List ℕ) (x : Spot) (p : Phase) (k : Kind) (l : List ℕ) (behind : ℕ) (d : Due) (r : Turn)
-    → d ≡ due_after x.state.phase k → d ≡ To p
+pub owes_due : (s volumes : List ℕ) (x : Spot) (p : Phase) (k : Kind) (l : List ℕ) (behind : ℕ) (d : Option Phase) (r : Turn)
+    → d ≡ due_after x.state.phase k → d ≡ Some p
     → DidTurn s volumes x.at (told_due s volumes x p k l behind) r → DidTurn s volumes x.at (told_by s volumes x k l behind) r
 unfolding told_by told_due ordered
 owes_due s volumes x p k l behind d r e q o =
     subst (λ (v : Verdict). DidTurn s volumes x.at v r)
-    (sym (ap (λ (y : Due). told_step s volumes x behind (ordered (contents s volumes x.state) k l y)) (sym e ∙ q))) o
+    (sym (ap (λ (y : Option Phase). told_step s volumes x behind (ordered (contents s volumes x.state) k l y)) (sym e ∙ q))) o
 
 -- ---- the end of the image
 
-pub owes_end : (s volumes : List ℕ) (x : Spot) (d : Due) (p : Phase) (r : Turn) → Bounded s x.at x.item x.state
+pub owes_end : (s volumes : List ℕ) (x : Spot) (d : Option Phase) (p : Phase) (r : Turn) → Bounded s x.at x.item x.state
     → length s ≤ x.at
-    → d ≡ due_after x.state.phase end_of_image → d ≡ To p → r ≡ last_turn x 0 0 → DidTurn s volumes x.at (told_at s volumes x) r
+    → d ≡ due_after x.state.phase end_of_image → d ≡ Some p → r ≡ last_turn x 0 0 → DidTurn s volumes x.at (told_at s volumes x) r
 unfolding told_at told_from is_due contents told_end fault if_b
 owes_end s volumes x d p r b h e q t =
     owes_last s volumes x _ 0 0 r b t
     (ap (told_from x.item (contents s volumes x.state)) (decode_past s x.at h) ∙ if_true _ _ _ (ap is_due (sym e ∙ q)))
 
-pub owes_early : (s volumes : List ℕ) (x : Spot) (d : Due) (r : Turn) → Bounded s x.at x.item x.state → length s ≤ x.at
-    → d ≡ due_after x.state.phase end_of_image → d ≡ Wrong → r ≡ last_turn x 3 0
+pub owes_early : (s volumes : List ℕ) (x : Spot) (d : Option Phase) (r : Turn) → Bounded s x.at x.item x.state → length s ≤ x.at
+    → d ≡ due_after x.state.phase end_of_image → d ≡ None → r ≡ last_turn x 3 0
     → DidTurn s volumes x.at (told_at s volumes x) r
 unfolding told_at told_from is_due contents
 owes_early s volumes x d r b h e q t =

@@ -1,6 +1,6 @@
 -- An accepted set, as a reader would state it: the framing is good, every item is due where it stands and has no fault against
 -- what was read before it, and the image ends where the order of a reel lets it. And a refused one: what its verdict says of it.
-use Rattle.std.specs.Prelude.{◌≡◌, Bool, true, false, not, List, [], ◌∷◌, ℕ, zero, suc, ◌+◌, ◌≤◌, ◌<◌, eqb, length, take, drop}
+use Rattle.std.specs.Prelude.{◌≡◌, Bool, true, false, not, List, [], ◌∷◌, ℕ, zero, suc, ◌+◌, ◌≤◌, ◌<◌, eqb, length, take, drop, Some}
 use Rattle.base.specs.If.{if_b}
 use Rattle.base.specs.Part.{same}
 use Rattle.base.specs.Answer.{verdict}
@@ -10,14 +10,13 @@ use Rattle.image.specs.Framing.{head, most_image, most_reels, framing, items, op
 use Rattle.order.specs.Kind.{end_of_image}
 use Rattle.order.specs.Due.{due_after}
 use Rattle.order.specs.declared.Phase.{Phase}
-use Rattle.order.specs.declared.Due.TheVariants.{To}
 use Rattle.volume.specs.State.{State, start}
 use Rattle.volume.specs.Fault.{item_fault}
 use Rattle.volume.specs.Step.{kind_in, bytes_in, state_after, is_due, step, no}
 
 -- item x is due behind s, and has no fault there; p is the phase behind it
 pub record Faultless (s : State) (x : Item) (p : Phase) : Type 0 where
-  pub due : due_after s.phase (kind_in s.phase x) ≡ To p
+  pub due : due_after s.phase (kind_in s.phase x) ≡ Some p
   pub sound : (item_fault s (kind_in s.phase x) (bytes_in x)).number ≡ 0
 
 -- the state behind it

@@ -1,13 +1,11 @@
 -- The faults of one item that is due, beyond those of its label by itself. Document 01, "Cross-checks" (6), "Blocks and records"
 -- (7, 8), the 65th file (9), and a record that is open at EOF1 (8).
 -- Each kind of item has its fault; of two numbers the smaller goes first, and of two fields the one with the lower BP.
-use Rattle.std.specs.Prelude.{Bool, true, false, List, [], ◌∷◌, ℕ, ◌+◌, eqb, leb, length}
+use Rattle.std.specs.Prelude.{Bool, true, false, List, [], ◌∷◌, ℕ, ◌+◌, eqb, leb, length, Option, Some, None}
 use Rattle.base.specs.If.{if_b}
 use Rattle.base.specs.Part.{part, same}
 use Rattle.base.specs.Answer.{fault, or_else}
 use Rattle.base.specs.declared.Fault.{Fault}
-use Rattle.charset.specs.declared.Number.{Number}
-use Rattle.charset.specs.declared.Number.TheVariants.{Value, Wrong}
 use Rattle.image.specs.Framing.{most_reels}
 use Rattle.order.specs.Kind.{vol, hdr, eov, eof, data_block, is_kind}
 use Rattle.order.specs.declared.Kind.{Kind}
@@ -21,14 +19,14 @@ use Rattle.volume.specs.State.{State}
 -- ---- numbers in fields
 
 -- the field says n
-unfoldable pub says : ℕ → Number → Bool
-says n (Value m) = eqb m n
-says n Wrong = false
+unfoldable pub says : ℕ → Option ℕ → Bool
+says n (Some m) = eqb m n
+says n None = false
 
 -- what a field says
-unfoldable pub value_of : Number → ℕ
-value_of (Value n) = n
-value_of Wrong = 0
+unfoldable pub value_of : Option ℕ → ℕ
+value_of (Some n) = n
+value_of None = 0
 
 -- ---- the lowest BP of several tests
 

@@ -1,7 +1,6 @@
 -- One item read: refused with its number and byte, or the next state and what it hands out.
 -- Between the marks around the data blocks every block is data; elsewhere a block is a label, or not due (3, never 4).
-use Rattle.std.specs.Prelude.{Bool, true, false, List, [], ◌∷◌, ◌++◌, ℕ, ◌+◌, eqb}
-use Rattle.std.proofs.Math.Option.{Option, none, some}
+use Rattle.std.specs.Prelude.{Bool, true, false, List, [], ◌∷◌, ◌++◌, ℕ, ◌+◌, eqb, Option, Some, None}
 use Rattle.base.specs.If.{if_b}
 use Rattle.base.specs.declared.Fault.{Fault}
 use Rattle.image.specs.Item.{Item, block, mark, reel_end, broken}
@@ -9,8 +8,6 @@ use Rattle.order.specs.Kind.{other, vol, hdr, eov, eof, data_block, tape_mark, e
 use Rattle.order.specs.Due.{due_after}
 use Rattle.order.specs.declared.Kind.{Kind}
 use Rattle.order.specs.declared.Phase.{Phase}
-use Rattle.order.specs.declared.Due.{Due}
-use Rattle.order.specs.declared.Due.TheVariants.{To, Wrong}
 use Rattle.label.specs.Name.{kind_of}
 use Rattle.label.specs.Field.{format_of, block_length_of, record_length_of, offset_of, volume_of}
 use Rattle.block.specs.Cut.{Segment, units}
@@ -26,9 +23,9 @@ pub data Event : Type 0 where
 
 -- ---- what an item is
 
-unfoldable pub is_due : Due → Bool
-is_due (To p) = true
-is_due Wrong = false
+unfoldable pub is_due : Option Phase → Bool
+is_due (Some p) = true
+is_due None = false
 
 -- where a data block is due, a block is data
 unfoldable pub kind_in : Phase → Item → Kind
@@ -82,8 +79,8 @@ state_after s p k l =
 -- ---- what an item hands out
 
 unfoldable pub segments_of : Option (List Segment) → List Segment
-segments_of none = []
-segments_of (some xs) = xs
+segments_of None = []
+segments_of (Some xs) = xs
 
 -- the segments of a data block, by the lengths that this section's HDR2 gives
 unfoldable pub segments_in : State → List ℕ → List Segment
@@ -108,9 +105,9 @@ unfoldable pub judged : State → Phase → Kind → List ℕ → Fault → Next
 judged s p k l f = if_b (eqb f.number 0) (go (state_after s p k l) (events_of s k l)) (no f.number f.byte)
 
 -- one that is not due is 3
-unfoldable pub ordered : State → Kind → List ℕ → Due → Next
-ordered s k l (To p) = judged s p k l (item_fault s k l)
-ordered s k l Wrong = no 3 0
+unfoldable pub ordered : State → Kind → List ℕ → Option Phase → Next
+ordered s k l (Some p) = judged s p k l (item_fault s k l)
+ordered s k l None = no 3 0
 
 unfoldable pub step : State → Item → Next
 step s x = ordered s (kind_in s.phase x) (bytes_in x) (due_after s.phase (kind_in s.phase x))

@@ -27,12 +27,10 @@ fn is_name_at(bytes: &[u8], at: usize, v: &[u8]) -> bool
 pub fn is_among(bytes: &[u8], places: &[usize], v: &[u8]) -> bool
     ensures { result ≡ is_among v.now (names_at bytes.now places.now) }
 {
-    let mut i = 0;
-    while i < places.len() {
-        if is_name_at(bytes, places[i], v) {
+    for at in places {
+        if is_name_at(bytes, *at, v) {
             return true;
         }
-        i += 1;
     }
     false
 }

@@ -13,7 +13,6 @@ use super::Reading;
 use super::among::{is_among, label_at};
 use base::{Fault, equal};
 use block::{Outcome, block_outcome};
-use charset::Number;
 use label::{
     COUNT_BP, SECTION_BP, SEQUENCE_BP, SET_BP, VOLUME_BP, block_length, count_of, format_of,
     label_fault, offset_length, record_length, section_of, sequence_of, set_of,
@@ -28,23 +27,21 @@ const REELS: usize = 16;
 const FILES: u32 = 64;
 
 // Whether a field says n. At 64 bits, where one more than any number of 32 bits fits.
-fn says(n: u64, x: Number) -> bool
+fn says(n: u64, x: Option<u32>) -> bool
     ensures { result ≡ says n x }
 {
     match x {
-        Number::Value(m) => m as u64 == n,
-        Number::Wrong => false,
+        Some(m) => m as u64 == n,
+        None => false,
     }
 }
 
-// What a field says.
-pub fn value_of(x: Number) -> u32
+// What a field says, 0 where it says no number.
+#[tactic(auto, unfolding(crate::specs::Fault::value_of))]
+pub fn value_of(x: Option<u32>) -> u32
     ensures { result ≡ value_of x }
 {
-    match x {
-        Number::Value(n) => n,
-        Number::Wrong => 0,
-    }
+    x.unwrap_or(0)
 }
 
 // The lower of two BPs, where 0 is none.

@@ -9,16 +9,14 @@ ghost use Rattle.volume.specs.Code.Walk.{frame, framed_else, FrameHere};
 
 use base::Verdict;
 use image::{Frame, framing_from};
-use order::{Due, END_OF_IMAGE, Kind, Phase, VOL, due_after};
+use order::{END_OF_IMAGE, Kind, Phase, VOL, due_after};
 
 // Whether an item of this family and number is due.
+#[tactic(auto, unfolding(crate::specs::Step::is_due))]
 fn is_due(phase: Phase, family: u32, number: u32) -> bool
     ensures { result ≡ is_due (due_after phase (kind family number)) }
 {
-    match due_after(phase, Kind { family, number }) {
-        Due::Wrong => false,
-        Due::To(_) => true,
-    }
+    due_after(phase, Kind { family, number }).is_some()
 }
 
 // Whether a phase is inside a reel.

@@ -19,7 +19,7 @@ use base::{Fault, Verdict, part_of};
 use image::{Shape, block_length_at};
 use label::{VOLUME, block_length, format_of, offset_length, record_length};
 use order::{
-    DATA_BLOCK, Due, END_OF_IMAGE, END_OF_REEL, Kind, OTHER, Phase, TAPE_MARK, VOL, due_after, is,
+    DATA_BLOCK, END_OF_IMAGE, END_OF_REEL, Kind, OTHER, Phase, TAPE_MARK, VOL, due_after, is,
 };
 
 // A place in the image: what is known before it, and the number of the item that stands there.
@@ -113,8 +113,8 @@ fn order_turn(image: &[u8], volumes: &[usize], x: Spot, k: Kind, n: usize) -> Tu
     let st = x.state;
     let phase = st.phase;
     match due_after(phase, k) {
-        Due::Wrong => last(x, 3, 0),
-        Due::To(p) => judge(image, volumes, x, p, k, n),
+        None => last(x, 3, 0),
+        Some(p) => judge(image, volumes, x, p, k, n),
     }
 }
 
@@ -132,8 +132,8 @@ fn end_turn(image: &[u8], volumes: &[usize], x: Spot) -> Turn
         number: 0,
     };
     match due_after(phase, k) {
-        Due::Wrong => last(x, 3, 0),
-        Due::To(_) => last(x, 0, 0),
+        None => last(x, 3, 0),
+        Some(_) => last(x, 0, 0),
     }
 }
 
@@ -146,8 +146,8 @@ fn kind_in(phase: Phase, l: &[u8]) -> Kind
         number: 0,
     };
     match due_after(phase, k) {
-        Due::Wrong => label::kind(l),
-        Due::To(_) => k,
+        None => label::kind(l),
+        Some(_) => k,
     }
 }
 
@@ -200,8 +200,8 @@ fn bare_turn(image: &[u8], volumes: &[usize], x: Spot, family: u32) -> Turn
     let phase = st.phase;
     let k = Kind { family, number: 0 };
     match due_after(phase, k) {
-        Due::Wrong => last(x, 3, 0),
-        Due::To(p) => pass(x, p),
+        None => last(x, 3, 0),
+        Some(p) => pass(x, p),
     }
 }
 

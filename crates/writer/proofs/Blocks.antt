@@ -3,7 +3,6 @@ use mathlib.Core.Path.{◌≡◌, refl, sym, ap, ◌∙◌, subst}
 use mathlib.Core.Bool.{Bool, true, false, false≢true}
 use mathlib.Core.List.{List, [], ◌∷◌, ◌++◌}
 use Prim.Native.Nat.{ℕ, ◌+◌, ◌≤◌}
-use borrow.Author.Rules.{rules}
 use lib.ListN.{length}
 use Rattle.base.specs.If.{if_b}
 use Rattle.base.proofs.Ifs.{if_true, if_false}
@@ -82,12 +81,6 @@ more_sound j p n s h l =
 pub enters_on_lem : (f b : ℕ) (is_on : Bool) (u n : ℕ) (r : Bool) → is_on ≡ true → r ≡ enters f b u n → r ≡ enters_on f b is_on u n
 unfolding enters_on
 enters_on_lem f b is_on u n r h e = e ∙ sym (if_true _ _ _ h)
-
-pub enters_off : (f b : ℕ) (is_on : Bool) (u n : ℕ) → is_on ≡ false → false ≡ enters_on f b is_on u n
-unfolding enters_on
-enters_off f b is_on u n h = sym (if_false _ _ _ h)
-
-pub ruleset entering = (enters_on_lem, enters_off, rules)
 
 pub entered_on : (f b : ℕ) (is_on : Bool) (u n : ℕ) → enters_on f b is_on u n ≡ true → (is_on ≡ true) × (enters f b u n ≡ true)
 unfolding enters_on

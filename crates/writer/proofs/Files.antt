@@ -10,13 +10,9 @@ use mir.Syntax.{w64}
 use lib.ListN.{length, length-append}
 use Rattle.base.specs.If.{if_b}
 use Rattle.base.proofs.Ifs.{if_true, if_false, if_same}
-use Rattle.base.specs.Part.{part, put_in}
-use Rattle.charset.specs.Number.{number_in}
-use Rattle.charset.specs.declared.Number.{Number}
-use Rattle.charset.specs.declared.Number.TheVariants.{Value, Wrong}
+use Rattle.base.specs.Part.{put_in}
 use Rattle.image.specs.Item.{Item, encode}
 use Rattle.image.proofs.RoundTrip.{encode_append}
-use Rattle.volume.specs.Fault.{value_of}
 use Rattle.reading.specs.Legal.{format_from, block_length_from}
 use Rattle.writing.specs.Pack.{Left, finished, blocks_left, blocks_f, weight}
 use Rattle.writing.specs.Lay.{Laid, laid, short, put, Sequel, rest}
@@ -84,17 +80,6 @@ laid_room p o ys l n s long f =
     omega (arith, r.0)
 
 -- ---- the numbers of an entry, as the code reads them
-
-pub block_length_said : (e f : List ℕ) (x : Number) (n : ℕ) → f ≡ part 36 5 e → x ≡ number_in f → x ≡ Value n
-    → n ≡ block_length_from e
-unfolding block_length_from value_of
-block_length_said e f x n h k v = ap value_of (sym v ∙ k ∙ ap number_in h)
-
-pub block_length_unsaid : (e f : List ℕ) (x : Number) → f ≡ part 36 5 e → x ≡ number_in f → x ≡ Wrong → 0 ≡ block_length_from e
-unfolding block_length_from value_of
-block_length_unsaid e f x h k v = ap value_of (sym v ∙ k ∙ ap number_in h)
-
-pub ruleset entries = (block_length_said, block_length_unsaid, rules)
 
 module _ (lay : Bool) (f b : ℕ) (e : List ℕ) (j : Job) (lengths bytes : List ℕ) (c : Cursor) (p : Pen) (o : List ℕ)
     (h : f ≡ format_from e) (k : b ≡ block_length_from e) where

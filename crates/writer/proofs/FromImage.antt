@@ -1,5 +1,6 @@
 -- The files of an accepted image: how they are met one after the other, and what each step of the code over them does. Assumes
 -- nothing.
+use Rattle.std.specs.Prelude.{Option, Some, None}
 use mathlib.Core.Path.{◌≡◌, refl, sym, ap, ◌∙◌, subst}
 use mathlib.Core.Bool.{Bool, true, false, false≢true}
 use mathlib.Core.List.{List, [], ◌∷◌}
@@ -23,8 +24,6 @@ use Rattle.content.specs.Records.{records_at}
 use Rattle.content.specs.Walked.{end_of, FileIs}
 use Rattle.content.specs.Code.Files.{Filed as Met}
 use Rattle.content.specs.declared.FileAt.{FileAt}
-use Rattle.content.specs.declared.NextFile.{NextFile}
-use Rattle.content.specs.declared.NextFile.TheVariants.{At, Nowhere}
 use Rattle.content.proofs.Walked.{files_all, set_first}
 use Rattle.content.proofs.Records.{walks_records}
 use Rattle.writing.specs.Write.{write_sheet}
@@ -44,16 +43,16 @@ use Rattle.writer.proofs.Filing.{legal_set, legal_others, file_ready, one_filed}
 -- ---- the file at a place
 
 -- where a file is met, there is one; where none is, there is none
-met_some : (s : List ℕ) (h : FileAt) (ds : List File) → Met s (At h) ds → 0 < length ds
+met_some : (s : List ℕ) (h : FileAt) (ds : List File) → Met s (Some h) ds → 0 < length ds
 met_some s h [] e = let z : ◌≡◌ {A = ℕ} 0 1 = cc in absurd (omega arith)
 met_some s h (d ∷ ds) m = omega arith
 
-met_none : (s : List ℕ) (ds : List File) → Met s Nowhere ds → length ds ≡ 0
+met_none : (s : List ℕ) (ds : List File) → Met s None ds → length ds ≡ 0
 met_none s [] e = refl
 met_none s (d ∷ ds) (f, e, is, rest) = let z : ◌≡◌ {A = ℕ} 0 1 = cc in absurd (omega arith)
 
 -- the file that is met, and those behind it
-met_first : (s : List ℕ) (h : FileAt) (d : File) (ds : List File) → Met s (At h) (d ∷ ds)
+met_first : (s : List ℕ) (h : FileAt) (d : File) (ds : List File) → Met s (Some h) (d ∷ ds)
     → FileIs s h d × Met s (next_file s h.hdr1 h.hdr2) ds
 met_first s h d ds (f, e, is, rest) =
     let same : f ≡ h = cc in
@@ -78,7 +77,7 @@ module _ (lay : Bool) (set lengths bytes rooms names : List ℕ) (g : Place) (p 
   first = drop-cons all g.nth _ more ∙ ap (λ (k : ℕ). d ∷ drop k all) (sym (add-one g.nth))
 
   both : FileIs bytes g.file d × Met bytes (next_file bytes g.file.hdr1 g.file.hdr2) (drop (g.nth + 1) all)
-  both = met_first bytes g.file d (drop (g.nth + 1) all) (subst (Met bytes (At g.file)) first (y.placed.stands more))
+  both = met_first bytes g.file d (drop (g.nth + 1) all) (subst (Met bytes (Some g.file)) first (y.placed.stands more))
 
   is : FileIs bytes g.file d
   is = both.0
@@ -131,7 +130,7 @@ module _ (lay : Bool) (set lengths bytes rooms names : List ℕ) (g : Place) (p 
 
     module _ (q : List ℕ) (x : Body) (m : DidPutFile lay (job set entry (g.nth + 1) rooms names) lengths bytes c p o q x) where
       -- a place behind this file
-      placed_on : (f : FileAt) (stop : ℕ) (on : Bool) → (g.nth + 1 < length all → Met bytes (At f) (drop (g.nth + 1) all))
+      placed_on : (f : FileAt) (stop : ℕ) (on : Bool) → (g.nth + 1 < length all → Met bytes (Some f) (drop (g.nth + 1) all))
           → PlacedAmong read set lengths bytes (passed g stop x.end f on)
       unfolding total_of files_at
       placed_on f stop on w =
@@ -142,18 +141,18 @@ module _ (lay : Bool) (set lengths bytes rooms names : List ℕ) (g : Place) (p 
             legal = legal_others t g entry d.records _ y.placed files_first;
           }
 
-      next_filed : (stop : ℕ) (h : NextFile) → x.pen.short ≡ false → next_file bytes g.file.hdr1 g.file.hdr2 ≡ h
+      next_filed : (stop : ℕ) (h : Option FileAt) → x.pen.short ≡ false → next_file bytes g.file.hdr1 g.file.hdr2 ≡ h
           → DidFileOne lay t g p o q (record { place = followed_by g stop x.end h; pen = x.pen })
       unfolding followed_by total_of files_at
-      next_filed stop (At h) z e =
-          let there : Met bytes (At h) (drop (g.nth + 1) all) = subst (λ (f : NextFile). Met bytes f (drop (g.nth + 1) all)) e both.1 in
+      next_filed stop (Some h) z e =
+          let there : Met bytes (Some h) (drop (g.nth + 1) all) = subst (λ (f : Option FileAt). Met bytes f (drop (g.nth + 1) all)) e both.1 in
           let some : 0 < length (drop (g.nth + 1) all) = met_some bytes h (drop (g.nth + 1) all) there in
           one_filed t g entry d.records _ y.placed files_first lay c good begun p o q x _ m refl refl (λ _. refl)
           (λ _. placed_on h stop true (λ _. there)) (λ _. z)
           (λ _. omega (arith, behind_long)) (λ w. absurd (false≢true (sym w)))
-      next_filed stop Nowhere z e =
+      next_filed stop None z e =
           let none : length (drop (g.nth + 1) all) ≡ 0
-          = met_none bytes (drop (g.nth + 1) all) (subst (λ (f : NextFile). Met bytes f (drop (g.nth + 1) all)) e both.1) in
+          = met_none bytes (drop (g.nth + 1) all) (subst (λ (f : Option FileAt). Met bytes f (drop (g.nth + 1) all)) e both.1) in
           one_filed t g entry d.records _ y.placed files_first lay c good begun p o q x _ m refl refl (λ _. refl)
           (λ _. placed_on g.file stop false (λ w. absurd (omega (arith, behind_long)))) (λ w. absurd (false≢true w))
           (λ w. absurd (false≢true w))
@@ -182,20 +181,20 @@ module _ (s : List ℕ) (quota : ℕ) (names : List ℕ) (h : (image_verdict s).
   says = legal_sheet_lem (sheet_from s quota names) (image_legal s quota names h k)
 
   -- an accepted image has a file
-  some_file : (n : NextFile) → n ≡ first_file s → n ≡ Nowhere → ⊥
+  some_file : (n : Option FileAt) → n ≡ first_file s → n ≡ None → ⊥
   unfolding sheet_from
   some_file n e q =
-      let none : length (content s).files ≡ 0 = met_none s (content s).files (subst (λ (z : NextFile). Met s z (content s).files) (sym e ∙ q) (files_all s h)) in
+      let none : length (content s).files ≡ 0 = met_none s (content s).files (subst (λ (z : Option FileAt). Met s z (content s).files) (sym e ∙ q) (files_all s h)) in
       omega (arith, says.one)
 
-  pub no_file : (out : List ℕ) (a : Answer) (n : NextFile) → n ≡ first_file s → n ≡ Nowhere
+  pub no_file : (out : List ℕ) (a : Answer) (n : Option FileAt) → n ≡ first_file s → n ≡ None
       → Answers (write_sheet (sheet_from s quota names) out) a out
   no_file out a n e q = absurd (some_file n e q)
 
-  module _ (v : NextFile) (f : FileAt) (there : v ≡ first_file s) (found : v ≡ At f) (files counts lengths set l : List ℕ)
+  module _ (v : Option FileAt) (f : FileAt) (there : v ≡ first_file s) (found : v ≡ Some f) (files counts lengths set l : List ℕ)
       (p : l ≡ part f.hdr1 80 s) (q : set ≡ set_of l)
     where
-      e : first_file s ≡ At f
+      e : first_file s ≡ Some f
       e = sym there ∙ found
 
       abbrev start : Place
@@ -217,7 +216,7 @@ module _ (s : List ℕ) (quota : ℕ) (names : List ℕ) (h : (image_verdict s).
                 record {
                   few = says.few;
                   within = omega arith;
-                  stands = λ _. subst (λ (z : NextFile). Met s z (content s).files) e (files_all s h);
+                  stands = λ _. subst (λ (z : Option FileAt). Met s z (content s).files) e (files_all s h);
                   legal = subst (λ (z : List ℕ). legal_files z (content s).files ≡ true) (sym same_set) says.files;
                 };
             first = refl;

@@ -18,7 +18,7 @@ use Rattle.writer.specs.declared.pen.Pen.{Pen}
 use Rattle.writer.specs.declared.source.Cursor.{Cursor}
 use Rattle.writer.specs.declared.body.Body.{Body}
 use Rattle.writer.specs.declared.set.Place.{Place}
-use Rattle.writer.specs.Code.Pass.{Job, job, names_in, job_of}
+use Rattle.writer.specs.Code.Pass.{Job, job, names_in, job_with}
 use Rattle.sections.specs.Section.{set_in}
 use Rattle.writer.specs.Code.Files.{CanPutFile, DidPutFile}
 use Rattle.writer.specs.Code.Sets.{CanEnter, entry_at, DidEnter}
@@ -131,7 +131,7 @@ module _ (labels e : List ℕ) (n : ℕ) (r rooms : List ℕ) (y : DidEnter labe
   same_part : (a w : ℕ) → part (47 + a) w r ≡ part (47 + a) w labels
   same_part a w = sym (part_drop 47 a w r) ∙ ap (part a w) y.others ∙ part_drop 47 a w labels
 
-  job_is : job_of r rooms ≡ job (set_in labels) e n rooms (names_in (length rooms) labels)
+  job_is : job_with r rooms ≡ job (set_in labels) e n rooms (names_in (length rooms) labels)
   job_is =
       λ i.
       record {
@@ -145,10 +145,10 @@ module _ (labels e : List ℕ) (n : ℕ) (r rooms : List ℕ) (y : DidEnter labe
 
   module _ (lay : Bool) (lengths bytes : List ℕ) (d : Cursor) (p : Pen) (o : List ℕ) where
     pub parts_ready : CanPutFile lay (job (set_in labels) e n rooms (names_in (length rooms) labels)) lengths bytes d p o
-        → CanPutFile lay (job_of r rooms) lengths bytes d p o
+        → CanPutFile lay (job_with r rooms) lengths bytes d p o
     parts_ready k = subst (λ (j : Job). CanPutFile lay j lengths bytes d p o) (sym job_is) k
 
-    pub parts_put : (q : List ℕ) (x : Body) → DidPutFile lay (job_of r rooms) lengths bytes d p o q x
+    pub parts_put : (q : List ℕ) (x : Body) → DidPutFile lay (job_with r rooms) lengths bytes d p o q x
         → DidPutFile lay (job (set_in labels) e n rooms (names_in (length rooms) labels)) lengths bytes d p o q x
     parts_put q x k = subst (λ (j : Job). DidPutFile lay j lengths bytes d p o q x) job_is k
 

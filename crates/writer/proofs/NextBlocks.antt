@@ -5,7 +5,6 @@ use mathlib.Core.List.{List, [], ◌∷◌, ◌++◌}
 use Prim.Native.Nat.{ℕ, suc, ◌+◌, ◌-◌, ◌≤◌, ◌<◌}
 use native.Mathlib.Omega.{arith}
 use native.Mathlib.Numerals.{add-one}
-use borrow.Author.Rules.{rules}
 use lib.ListN.{length}
 use Rattle.image.specs.Item.{block}
 use Rattle.writing.specs.Lay.{Laid, put, Sequel, rest}
@@ -92,9 +91,6 @@ module _ (lay : Bool) (j : Job) (p : Pen) (o : List ℕ) (ready : CanOpen lay j 
               ∙ y.same b bs next;
         }
 
-    opens_room : d.short ≡ false → 1 ≤ d.room
-    opens_room s = y.room s
-
     opens_few : d.count < 1000000
     opens_few = omega (arith, y.sound.blocks)
 
@@ -167,9 +163,6 @@ module _ (lay : Bool) (j : Job) (p : Pen) (o : List ℕ) (ready : CanOpen lay j 
     pub here_kept : length q ≡ length o
     here_kept = x.kept
 
-    pub here_few : c.count < 1000000
-    here_few = omega (arith, (x.sound j ready.sound).blocks)
-
     -- the block is opened on this reel
     pub opens_here : (r : Pen) → (c.room ≡ 0 → ⊥) → r ≡ opened c → DidOpen lay j p o q r
     opens_here r n e =
@@ -192,6 +185,3 @@ module _ (lay : Bool) (j : Job) (p : Pen) (o : List ℕ) (ready : CanOpen lay j 
       -- or on the next
       pub opens_next : (r : Pen) → d.short ≡ false → r ≡ opened d → DidOpen lay j p o z r
       opens_next r s e = opens_on z d (turned_by q c x z d y) r s e
-
-pub ruleset opening =
-    (closable, closed_shut, closed_ready, here_kept, here_few, opens_here, next_kept, next_short, next_room, next_few, opens_next, rules)

@@ -1,29 +1,24 @@
 -- The file at a place, of a sheet or of an image: what each step of the code over it does. Assumes nothing.
+use Rattle.std.specs.Prelude.{Option}
+use Rattle.content.specs.declared.FileAt.{FileAt}
 use mathlib.Core.Path.{◌≡◌, refl, sym, ap, ◌∙◌, subst}
 use mathlib.Core.Bool.{Bool, true, false}
 use mathlib.Core.List.{List}
-use Prim.Native.Nat.{ℕ, ◌+◌, ◌^◌, ◌<◌}
-use native.Mathlib.Omega.{arith}
-use borrow.Author.Rules.{rules}
-use mir.Val.{Fits as FitsIn}
-use mir.Syntax.{w64}
+use Prim.Native.Nat.{ℕ, ◌+◌, ◌<◌}
 use lib.Dec.{ltb}
 use lib.ListN.{length, get_or}
 use Rattle.base.specs.If.{if_b}
 use Rattle.base.proofs.Ifs.{if_true, if_false}
 use Rattle.content.specs.File.{file_behind}
-use Rattle.content.specs.declared.FileAt.{FileAt}
-use Rattle.content.specs.declared.NextFile.{NextFile}
-use Rattle.content.specs.declared.NextFile.TheVariants.{At, Nowhere}
 use Rattle.writing.proofs.Packing.{by_test}
 use Rattle.writer.specs.declared.pen.Pen.{Pen}
 use Rattle.writer.specs.declared.source.Cursor.{Cursor}
 use Rattle.writer.specs.declared.body.Body.{Body}
 use Rattle.writer.specs.declared.set.Place.{Place}
-use Rattle.writer.specs.Code.Pass.{Job, job, names_in, job_of}
+use Rattle.writer.specs.Code.Pass.{Job, job, names_in, job_with}
 use Rattle.sections.specs.Section.{set_in}
 use Rattle.writer.specs.Code.Files.{CanPutFile, DidPutFile}
-use Rattle.writer.specs.Code.Sets.{Origin, listed, read, origin_of, total_of, listed_at, walk_at, cursor_at, CanCount, entry_at, CanEnter, DidEnter, passed, followed_by, behind_file, Task, task, task_of, CanFile, DidFileOne}
+use Rattle.writer.specs.Code.Sets.{Origin, listed, read, origin_of, total_of, listed_at, walk_at, cursor_at, CanCount, entry_at, CanEnter, DidEnter, passed, followed_by, behind_file, Task, task, task_with, CanFile, DidFileOne}
 use Rattle.writer.proofs.Filing.{files_on, Along, along_fileable, along_more, files_fall}
 use Rattle.writer.proofs.LabelParts.{parts_ready, parts_put}
 use Rattle.writer.proofs.FromSheet.{nth_small, stop_within, entry_within, entry_ready, listed_filed}
@@ -41,15 +36,6 @@ module _ (image : Bool) (counts : List ℕ) (n : ℕ) (g : Place) where
   unfolding cursor_at
   cursor_listed count i e = ap (λ (k : ℕ). listed_at g.byte k (g.first + k)) e ∙ sym (if_false _ _ _ i)
 
-  module _ (y : CanCount image counts n g) (i : image ≡ false) where
-    pub cursor_nth : g.nth < length counts
-    cursor_nth = y.nth i
-
-    pub cursor_stop : (count : ℕ) → count ≡ get_or counts g.nth 0 → n < 2 ^ 64 → FitsIn w64 (g.first + count)
-    cursor_stop count e l = record { fits = omega (arith, y.stop i) }
-
-pub ruleset cursors = (cursor_read, cursor_listed, cursor_nth, cursor_stop, rules)
-
 -- ---- the place behind
 
 module _ (image : Bool) (counts bytes : List ℕ) (g : Place) (stop end : ℕ) (short : Bool) where
@@ -63,25 +49,15 @@ module _ (image : Bool) (counts bytes : List ℕ) (g : Place) (stop end : ℕ) (
     unfolding behind_file
     behind_listed i = sym (if_false _ _ _ z ∙ if_false _ _ _ i)
 
-    module _ (i : image ≡ true) (n : NextFile) (e : n ≡ file_behind bytes g.file.hdr1 end) where
+    module _ (i : image ≡ true) (n : Option FileAt) (e : n ≡ file_behind bytes g.file.hdr1 end) where
       behind_read : followed_by g stop end n ≡ behind_file image counts bytes g stop end short
       unfolding behind_file
       behind_read = ap (followed_by g stop end) e ∙ sym (if_false _ _ _ z ∙ if_true _ _ _ i)
 
-      pub behind_next : (h : FileAt) → n ≡ At h → passed g stop end h true ≡ behind_file image counts bytes g stop end short
-      unfolding followed_by
-      behind_next h k = ap (followed_by g stop end) (sym k) ∙ behind_read
-
-      pub behind_last : n ≡ Nowhere → passed g stop end g.file false ≡ behind_file image counts bytes g stop end short
-      unfolding followed_by
-      behind_last k = ap (followed_by g stop end) (sym k) ∙ behind_read
-
-pub ruleset behinds = (behind_short, behind_listed, behind_next, behind_last, rules)
-
 -- ---- the file
 
 module _ (lay image : Bool) (files counts lengths bytes labels rooms : List ℕ) (g : Place) (p : Pen) (o : List ℕ)
-    (y : CanFile lay (task_of image files counts lengths bytes labels rooms) g p o) where
+    (y : CanFile lay (task_with image files counts lengths bytes labels rooms) g p o) where
   abbrev by : Origin → Task
   by from = task from (set_in labels) lengths bytes rooms (names_in (length rooms) labels)
 
@@ -154,10 +130,10 @@ module _ (lay image : Bool) (files counts lengths bytes labels rooms : List ℕ)
         (entry_ready files counts (set_in labels) lengths bytes rooms names g (from_sheet i).placed (nth_within i) _ _ refl refl c
         (listed_at_lem i) lay p o (from_sheet i)))
 
-    place_ready : CanPutFile lay (job_of r rooms) lengths bytes c p o
+    place_ready : CanPutFile lay (job_with r rooms) lengths bytes c p o
     place_ready = parts_ready labels (entry_at image files bytes g) (g.nth + 1) r rooms e lay lengths bytes c p o ready
 
-    module _ (q : List ℕ) (x : Body) (m : DidPutFile lay (job_of r rooms) lengths bytes c p o q x) where
+    module _ (q : List ℕ) (x : Body) (m : DidPutFile lay (job_with r rooms) lengths bytes c p o q x) where
       put : DidPutFile lay j lengths bytes c p o q x
       put = parts_put labels (entry_at image files bytes g) (g.nth + 1) r rooms e lay lengths bytes c p o q x m
 
@@ -197,9 +173,9 @@ module _ (lay image : Bool) (files counts lengths bytes labels rooms : List ℕ)
               ∙ ap (passed g c.stop x.end g.file) (sym (if_false _ _ _ z)))
 
       place_filed : (r : Place) → r ≡ next
-          → DidFileOne lay (task_of image files counts lengths bytes labels rooms) g p o q (record { place = r; pen = x.pen })
+          → DidFileOne lay (task_with image files counts lengths bytes labels rooms) g p o q (record { place = r; pen = x.pen })
       place_filed r h =
-          subst (λ (d : Place). DidFileOne lay (task_of image files counts lengths bytes labels rooms) g p o q
+          subst (λ (d : Place). DidFileOne lay (task_with image files counts lengths bytes labels rooms) g p o q
           (record { place = d; pen = x.pen })) (sym h)
           (by_test image (λ i. subst (λ (f : Origin). DidFileOne lay (by f) g p o q (record { place = next; pen = x.pen }))
           (sym (is_read i)) (filed_read i))
@@ -210,10 +186,10 @@ module _ (lay image : Bool) (files counts lengths bytes labels rooms : List ℕ)
 
 module _ (lay image : Bool) (files counts lengths bytes labels rooms : List ℕ) (first : Place) (begun : Pen) (out q : List ℕ)
     (g : Place) (p : Pen)
-    (m : Along lay (task_of image files counts lengths bytes labels rooms) first begun out q (record { place = g; pen = p }))
+    (m : Along lay (task_with image files counts lengths bytes labels rooms) first begun out q (record { place = g; pen = p }))
     (on : g.on ≡ true) where
   abbrev t : Task
-  t = task_of image files counts lengths bytes labels rooms
+  t = task_with image files counts lengths bytes labels rooms
 
   here : CanFile lay t g p q
   here = along_fileable lay t first begun out q (record { place = g; pen = p }) m on
@@ -229,10 +205,10 @@ module _ (lay image : Bool) (files counts lengths bytes labels rooms : List ℕ)
 
   module _ (c : Cursor) (k : c ≡ cursor_at image counts g) (r : List ℕ)
       (e : DidEnter labels (entry_at image files bytes g) (g.nth + 1) r) where
-    pub turn_ready : CanPutFile lay (job_of r rooms) lengths bytes c p q
+    pub turn_ready : CanPutFile lay (job_with r rooms) lengths bytes c p q
     turn_ready = place_ready lay image files counts lengths bytes labels rooms g p q here c k r e
 
-    module _ (u : List ℕ) (x : Body) (y : DidPutFile lay (job_of r rooms) lengths bytes c p q u x) (h : Place)
+    module _ (u : List ℕ) (x : Body) (y : DidPutFile lay (job_with r rooms) lengths bytes c p q u x) (h : Place)
         (b : h ≡ behind_file image counts bytes g c.stop x.end x.pen.short) where
       one : DidFileOne lay t g p q u (record { place = h; pen = x.pen })
       one = place_filed lay image files counts lengths bytes labels rooms g p q here c k r e u x y h b

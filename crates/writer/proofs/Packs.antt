@@ -4,7 +4,6 @@ use mathlib.Core.Bool.{Bool, true, false, not, false≢true}
 use mathlib.Core.List.{List, ◌++◌}
 use Prim.Native.Nat.{ℕ, ◌+◌, ◌-◌, ◌*◌, ◌≤◌, ◌<◌}
 use native.Mathlib.Omega.{arith}
-use borrow.Author.Rules.{rules}
 use borrow.Author.Tests.{ltb-true, ltb-false, eqb-true, eqb-false}
 use lib.Dec.{eqb}
 use lib.ListN.{length, take, drop}
@@ -20,7 +19,7 @@ use Rattle.writer.specs.declared.pen.Pen.{Pen}
 use Rattle.writer.specs.declared.pack.Flow.{Flow}
 use Rattle.writer.specs.Code.Pass.{Job, ink_at, PassEnd, EndsWithin, between, within, fill_due, left_due, penned}
 use Rattle.writer.specs.Code.Pens.{CanOpen, DidOpen}
-use Rattle.writer.specs.Code.Packs.{enters_on, Wanting, Blocked, more, flowed, Flowing, DidPutPart, headed, CanPutHead, DidPutHead, many_of, CanSpell, turns_in, DidTakeTurn, CanPack}
+use Rattle.writer.specs.Code.Packs.{enters_on, Wanting, Blocked, more, number, flowed, Flowing, DidPutPart, headed, CanPutHead, DidPutHead, many_of, CanSpell, turns_in, DidTakeTurn, CanPack}
 use Rattle.writer.proofs.Passes.{ink_none, ink_length}
 use Rattle.writer.proofs.Dues.{enter_fill, enter_left, some_fill}
 use Rattle.writer.proofs.Blocks.{room_unit, penned_unit, more_sound, enters_on_lem, entered_on, wanting_ready, blocked_next}
@@ -41,7 +40,7 @@ flowing_wanting lay f b j piece s o w h =
           λ l.
           let a = w.ahead l in
           record {
-            begun = s.begun;
+            begun = number s.begun;
             first = drop s.from piece ++ a.bytes;
             later = a.later;
             next = a.next;
@@ -194,34 +193,34 @@ module _ (lay : Bool) (f b : ℕ) (j : Job) (piece : List ℕ) (s : Flow) (o : L
       seg = taken f b p.used s.left
 
       head_same : (z x : List ℕ) (xs : List (List ℕ)) (next : Sequel)
-          → z ≡ ink_at lay o (p.at + 3 + p.used) (control_word f (indicator_of s.begun seg s.left) seg)
+          → z ≡ ink_at lay o (p.at + 3 + p.used) (control_word f (indicator_of (number s.begun) seg s.left) seg)
           → length x ≡ s.left → flowed lay f b j (headed f b s) z x xs next ≡ flowed lay f b j s o x xs next
       head_same z x xs next l size =
           let n : enters f b p.used (length x) ≡ true = ap (enters f b p.used) size ∙ goes_in in
           let m : ℕ = taken f b p.used (length x) in
-          let i : ℕ = indicator_of s.begun m (length x) in
+          let i : ℕ = indicator_of (number s.begun) m (length x) in
           let c : length (control_word f i m) ≡ word_of f = length_control f i m in
           let v : z ≡ ink_at lay o (p.at + 3 + p.used) (control_word f i m)
-          = l ∙ ap (λ (d : ℕ). ink_at lay o (p.at + 3 + p.used) (control_word f (indicator_of s.begun (taken f b p.used d) d) (taken f b p.used d))) (sym size) in
+          = l ∙ ap (λ (d : ℕ). ink_at lay o (p.at + 3 + p.used) (control_word f (indicator_of (number s.begun) (taken f b p.used d) d) (taken f b p.used d))) (sym size) in
           flowed_in lay f b j (headed f b s) z x xs next refl
           ∙ ap (λ (d : ℕ). penned lay f b j (more p (word_of f)) z (within (taken f b p.used d) x xs) next) (sym size)
           ∙ ap (λ (d : List ℕ). penned lay f b j (more p (word_of f)) d (within m x xs) next) v
           ∙ ap (λ (d : ℕ). penned lay f b j (more p d) (ink_at lay o (p.at + 3 + p.used) (control_word f i m))
           (within m x xs) next) (sym c)
-          ∙ penned_unit f b j p o (control_word f i m) (between (going s.begun x xs)) (within m x xs) next is_on
+          ∙ penned_unit f b j p o (control_word f i m) (between (going (number s.begun) x xs)) (within m x xs) next is_on
           wanting.given
-          (enter_fill f b p.used s.begun x n xs
+          (enter_fill f b p.used (number s.begun) x n xs
           ∙ ap (λ (d : ℕ). control_word f i m ++ fill_due f b true (p.used + d) (within m x xs)) (sym c))
           lay (λ w. let r = word_free w in omega arith)
-          (enter_left f b p.used s.begun x n xs ∙ ap (λ (d : ℕ). left_due f b true (p.used + d) (within m x xs)) (sym c))
+          (enter_left f b p.used (number s.begun) x n xs ∙ ap (λ (d : ℕ). left_due f b true (p.used + d) (within m x xs)) (sym c))
           ∙ sym (flowed_out lay f b j s o x xs next out)
 
       module _ (z : List ℕ) (r : Flow) (v : DidPutHead lay f b s o z r) where
         pub turn_head_kept : length z ≡ length o
         turn_head_kept =
             ap length v.laid
-            ∙ ink_length lay o (p.at + 3 + p.used) (control_word f (indicator_of s.begun seg s.left) seg)
-            (λ l. let m = word_free l in omega (arith, length_control f (indicator_of s.begun seg s.left) seg))
+            ∙ ink_length lay o (p.at + 3 + p.used) (control_word f (indicator_of (number s.begun) seg s.left) seg)
+            (λ l. let m = word_free l in omega (arith, length_control f (indicator_of (number s.begun) seg s.left) seg))
 
         pub turn_head : DidTakeTurn lay f b j piece s o z r
         turn_head =
@@ -317,7 +316,7 @@ module _ (lay : Bool) (f b : ℕ) (j : Job) (piece : List ℕ) (s : Flow) (o : L
                     same =
                         λ zs xs after size room.
                         flowed_out lay f b j next q (drop s.from piece ++ zs) xs after refl
-                        ∙ blocked.same s.begun (drop s.from piece ++ zs) xs after (left_of_lem zs size) room
+                        ∙ blocked.same (number s.begun) (drop s.from piece ++ zs) xs after (left_of_lem zs size) room
                         ∙ sym (flowed_out lay f b j s o (drop s.from piece ++ zs) xs after out);
                   };
               given = is_given;
@@ -335,5 +334,3 @@ module _ (lay : Bool) (f b : ℕ) (j : Job) (piece : List ℕ) (s : Flow) (o : L
               over = λ w d. absurd (false≢true (sym d ∙ is_short w));
               out = λ w d. absurd (false≢true (sym d ∙ is_short w));
             }
-
-pub ruleset turning = (turn_partable, turn_in, turn_in_kept, turn_headable, turn_head_kept, turn_head, turn_ready, turn_open_kept, turn_open, rules)

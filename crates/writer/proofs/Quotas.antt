@@ -26,7 +26,7 @@ use Rattle.writing.specs.Rewrite.{sheet_from, rewrite}
 use Rattle.writing.proofs.Units.{both}
 use Rattle.writer.specs.declared.set.Place.{Place}
 use Rattle.writer.specs.Code.Pass.{reels_from, reels_at}
-use Rattle.writer.specs.Code.Sets.{Origin, origin_of, Task, task, task_of, meaning_at, CanWrite, set_laid, sheet_at, CanOrder}
+use Rattle.writer.specs.Code.Sets.{Origin, origin_of, Task, task, task_with, meaning_at, CanWrite, set_laid, sheet_at, CanOrder}
 use Rattle.writer.proofs.LabelParts.{set_in_lem, names_in_lem}
 use Rattle.writer.proofs.FromSheet.{sheet_ordered, sheet_answers}
 
@@ -164,17 +164,17 @@ module _ (image : Bool) (files counts set lengths bytes : List ℕ) (g : Place) 
       names_whole =
           omega (arith, whole from set lengths bytes g quota names y, rooms_long from set lengths bytes g quota names y n e rooms r)
 
-      task_is : task_of image files counts lengths bytes labels rooms ≡ task from set lengths bytes rooms names
+      task_is : task_with image files counts lengths bytes labels rooms ≡ task from set lengths bytes rooms names
       task_is =
           λ i.
           task from (set_in_lem set names titled labels y.six few_bytes t l i) lengths bytes rooms (names_in_lem set names titled labels y.six few_bytes t l (length rooms) names_whole i)
 
-      pub parts_writable : CanWrite (task_of image files counts lengths bytes labels rooms) g
+      pub parts_writable : CanWrite (task_with image files counts lengths bytes labels rooms) g
       parts_writable =
           subst (λ (s : Task). CanWrite s g) (sym task_is) (quota_writable from set lengths bytes g quota names y n e rooms r)
 
       pub parts_answers : (o : List ℕ) (a : Answer) (q : List ℕ)
-          → Answers (stored_laid (set_laid (task_of image files counts lengths bytes labels rooms) g) o) a q
+          → Answers (stored_laid (set_laid (task_with image files counts lengths bytes labels rooms) g) o) a q
           → Answers (write_sheet (sheet_at from set lengths bytes g quota names) o) a q
       parts_answers o a q m =
           quota_answers from set lengths bytes g quota names y n e rooms r o a q

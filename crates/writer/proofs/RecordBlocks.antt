@@ -15,11 +15,10 @@ use Rattle.writing.specs.Lay.{Sequel}
 use Rattle.writing.proofs.Packing.{by_test}
 use Rattle.writer.specs.declared.pen.Pen.{Pen}
 use Rattle.writer.specs.declared.pack.Flow.{Flow}
-use Rattle.writer.specs.declared.record.Quick.{Quick}
 use Rattle.writer.specs.Code.Pass.{Job, inked, PassEnd, outcome, rest_of, EndsWithin, between, within, fill_due, left_due, penned}
 use Rattle.writer.specs.Code.Pens.{CanOpen, CanClose, DidClose, DidOpen, opened}
 use Rattle.writer.specs.Code.Packs.{enters_on, Wanting, Blocked, flowed, GoodFlow, CanPack, DidPack}
-use Rattle.writer.specs.Code.Records.{GoesIn, GoesNext, CanPutWhole, DidPutWhole, CanPutRecord, DidPutRecord, CanQuickBlock, EntersWhole, DidQuickBlock}
+use Rattle.writer.specs.Code.Records.{GoesIn, GoesNext, CanPutWhole, DidPutWhole, CanPutRecord, DidPutRecord, CanQuickBlock, EntersWhole, GoesWhole}
 use Rattle.writer.proofs.NextBlocks.{closable, opens_here}
 use Rattle.writer.proofs.Dues.{over_fill, over_left}
 use Rattle.writer.proofs.Blocks.{penned_on, penned_short, blocked_here, wanting_ready, blocked_next}
@@ -72,13 +71,8 @@ module _ (lay : Bool) (f b n : ℕ) (p : Pen) (o : List ℕ) (k : CanQuickBlock 
   pub quick_used : p.used ≤ 99999
   quick_used = k.can.sound.used
 
-  pub quick_in : (t : Bool) → (t ≡ true → GoesIn f b p.on p.used n) → t ≡ true
-      → DidQuickBlock lay f b n p o o (record { pen = p; ok = true })
-  quick_in t g h =
-      record { kept = refl; small = λ _. (g h).small; yes = λ _ j c. in_whole lay f b j n p o c (g h); no = λ e. absurd (false≢true (sym e)) }
-
-  pub quick_none : DidQuickBlock lay f b n p o o (record { pen = p; ok = false })
-  quick_none = record { kept = refl; small = λ e. absurd (false≢true e); yes = λ e. absurd (false≢true e); no = λ _. refl }
+  pub quick_in : (t : Bool) → (t ≡ true → GoesIn f b p.on p.used n) → t ≡ true → GoesWhole lay f b n p o o p
+  quick_in t g h = record { kept = refl; small = (g h).small; whole = λ j c. in_whole lay f b j n p o c (g h) }
 
   module _ (t : Bool) (g : t ≡ true → GoesNext f b p.on p.used p.room n) (h : t ≡ true) where
     pub quick_closable : CanClose lay p (length o)
@@ -94,11 +88,10 @@ module _ (lay : Bool) (f b n : ℕ) (p : Pen) (o : List ℕ) (k : CanQuickBlock 
       pub quick_kept : length q ≡ length o
       quick_kept = x.kept
 
-      pub quick_next : (r : Pen) → r ≡ opened c → DidQuickBlock lay f b n p o q (record { pen = r; ok = true })
-      quick_next r e =
-          record { kept = x.kept; small = λ _. (g h).small; yes = λ _ j v. in_next lay f b j n p o v (g h) q c x r e; no = λ e. absurd (false≢true (sym e)) }
+      pub quick_next : (r : Pen) → r ≡ opened c → GoesWhole lay f b n p o q r
+      quick_next r e = record { kept = x.kept; small = (g h).small; whole = λ j v. in_next lay f b j n p o v (g h) q c x r e }
 
-pub ruleset quicks = (quick_used, quick_in, quick_closable, quick_room, quick_few, quick_next, quick_kept, quick_none, rules)
+pub ruleset quicks = (quick_used, quick_in, quick_closable, quick_room, quick_few, quick_next, quick_kept, rules)
 
 -- ---- through the packer
 
@@ -142,7 +135,7 @@ module _ (lay : Bool) (f b : ℕ) (j : Job) (bytes : List ℕ) (from n : ℕ) (p
   piece = take (from + n - from) (drop from bytes)
 
   abbrev first : Flow
-  first = record { pen = p; left = n; seg = 0; from = 0; begun = 0; inside = false; on = true }
+  first = record { pen = p; left = n; seg = 0; from = 0; begun = false; inside = false; on = true }
 
   is_part : piece ≡ part from n bytes
   is_part = part_within from n bytes
@@ -233,20 +226,30 @@ module _ (lay : Bool) (f b : ℕ) (j : Job) (bytes : List ℕ) (from n : ℕ) (p
   pub record_somewhere : CanQuickBlock lay f b n p o
   record_somewhere = record { file = j; can = wanting lay f b j bytes from n p o k }
 
-  module _ (q : List ℕ) (t : Quick) (y : DidQuickBlock lay f b n p o q t) where
-    pub record_wholable : t.ok ≡ true → CanPutWhole lay f bytes from n t.pen (length q)
-    record_wholable h = let w = y.yes h j (wanting lay f b j bytes from n p o k) in blocked_wholable lay f b j bytes from n p o k q t.pen w.blocked w.given w.whole (y.small h)
+  module _ (q : List ℕ) (r : Pen) (y : GoesWhole lay f b n p o q r) where
+    enters : EntersWhole lay f b j n p o q r
+    enters = y.whole j (wanting lay f b j bytes from n p o k)
 
-    pub record_whole : (z : List ℕ) (v : Pen) → t.ok ≡ true → DidPutWhole lay f bytes from n t.pen q z v
-        → DidPutRecord lay f b j (part from n bytes) p o z v
-    record_whole z v h x = let w = y.yes h j (wanting lay f b j bytes from n p o k) in blocked_recorded lay f b j bytes from n p o k q t.pen w.blocked w.given w.whole z v x
+    pub record_wholable : CanPutWhole lay f bytes from n r (length q)
+    record_wholable = blocked_wholable lay f b j bytes from n p o k q r enters.blocked enters.given enters.whole y.small
 
-    pub record_kept : (z : List ℕ) (v : Pen) → t.ok ≡ true → DidPutWhole lay f bytes from n t.pen q z v → length z ≡ length o
-    record_kept z v h x = let w = y.yes h j (wanting lay f b j bytes from n p o k) in blocked_kept lay f b j bytes from n p o k q t.pen w.blocked w.given w.whole z v x
+    module _ (z : List ℕ) (v : Pen) (x : DidPutWhole lay f bytes from n r q z v) where
+      pub record_whole : DidPutRecord lay f b j (part from n bytes) p o z v
+      record_whole = blocked_recorded lay f b j bytes from n p o k q r enters.blocked enters.given enters.whole z v x
 
-    pub record_again : t.ok ≡ false → CanPutRecord lay f b j bytes from n p q
-    record_again h = subst (CanPutRecord lay f b j bytes from n p) (sym (y.no h)) k
+      pub record_kept : length z ≡ length o
+      record_kept = blocked_kept lay f b j bytes from n p o k q r enters.blocked enters.given enters.whole z v x
 
-    pub record_slow : (z : List ℕ) (v : Pen) → t.ok ≡ false → DidPutRecord lay f b j (part from n bytes) p q z v
-        → DidPutRecord lay f b j (part from n bytes) p o z v
-    record_slow z v h x = subst (λ (l : List ℕ). DidPutRecord lay f b j (part from n bytes) p l z v) (y.no h) x
+  module _ (q : List ℕ) (e : q ≡ o) where
+    pub record_again : CanPutRecord lay f b j bytes from n p q
+    record_again = subst (CanPutRecord lay f b j bytes from n p) (sym e) k
+
+    module _ (z : List ℕ) (v : Pen) (x : DidPutRecord lay f b j (part from n bytes) p q z v) where
+      pub record_slow : DidPutRecord lay f b j (part from n bytes) p o z v
+      record_slow = subst (λ (l : List ℕ). DidPutRecord lay f b j (part from n bytes) p l z v) e x
+
+      pub record_slow_kept : length z ≡ length o
+      record_slow_kept = x.kept ∙ ap length e
+
+pub ruleset placing =
+    (record_somewhere, record_wholable, record_whole, record_kept, record_again, record_slow, record_slow_kept, rules)

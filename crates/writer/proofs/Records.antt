@@ -1,14 +1,11 @@
 -- A record that goes whole into a block. Assumes nothing.
 use mathlib.Core.Path.{◌≡◌, refl, sym, ap, ◌∙◌, subst}
-use mathlib.Core.Bool.{Bool, true, false, false≢true}
+use mathlib.Core.Bool.{Bool, true, false}
 use mathlib.Core.List.{List, [], ◌++◌, append_assoc}
 use Prim.Native.Nat.{ℕ, ◌+◌, ◌-◌, ◌≤◌, ◌<◌, min}
 use native.Mathlib.Omega.{arith}
-use borrow.Author.Rules.{rules}
-use borrow.Author.Tests.{eq-eqb, ne_eqb, eqb-true, le-leb, leb-true}
-use mir.Val.{Fits as FitsIn}
-use mir.Syntax.{w64}
-use lib.Dec.{eqb, leb}
+use borrow.Author.Tests.{ne_eqb, eqb-true, le-leb}
+use lib.Dec.{eqb}
 use lib.ListN.{length, take, drop, length-append, drop_of_length-le}
 use lib.Seq.{take_all}
 use Rattle.base.proofs.Ifs.{if_true, if_false}
@@ -24,7 +21,7 @@ use Rattle.writing.proofs.Units.{length_control, indicator_whole}
 use Rattle.writer.proofs.Written.{word_small, most_small, ink_put, ink_not, unit_put, unit_kept}
 use Rattle.writer.specs.declared.pen.Pen.{Pen}
 use Rattle.writer.specs.Code.Pass.{Job, ink_at, PassEnd, EndsWithin, UnitDue, between, within, fill_due, left_due, penned}
-use Rattle.writer.specs.Code.Pens.{most_of}
+use Rattle.writer.specs.Form.{most_of}
 use Rattle.writer.specs.Code.Packs.{enters_on, Wanting, Blocked, more}
 use Rattle.writer.specs.Code.Records.{GoesIn, GoesNext, CanPutWhole, DidPutWhole, CanPutRecord, DidPutRecord}
 use Rattle.writer.proofs.Passes.{ink_none, ink_length}
@@ -33,19 +30,9 @@ use Rattle.writer.proofs.Blocks.{room_unit, penned_unit, more_sound}
 
 -- ---- which records go whole
 
-pub most_fixed : (f : ℕ) → f ≡ 70 → 99999 ≡ most_of f
-unfolding most_of
-most_fixed f e = sym (if_true _ _ _ (eq-eqb f 70 e))
-
-pub most_variable : (f : ℕ) → (f ≡ 70 → ⊥) → f ≡ 68 → 9995 ≡ most_of f
-unfolding most_of
-most_variable f e d = sym (if_false _ _ _ (ne_eqb f 70 e) ∙ if_true _ _ _ (eq-eqb f 68 d))
-
-pub most_segment : (f : ℕ) → (f ≡ 70 → ⊥) → (f ≡ 68 → ⊥) → 9994 ≡ most_of f
+most_segment : (f : ℕ) → (f ≡ 70 → ⊥) → (f ≡ 68 → ⊥) → 9994 ≡ most_of f
 unfolding most_of
 most_segment f e d = sym (if_false _ _ _ (ne_eqb f 70 e) ∙ if_false _ _ _ (ne_eqb f 68 d))
-
-pub ruleset mosts = (most_fixed, most_variable, most_segment, rules)
 
 -- a record of n bytes that has room in a block enters it whole
 whole_in : (f b u n : ℕ) → n ≤ most_of f → u + word_of f + n ≤ b → (enters f b u n ≡ true) × (taken f b u n ≡ n)
@@ -61,62 +48,28 @@ whole_in f b u n m h =
     (if_true _ _ _ s ∙ le-leb _ _ one, if_true _ _ _ s ∙ all))
     (λ s. (if_false _ _ _ s ∙ le-leb _ _ h, if_false _ _ _ s))
 
-module _ (f b w most : ℕ) (is_on : Bool) (u n : ℕ) (word : w ≡ word_of f) (m : most ≡ most_of f) where
-  pub goes_in : n ≤ most → is_on ≡ true → leb (u + w + n) b ≡ true → GoesIn f b is_on u n
-  goes_in few on h =
-      let r : u + word_of f + n ≤ b = omega (arith, leb-true (u + w + n) b h) in
-      let both = whole_in f b u n (omega arith) r in
-      record { on = on; small = omega arith; enters = both.0; whole = both.1 }
+pub goes_in : (f b u n : ℕ) (is_on : Bool) → is_on ≡ true → n ≤ most_of f → u + word_of f + n ≤ b → GoesIn f b is_on u n
+goes_in f b u n is_on on few h = let both = whole_in f b u n few h in record { on = on; small = few; enters = both.0; whole = both.1 }
 
-  pub goes_not : false ≡ true → GoesIn f b is_on u n
-  goes_not e = absurd (false≢true e)
+pub goes_next : (f b u left n : ℕ) (is_on : Bool) → n ≤ most_of f → word_of f + n ≤ b → 0 < left → enters_on f b is_on u n ≡ false
+    → GoesNext f b is_on u left n
+goes_next f b u left n is_on few h some d =
+    let both = whole_in f b 0 n few (omega arith) in
+    record { some = omega arith; small = few; full = d; enters = both.0; whole = both.1 }
 
-  pub goes_word_fits : u ≤ 99999 → FitsIn w64 (u + w)
-  goes_word_fits h = record { fits = omega (arith, word_small f) }
+pub ruleset goings = (word_small, most_small)
 
-  pub goes_fits : u ≤ 99999 → n ≤ most → FitsIn w64 (u + w + n)
-  goes_fits h k = record { fits = omega (arith, word_small f, most_small f) }
-
-  pub next_fits : n ≤ most → FitsIn w64 (w + n)
-  next_fits k = record { fits = omega (arith, word_small f, most_small f) }
-
-  pub next_in : (left : ℕ) (t : Bool) → n ≤ most → w + n ≤ b → 0 < left → t ≡ enters_on f b is_on u n → t ≡ false → true ≡ true
-      → GoesNext f b is_on u left n
-  next_in left t few h some e d _ =
-      let both = whole_in f b 0 n (omega arith) (omega arith) in
-      record { some = omega arith; small = omega arith; full = sym e ∙ d; enters = both.0; whole = both.1 }
-
-  pub next_not : (left : ℕ) → false ≡ true → GoesNext f b is_on u left n
-  next_not left e = absurd (false≢true e)
-
-pub ruleset goings = (goes_in, goes_not, goes_word_fits, goes_fits, rules)
-
-pub ruleset nexts = (next_fits, next_in, next_not, rules)
+pub ruleset nexts = (goes_next, word_small, most_small)
 
 -- ---- a whole record into the open block
 
 module _ (lay : Bool) (f w : ℕ) (bytes : List ℕ) (from n : ℕ) (p : Pen) (o : List ℕ) (word : w ≡ word_of f)
     (y : CanPutWhole lay f bytes from n p (length o)) where
-  pub whole_at_fits : FitsIn w64 (p.at + 3)
-  whole_at_fits = record { fits = omega (arith, y.place) }
-
-  pub whole_fits : FitsIn w64 (p.at + 3 + p.used)
-  whole_fits = record { fits = omega (arith, y.place, y.fits) }
-
-  pub whole_word_fits : FitsIn w64 (w + n)
-  whole_word_fits = record { fits = omega (arith, y.fits) }
-
-  pub whole_more : p.used + (w + n) ≤ 99999
-  whole_more = omega (arith, y.fits)
-
   abbrev at : ℕ
   at = p.at + 3 + p.used
 
   abbrev s : List ℕ
   s = take (from + n - from) (drop from bytes)
-
-  pub whole_inside : from + n ≤ length bytes
-  whole_inside = y.inside
 
   whole_is : (r : Pen) → r ≡ more p (w + n) → r ≡ more p (word_of f + n)
   whole_is r e = e ∙ ap (λ (k : ℕ). more p (k + n)) word
@@ -139,8 +92,6 @@ module _ (lay : Bool) (f w : ℕ) (bytes : List ℕ) (from n : ℕ) (p : Pen) (o
           laid = ink_put lay o at (control_word f 0 n ++ part from n bytes) z l
               (unit_put f 0 n o at w word bytes from y.inside y.small room q x z v);
         }
-
-pub ruleset wholes = (whole_at_fits, whole_fits, whole_word_fits, whole_more, whole_inside, rules)
 
 -- what a whole record leaves due
 module _ (f b u n : ℕ) (x : List ℕ) (size : length x ≡ n) (e : enters f b u n ≡ true) (t : taken f b u n ≡ n)

@@ -19,7 +19,7 @@ use Rattle.sheet.proofs.Cutting.{parts_some}
 use Rattle.base.proofs.Copies.{kept_in}
 use Rattle.sections.proofs.Lengths.{length_change}
 use Rattle.writer.specs.declared.pen.Pen.{Pen}
-use Rattle.writer.specs.Code.Pass.{over_long, Reels, reels_from, reels_at, Job, job_of, ink_at, inked, PassEnd, outcome, rest_of, EndsWithin, Sound}
+use Rattle.writer.specs.Code.Pass.{over_long, Reels, reels_from, reels_at, Job, job_with, ink_at, inked, PassEnd, outcome, rest_of, EndsWithin, Sound}
 use Rattle.writer.specs.Code.Pens.{CanOpen, DidChange}
 use Rattle.writer.proofs.Written.{ink_made}
 use Rattle.writer.proofs.Passes.{ink_none, ink_length, outcome_items, fits_items}
@@ -216,16 +216,16 @@ module _ (lay : Bool) (j : Job) (p : Pen) (o : List ℕ) (ready : CanOpen lay j 
   place_small = omega (arith, sound.place, sound.within, sound.reels.few, sound.turn)
 
 -- the name of the next reel, as the label parts have it
-pub changes_laid : (lay : Bool) (labels rooms : List ℕ) (p : Pen) (o : List ℕ) → CanOpen lay (job_of labels rooms) p o
+pub changes_laid : (lay : Bool) (labels rooms : List ℕ) (p : Pen) (o : List ℕ) → CanOpen lay (job_with labels rooms) p o
     → p.on ≡ false → p.room ≡ 0 → p.next < length rooms
     → (q name s : List ℕ) → lay ≡ true → name ≡ part (53 + 6 * p.next) 6 labels
     → s ≡ encode
     (volume_end (set_in labels) (entry_in labels) p.section (sequence_in labels) p.count ++
     (block (made_volume name) ∷ headers (set_in labels) (entry_in labels) (p.section + 1) (sequence_in labels)))
     → q ≡ put_in o p.at s
-    → DidChange lay (job_of labels rooms) p o q (next_reel_lem (job_of labels rooms) p)
+    → DidChange lay (job_with labels rooms) p o q (next_reel_lem (job_with labels rooms) p)
 changes_laid lay labels rooms p o ready shut none n q name s l e h w =
-    changes_made lay (job_of labels rooms) p o ready shut none n q name s l
+    changes_made lay (job_with labels rooms) p o ready shut none n q name s l
     (e ∙ sym (part_part 53 (6 * p.next) 6 (6 * length rooms) labels (omega arith))) h w
 
 pub ruleset changing =

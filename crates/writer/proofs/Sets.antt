@@ -22,7 +22,7 @@ use Rattle.writing.proofs.Packing.{by_test}
 use Rattle.writer.specs.declared.pen.Pen.{Pen}
 use Rattle.writer.specs.declared.set.Place.{Place}
 use Rattle.writer.specs.Code.Pass.{reels_at, names_in, ink_at, inked, behind, inked_at, PassEnd, outcome, laid_from, imaged, image_from, EndsWithin, BetweenFiles}
-use Rattle.writer.specs.Code.Sets.{Origin, listed, read, total_of, files_at, Task, task_of, lay_at, Filing, CanFile, DidFileAll, CanEndSet, DidEndSet, first_pen, DidLaySet, meaning_at, set_laid, CanLaySet}
+use Rattle.writer.specs.Code.Sets.{Origin, listed, read, total_of, files_at, Task, task_with, lay_at, Filing, CanFile, DidFileAll, CanEndSet, DidEndSet, first_pen, DidLaySet, meaning_at, set_laid, CanLaySet}
 use Rattle.sections.specs.Section.{image_head}
 use Rattle.base.proofs.Copies.{kept_in}
 use Rattle.sections.proofs.Lengths.{length_first_reel, length_reel_end}
@@ -258,9 +258,9 @@ module _ (lay : Bool) (t : Task) (g : Place) (o : List ℕ) (y : CanLaySet lay t
 -- ---- the set, as the code holds it
 
 module _ (lay image : Bool) (files counts lengths bytes labels rooms : List ℕ) (g : Place) (o : List ℕ)
-    (y : CanLaySet lay (task_of image files counts lengths bytes labels rooms) g o) where
+    (y : CanLaySet lay (task_with image files counts lengths bytes labels rooms) g o) where
   abbrev t : Task
-  t = task_of image files counts lengths bytes labels rooms
+  t = task_with image files counts lengths bytes labels rooms
 
   pub begin_one : 1 ≤ length rooms
   begin_one = y.writable.one

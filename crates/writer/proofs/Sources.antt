@@ -1,4 +1,6 @@
 -- The next record of a sheet, and of an image. Assumes nothing.
+use Rattle.std.specs.Prelude.{Option, Some, None}
+use Rattle.content.specs.declared.measuring.Measured.{Measured}
 use mathlib.Core.Path.{◌≡◌, refl, sym, ap, ◌∙◌, subst}
 use mathlib.Core.Bool.{true, false, false≢true}
 use mathlib.Core.List.{List, [], ◌∷◌}
@@ -21,14 +23,14 @@ use Rattle.content.specs.Code.Joining.{record_bytes}
 use Rattle.content.specs.Walked.{handed, end_of}
 use Rattle.content.specs.Records.{records_at}
 use Rattle.content.specs.declared.Walk.{Walk}
-use Rattle.content.specs.declared.measuring.Measured.{Measured}
-use Rattle.content.specs.declared.measuring.Measured.TheVariants.{Whole, Split, Nothing as None}
+use Rattle.content.specs.declared.measuring.Measured.TheVariants.{Whole, Split}
 use Rattle.content.proofs.Wholes.{measured_whole as whole_measured, word_least, whole_left, whole_start, whole_end}
 use Rattle.content.proofs.Records.{handed_passes}
 use Rattle.content.proofs.Numbered.{measured_nothing, measured_whole, measured_split, measured_end_nothing, measured_end_whole, measured_end_split, whole_within}
 use Rattle.writer.specs.declared.source.Cursor.{Cursor}
 use Rattle.writer.specs.declared.source.Found.{Found}
-use Rattle.writer.specs.Code.Source.{walk_of, moved_to, lengths_at, records_of, end_at, stop_of, GoodCursor, nothing, split_bytes, SplitHere, found_bytes, DidFind}
+use Rattle.writer.specs.declared.source.Shape.TheVariants.{Piece, Segments}
+use Rattle.writer.specs.Code.Source.{walk_of, moved_to, lengths_at, records_of, end_at, stop_of, GoodCursor, split_bytes, found_bytes, Stands, NoneLeft, IsNext}
 
 -- ---- what is left, by the source
 
@@ -58,68 +60,29 @@ image_stop : (c : Cursor) → c.image ≡ true → stop_of c ≡ c.at + c.left
 unfolding stop_of
 image_stop c s = if_true _ _ _ s
 
--- ---- where a file ends
-
-module _ (lengths bytes : List ℕ) (c : Cursor) (g : GoodCursor lengths bytes c) (e : stop_of c ≡ end_at lengths bytes c) where
-  pub stop_fits : c.image ≡ true → length bytes < 18446744073709551616 → Fits w64 (c.at + c.left)
-  stop_fits s h = let i = g.inside in let k = image_stop c s in omega arith
-
-  pub stop_image : c.image ≡ true → c.at + c.left ≡ end_at lengths bytes c
-  stop_image s = sym (image_stop c s) ∙ e
-
-  pub stop_sheet : c.image ≡ false → c.at ≡ end_at lengths bytes c
-  stop_sheet s = sym (sheet_stop c s) ∙ e
-
-pub ruleset stops = (stop_fits, stop_image, stop_sheet, rules)
-
 -- ---- a record found
 
 module _ (lengths bytes : List ℕ) (c : Cursor) (g : GoodCursor lengths bytes c) where
-  none_found : records_of lengths bytes c ≡ [] → stop_of c ≡ end_at lengths bytes c → DidFind lengths bytes c nothing
-  none_found n o =
-      record {
-        none = λ _. n;
-        over = λ _. o;
-        one = λ k. absurd (k refl);
-        good = λ k. absurd (k refl);
-        end = λ k. absurd (k refl);
-        inside = λ k. absurd (k refl);
-        split = λ k. let z : ◌≡◌ {A = ℕ} 0 2 = k in absurd (omega arith);
-      }
-
-  module _ (r : Found) (k : r.kind ≡ 0 → ⊥) (l : c.image ≡ false → r.left ≤ c.left)
+  module _ (r : Found) (l : c.image ≡ false → r.left ≤ c.left)
       (o : records_of lengths bytes c ≡ found_bytes bytes c r ∷ records_of lengths bytes (moved_to c r.at r.left))
       (e : end_at lengths bytes (moved_to c r.at r.left) ≡ end_at lengths bytes c) where
-    some_found : ((r.kind ≡ 2 → ⊥) → r.from + r.len ≤ length bytes) → (r.kind ≡ 2 → SplitHere bytes c r.len)
-        → DidFind lengths bytes c r
-    some_found i s =
+    some_found : Stands bytes c r.len r.shape → IsNext lengths bytes c r
+    some_found i =
         record {
-          none = λ z. absurd (k z);
-          over = λ z. absurd (k z);
-          one = λ _. o;
+          one = o;
           good =
-              λ _.
               record {
                 order = λ z. let a = l z in let b = g.order z in omega arith;
                 within = g.within;
                 inside = subst (λ (n : ℕ). n ≤ length bytes) (sym e) g.inside;
               };
-          end = λ _. e;
-          inside = λ _. i;
-          split = s;
+          end = e;
+          stands = i;
         }
 
--- a record in one piece, and one in several
-found_whole : (bytes : List ℕ) (c : Cursor) (from len at left : ℕ)
-    → found_bytes bytes c (record { from = from; len = len; at = at; left = left; kind = 1 }) ≡ part from len bytes
-unfolding found_bytes
-found_whole bytes c from len at left = if_false _ _ _ refl
-
-found_split : (bytes : List ℕ) (c : Cursor) (len at left : ℕ)
-    → found_bytes bytes c (record { from = 0; len = len; at = at; left = left; kind = 2 })
-    ≡ record_bytes (record_at bytes (walk_of c))
-unfolding found_bytes split_bytes
-found_split bytes c len at left = if_true _ _ _ refl
+split_is : (bytes : List ℕ) (c : Cursor) → split_bytes bytes c ≡ record_bytes (record_at bytes (walk_of c))
+unfolding split_bytes
+split_is bytes c = refl
 
 -- ---- the next record of a sheet
 
@@ -138,14 +101,15 @@ unfolding part
 cut_part at n bytes = refl
 
 module _ (lengths bytes : List ℕ) (c : Cursor) (g : GoodCursor lengths bytes c) (s : c.image ≡ false) where
-  pub listed_none : (r : Found) → c.left ≡ 0 → r ≡ nothing → DidFind lengths bytes c r
+  pub listed_none : c.left ≡ 0 → NoneLeft lengths bytes c
   unfolding lengths_at part cut_by sum
-  listed_none r z q =
+  listed_none z =
       let none : lengths_at lengths c ≡ [] = ap (λ (n : ℕ). take n (drop (c.stop - c.left) lengths)) z in
       let end : c.at ≡ c.at + sum (lengths_at lengths c) = omega (arith, ap sum none) in
-      subst (DidFind lengths bytes c) (sym q)
-      (none_found lengths bytes c g (sheet_records lengths bytes c s ∙ ap (λ (ns : List ℕ). cut_by ns (drop c.at bytes)) none)
-      (sheet_stop c s ∙ end ∙ sym (sheet_end lengths bytes c s)))
+      record {
+        none = sheet_records lengths bytes c s ∙ ap (λ (ns : List ℕ). cut_by ns (drop c.at bytes)) none;
+        over = sheet_stop c s ∙ end ∙ sym (sheet_end lengths bytes c s);
+      }
 
   pub listed_order : c.left ≤ c.stop
   listed_order = g.order s
@@ -159,7 +123,7 @@ module _ (lengths bytes : List ℕ) (c : Cursor) (g : GoodCursor lengths bytes c
 
     module _ (n : ℕ) (e : n ≡ get_or lengths (c.stop - c.left) 0) where
       abbrev r : Found
-      r = record { from = c.at; len = n; at = c.at + n; left = c.left - 1; kind = 1 }
+      r = record { shape = Piece c.at; len = n; at = c.at + n; left = c.left - 1 }
 
       abbrev d : Cursor
       d = moved_to c (c.at + n) (c.left - 1)
@@ -185,26 +149,26 @@ module _ (lengths bytes : List ℕ) (c : Cursor) (g : GoodCursor lengths bytes c
       pub listed_fits : length bytes < 18446744073709551616 → Fits w64 (c.at + n)
       listed_fits h = let i = inside in omega arith
 
-      pub listed_one : DidFind lengths bytes c r
+      pub listed_one : IsNext lengths bytes c r
       unfolding cut_by
       listed_one =
-          some_found lengths bytes c g r (λ k. let x : ◌≡◌ {A = ℕ} 1 0 = k in absurd (omega arith)) (λ _. omega arith)
+          some_found lengths bytes c g r (λ _. omega arith)
           (sheet_records lengths bytes c s
           ∙ ap (λ (ns : List ℕ). cut_by ns (drop c.at bytes)) lengths_left
           ∙ ap (λ (t : List ℕ). t ∷ cut_by (lengths_at lengths d) (drop n (drop c.at bytes)))
-          (cut_part c.at n bytes ∙ sym (found_whole bytes c c.at n (c.at + n) (c.left - 1)))
+          (cut_part c.at n bytes)
           ∙ ap (λ (t : List ℕ). found_bytes bytes c r ∷ cut_by (lengths_at lengths d) t) (drop-drop n c.at bytes)
           ∙ ap (λ (t : List (List ℕ)). found_bytes bytes c r ∷ t) (sym (sheet_records lengths bytes d s)))
-          same_end (λ _. inside) (λ k. let x : ◌≡◌ {A = ℕ} 1 2 = k in absurd (omega arith))
+          same_end inside
 
 pub ruleset listed = (listed_none, listed_order, listed_within, listed_scaled, listed_fits, listed_one, rules)
 
 -- ---- the walk behind a record of an image is over the same file
 
-abbrev Same : Walk → Measured → Type 0
-Same w (Whole start n v) = moved w v.at v.left ≡ v
-Same w (Split n v) = moved w v.at v.left ≡ v
-Same w None = None ≡ None
+abbrev Same : Walk → Option Measured → Type 0
+Same w (Some (Whole start n v)) = moved w v.at v.left ≡ v
+Same w (Some (Split n v)) = moved w v.at v.left ≡ v
+Same w None = ◌≡◌ {A = Option Measured} None None
 
 same_by : (s : List ℕ) (w : Walk) (x : Record) → ((r : List ℕ) (v : Walk) → handed s x ≡ ends r v → moved w v.at v.left ≡ v)
     → Same w (measured_by x)
@@ -213,7 +177,7 @@ same_by s w (whole start n v) h = h (part start n s) v refl
 same_by s w (split bs v) h = h bs v refl
 same_by s w no_record h = refl
 
-same_file : (s : List ℕ) (w : Walk) (m : Measured) → m ≡ measured_by (record_at s w) → Same w m
+same_file : (s : List ℕ) (w : Walk) (m : Option Measured) → m ≡ measured_by (record_at s w) → Same w m
 same_file s w m e =
     subst (Same w) (sym e)
     (same_by s w (record_at s w)
@@ -224,15 +188,16 @@ same_file s w m e =
 -- ---- the next record of an image
 
 module _ (lengths bytes : List ℕ) (c : Cursor) (g : GoodCursor lengths bytes c) (s : c.image ≡ true) (w : Walk)
-    (k : w ≡ walk_of c) (m : Measured) (e : m ≡ measured_by (record_at bytes w)) where
+    (k : w ≡ walk_of c) (m : Option Measured) (e : m ≡ measured_by (record_at bytes w)) where
   measured_is : m ≡ measured_by (record_at bytes (walk_of c))
   measured_is = e ∙ ap (λ (v : Walk). measured_by (record_at bytes v)) k
 
-  pub far_none : (r : Found) → m ≡ None → r ≡ nothing → DidFind lengths bytes c r
-  far_none r q z =
-      subst (DidFind lengths bytes c) (sym z)
-      (none_found lengths bytes c g (image_records lengths bytes c s ∙ measured_nothing bytes (walk_of c) m measured_is q)
-      (image_stop c s ∙ sym (measured_end_nothing bytes (walk_of c) m measured_is q) ∙ sym (image_end_lem lengths bytes c s)))
+  pub far_none : m ≡ None → NoneLeft lengths bytes c
+  far_none q =
+      record {
+        none = image_records lengths bytes c s ∙ measured_nothing bytes (walk_of c) m measured_is q;
+        over = image_stop c s ∙ sym (measured_end_nothing bytes (walk_of c) m measured_is q) ∙ sym (image_end_lem lengths bytes c s);
+      }
 
   -- a record x, and the walk behind it
   module _ (r : Found) (x : List ℕ) (v : Walk) (same : moved (walk_of c) r.at r.left ≡ v)
@@ -253,29 +218,27 @@ module _ (lengths bytes : List ℕ) (c : Cursor) (g : GoodCursor lengths bytes c
         ∙ sym o
         ∙ sym (image_end_lem lengths bytes c s)
 
-    found_on : (r.kind ≡ 0 → ⊥) → records_at bytes (walk_of c) ≡ x ∷ records_at bytes v → end_of bytes (walk_of c) ≡ end_of bytes v
-        → ((r.kind ≡ 2 → ⊥) → r.from + r.len ≤ length bytes) → (r.kind ≡ 2 → SplitHere bytes c r.len)
-        → DidFind lengths bytes c r
-    found_on z o p i h = some_found lengths bytes c g r z (λ n. absurd (false≢true (sym n ∙ s))) (records_on o) (ends_on p) i h
+    found_on : records_at bytes (walk_of c) ≡ x ∷ records_at bytes v → end_of bytes (walk_of c) ≡ end_of bytes v
+        → Stands bytes c r.len r.shape → IsNext lengths bytes c r
+    found_on o p i = some_found lengths bytes c g r (λ n. absurd (false≢true (sym n ∙ s))) (records_on o) (ends_on p) i
 
-  pub far_whole : (from len : ℕ) (v : Walk) → m ≡ Whole from len v
-      → DidFind lengths bytes c (record { from = from; len = len; at = v.at; left = v.left; kind = 1 })
+  pub far_whole : (from len : ℕ) (v : Walk) → m ≡ Some (Whole from len v)
+      → IsNext lengths bytes c (record { shape = Piece from; len = len; at = v.at; left = v.left })
   far_whole from len v q =
-      found_on (record { from = from; len = len; at = v.at; left = v.left; kind = 1 }) (part from len bytes) v
-      (same_file bytes (walk_of c) (Whole from len v) (sym q ∙ measured_is))
-      (found_whole bytes c from len v.at v.left) (λ z. let n : ◌≡◌ {A = ℕ} 1 0 = z in absurd (omega arith))
+      found_on (record { shape = Piece from; len = len; at = v.at; left = v.left }) (part from len bytes) v
+      (same_file bytes (walk_of c) (Some (Whole from len v)) (sym q ∙ measured_is)) refl
       (measured_whole bytes (walk_of c) from len v m measured_is q)
       (measured_end_whole bytes (walk_of c) from len v m measured_is q)
-      (λ _. whole_within bytes (walk_of c) from len v m measured_is q) (λ z. let n : ◌≡◌ {A = ℕ} 1 2 = z in absurd (omega arith))
+      (whole_within bytes (walk_of c) from len v m measured_is q)
 
-  pub far_split : (len : ℕ) (v : Walk) → m ≡ Split len v
-      → DidFind lengths bytes c (record { from = 0; len = len; at = v.at; left = v.left; kind = 2 })
+  pub far_split : (len : ℕ) (v : Walk) → m ≡ Some (Split len v)
+      → IsNext lengths bytes c (record { shape = Segments; len = len; at = v.at; left = v.left })
   far_split len v q =
-      found_on (record { from = 0; len = len; at = v.at; left = v.left; kind = 2 }) (record_bytes (record_at bytes (walk_of c))) v
-      (same_file bytes (walk_of c) (Split len v) (sym q ∙ measured_is))
-      (found_split bytes c len v.at v.left) (λ z. let n : ◌≡◌ {A = ℕ} 2 0 = z in absurd (omega arith))
+      found_on (record { shape = Segments; len = len; at = v.at; left = v.left }) (record_bytes (record_at bytes (walk_of c))) v
+      (same_file bytes (walk_of c) (Some (Split len v)) (sym q ∙ measured_is))
+      (split_is bytes c)
       (measured_split bytes (walk_of c) len v m measured_is q) (measured_end_split bytes (walk_of c) len v m measured_is q)
-      (λ z. absurd (z refl)) (λ _. record { behind = v; is = sym q ∙ measured_is })
+      (record { behind = v; is = sym q ∙ measured_is })
 
 pub ruleset far = (far_none, far_whole, far_split, rules)
 
@@ -283,9 +246,9 @@ pub ruleset far = (far_none, far_whole, far_split, rules)
 pub read_whole : (lengths bytes : List ℕ) (c : Cursor) (w v : Walk) (k word : ℕ) → GoodCursor lengths bytes c → c.image ≡ true
     → w ≡ walk_of c → v ≡ at_block bytes w
     → k ≡ whole_at bytes v → (k ≡ 0 → ⊥) → word ≡ word_of v.format
-    → DidFind lengths bytes c (record { from = v.at + word; len = k - word; at = v.at + k; left = v.left - k; kind = 1 })
+    → IsNext lengths bytes c (record { shape = Piece (v.at + word); len = k - word; at = v.at + k; left = v.left - k })
 read_whole lengths bytes c w v k word g s e h m z q =
-    far_whole lengths bytes c g s w e (Whole (v.at + word) (k - word) (moved v (v.at + k) (v.left - k)))
+    far_whole lengths bytes c g s w e (Some (Whole (v.at + word) (k - word) (moved v (v.at + k) (v.left - k))))
     (whole_measured bytes w v _ k word h m z q refl)
     (v.at + word) (k - word) (moved v (v.at + k) (v.left - k)) refl
 

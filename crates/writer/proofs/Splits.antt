@@ -1,4 +1,5 @@
 -- A record of an image that stands in several segments, packed one after the other. Assumes nothing.
+use Rattle.std.specs.Prelude.{Some, Option, None}
 use mathlib.Core.Path.{◌≡◌, refl, sym, ap, ◌∙◌, subst}
 use mathlib.Core.Bool.{Bool, true, false, false≢true}
 use mathlib.Core.List.{List, [], ◌∷◌, ◌++◌, append-nil}
@@ -13,11 +14,10 @@ use lib.ListN.{length, take, drop, length-append}
 use Rattle.base.proofs.Ifs.{if_case}
 use Rattle.base.specs.Part.{part}
 use Rattle.base.proofs.Parts.{part_within}
-use Rattle.content.specs.Walk.{is_inside, unit_next, unit_from, first_segment, next_segment, rest_at}
+use Rattle.content.specs.Walk.{is_inside, unit_next, unit_from, first_segment, next_segment, rest_at, taken_at}
 use Rattle.content.specs.Code.Joining.{is_ended, bytes_behind}
 use Rattle.content.specs.declared.Walk.{Walk}
 use Rattle.content.specs.declared.unit.Taken.{Taken}
-use Rattle.content.specs.declared.unit.Taken.TheVariants.{One, Nothing}
 use Rattle.content.specs.declared.measuring.Measured.TheVariants.{Split}
 use Rattle.content.proofs.Units.{inside_true}
 use Rattle.content.proofs.Rests.{UnitBehind, next_behind, from_behind}
@@ -42,17 +42,17 @@ use Rattle.writer.proofs.RecordBlocks.{flow_over, flow_short}
 
 -- ---- the segments
 
-next_is : (s : List ℕ) (w : Walk) (i start n : ℕ) (v : Walk) → next_segment s w ≡ One i start n v → UnitBehind s w start n v
+next_is : (s : List ℕ) (w : Walk) (i start n : ℕ) (v : Walk) → next_segment s w ≡ taken_at i start n v → UnitBehind s w start n v
 unfolding next_segment
 next_is s w i start n v =
-    if_case (λ (t : Taken). t ≡ One i start n v → UnitBehind s w start n v) (is_inside s w) (unit_next s w) Nothing
+    if_case (λ (t : Option Taken). t ≡ taken_at i start n v → UnitBehind s w start n v) (is_inside s w) (unit_next s w) None
     (λ _ e. next_behind s w i start n v e)
     (λ _ e. let z : ◌≡◌ {A = ℕ} 0 1 = cc in absurd (omega arith))
 
-first_is : (s : List ℕ) (w : Walk) (i start n : ℕ) (v : Walk) → first_segment s w ≡ One i start n v → UnitBehind s w start n v
+first_is : (s : List ℕ) (w : Walk) (i start n : ℕ) (v : Walk) → first_segment s w ≡ taken_at i start n v → UnitBehind s w start n v
 unfolding first_segment
 first_is s w i start n v =
-    if_case (λ (t : Taken). t ≡ One i start n v → UnitBehind s w start n v) (is_inside s w) (unit_from s w) Nothing
+    if_case (λ (t : Option Taken). t ≡ taken_at i start n v → UnitBehind s w start n v) (is_inside s w) (unit_from s w) None
     (λ h e. from_behind s w i start n v (inside_true s w true (sym h) refl) e) (λ _ e. let z : ◌≡◌ {A = ℕ} 0 1 = cc in absurd (omega arith))
 
 abbrev segment : ℕ → ℕ → Walk → Segment
@@ -90,49 +90,51 @@ module _ (bytes : List ℕ) (c : Cursor) (w : Walk) (from len : ℕ) (v : Walk) 
         same = λ _. ap (bytes_behind bytes) same_walk_lem;
       }
 
-module _ (bytes : List ℕ) (c : Cursor) (n : ℕ) (h : SplitHere bytes c n) (w : Walk) (k : w ≡ walk_of c) (t : Taken)
+module _ (bytes : List ℕ) (c : Cursor) (n : ℕ) (h : SplitHere bytes c n) (w : Walk) (k : w ≡ walk_of c) (t : Option Taken)
     (e : t ≡ first_segment bytes w) where
   segment_first : t ≡ first_segment bytes (walk_of c)
   segment_first = e ∙ ap (first_segment bytes) k
 
-  pub first_none : (g : Segment) → t ≡ Nothing → DidSegment bytes c (split_bytes bytes c) g
-  first_none g q = absurd (first_some bytes (walk_of c) n h.behind (Split n h.behind) t h.is refl segment_first q)
+  pub first_none : (g : Segment) → t ≡ None → DidSegment bytes c (split_bytes bytes c) g
+  first_none g q = absurd (first_some bytes (walk_of c) n h.behind (Some (Split n h.behind)) t h.is refl segment_first q)
 
-  pub first_one : (i from len : ℕ) (v : Walk) → t ≡ One i from len v
-      → DidSegment bytes c (split_bytes bytes c) (record { from = from; len = len; at = v.at; left = v.left })
+  pub first_one : (one : Taken) → t ≡ Some one
+      → DidSegment bytes c (split_bytes bytes c)
+      (record { from = one.start; len = one.len; at = one.behind.at; left = one.behind.left })
   unfolding split_bytes
-  first_one i from len v q =
-      let p : First bytes (walk_of c) from len v = first_split bytes (walk_of c) n h.behind (Split n h.behind) i from len v t h.is refl segment_first q in
-      segmented_more bytes c (walk_of c) from len v refl refl refl
-      (first_is bytes (walk_of c) i from len v (sym segment_first ∙ q)) _ p.bytes p.ended
+  first_one one q =
+      let p : First bytes (walk_of c) one.start one.len one.behind
+      = first_split bytes (walk_of c) n h.behind (Some (Split n h.behind)) one t h.is refl segment_first q in
+      segmented_more bytes c (walk_of c) one.start one.len one.behind refl refl refl
+      (first_is bytes (walk_of c) one.indicator one.start one.len one.behind (sym segment_first ∙ q)) _ p.bytes p.ended
 
 pub ruleset firsts = (first_none, first_one, rules)
 
-module _ (bytes : List ℕ) (c : Cursor) (g : Segment) (h : HasRest bytes (behind_of c g)) (t : Taken)
+module _ (bytes : List ℕ) (c : Cursor) (g : Segment) (h : HasRest bytes (behind_of c g)) (t : Option Taken)
     (e : t ≡ next_segment bytes (behind_of c g)) where
-  pub next_none : (r : Segment) → t ≡ Nothing → DidSegment bytes c (bytes_behind bytes (behind_of c g)) r
+  pub next_none : (r : Segment) → t ≡ None → DidSegment bytes c (bytes_behind bytes (behind_of c g)) r
   next_none r q = absurd (next_some bytes (behind_of c g) t h.inside h.ended e q)
 
-  pub next_none_on : (r : Segment) → t ≡ Nothing → g.at < r.at
+  pub next_none_on : (r : Segment) → t ≡ None → g.at < r.at
   next_none_on r q = absurd (next_some bytes (behind_of c g) t h.inside h.ended e q)
 
-  module _ (i from len : ℕ) (v : Walk) (q : t ≡ One i from len v) where
-    goes : JoinGoing bytes (behind_of c g) i from len v
-    goes = next_going bytes (behind_of c g) i from len v t h.inside h.ended e q
+  module _ (one : Taken) (q : t ≡ Some one) where
+    goes : JoinGoing bytes (behind_of c g) one.indicator one.start one.len one.behind
+    goes = next_going bytes (behind_of c g) one t h.inside h.ended e q
 
-    behind : UnitBehind bytes (behind_of c g) from len v
-    behind = next_is bytes (behind_of c g) i from len v (sym e ∙ q)
+    behind : UnitBehind bytes (behind_of c g) one.start one.len one.behind
+    behind = next_is bytes (behind_of c g) one.indicator one.start one.len one.behind (sym e ∙ q)
 
     pub next_one : DidSegment bytes c (bytes_behind bytes (behind_of c g))
-        (record { from = from; len = len; at = v.at; left = v.left })
+        (record { from = one.start; len = one.len; at = one.behind.at; left = one.behind.left })
     next_one =
-        by_test (eqb i 3) (λ z. segmented_last bytes c (behind_of c g) from len v refl refl refl behind _
-        (goes.last (eqb-true i 3 z)))
+        by_test (eqb one.indicator 3) (λ z. segmented_last bytes c (behind_of c g) one.start one.len one.behind refl refl refl behind _
+        (goes.last (eqb-true one.indicator 3 z)))
         (λ z.
-        let m = goes.more (eqb-false i 3 z) in
-        segmented_more bytes c (behind_of c g) from len v refl refl refl behind _ m.0 m.1)
+        let m = goes.more (eqb-false one.indicator 3 z) in
+        segmented_more bytes c (behind_of c g) one.start one.len one.behind refl refl refl behind _ m.0 m.1)
 
-    pub next_one_on : g.at < v.at
+    pub next_one_on : g.at < one.behind.at
     next_one_on = behind.onward
 
 pub ruleset nexts = (next_none, next_none_on, next_one, next_one_on, rules)
@@ -157,11 +159,11 @@ module _ (lay : Bool) (f b : ℕ) (j : Job) (bytes : List ℕ) (c : Cursor) (n :
   splits_here = k.split
 
   abbrev first : Flow
-  first = record { pen = p; left = n; seg = 0; from = 0; begun = 0; inside = false; on = true }
+  first = record { pen = p; left = n; seg = 0; from = 0; begun = false; inside = false; on = true }
 
   size : n ≡ length (split_bytes bytes c)
   unfolding split_bytes
-  size = sym (split_long bytes (walk_of c) n k.split.behind (Split n k.split.behind) k.split.is refl)
+  size = sym (split_long bytes (walk_of c) n k.split.behind (Some (Split n k.split.behind)) k.split.is refl)
 
   flowed_first : (lay : Bool) (xs : List (List ℕ)) (next : Sequel)
       → flowed lay f b j first o (split_bytes bytes c) xs next

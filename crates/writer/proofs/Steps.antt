@@ -4,7 +4,6 @@ use mathlib.Core.Bool.{Bool, true, false, false≢true}
 use mathlib.Core.List.{List, [], ◌++◌}
 use Prim.Native.Nat.{ℕ, ◌+◌, ◌-◌, ◌≤◌, ◌<◌}
 use native.Mathlib.Omega.{arith}
-use borrow.Author.Rules.{rules}
 use lib.Dec.{ltb}
 use lib.ListN.{length, take, drop, length-append, length-drop}
 use lib.Seq.{take-append-le, drop-append-le, drop-drop}
@@ -19,7 +18,7 @@ use Rattle.writer.specs.declared.pen.Pen.{Pen}
 use Rattle.writer.specs.declared.pack.Flow.{Flow}
 use Rattle.writer.specs.Code.Pass.{Job, ink_at, PassEnd, ends, EndsWithin, UnitDue, between, within, fill_due, left_due, penned}
 use Rattle.writer.specs.Code.Pens.{CanClose, DidClose}
-use Rattle.writer.specs.Code.Packs.{more, due_of, flowed, Flowing, FlowGoes, DidPutPart, many_of, spelled, CanSpell, DidSpell, Settled}
+use Rattle.writer.specs.Code.Packs.{more, number, due_of, flowed, Flowing, FlowGoes, DidPutPart, many_of, spelled, CanSpell, DidSpell, Settled}
 use Rattle.writer.proofs.Passes.{ink_none, ink_length}
 use Rattle.writer.proofs.Dues.{some_fill, some_left, broken_fill, broken_left}
 use Rattle.writer.proofs.Blocks.{penned_unit, more_sound}
@@ -77,7 +76,7 @@ flowed_in lay f b j s o x xs next h = ap (λ (d : UnitDue). penned lay f b j s.p
 
 pub flowed_out : (lay : Bool) (f b : ℕ) (j : Job) (s : Flow) (o x : List ℕ) (xs : List (List ℕ)) (next : Sequel)
     → s.inside ≡ false
-    → flowed lay f b j s o x xs next ≡ penned lay f b j s.pen o (between (going s.begun x xs)) next
+    → flowed lay f b j s o x xs next ≡ penned lay f b j s.pen o (between (going (number s.begun) x xs)) next
 unfolding flowed due_of
 flowed_out lay f b j s o x xs next h = ap (λ (d : UnitDue). penned lay f b j s.pen o d next) (if_false _ _ _ h)
 
@@ -95,7 +94,7 @@ record Ended (lay : Bool) (s : Flow) (o q : List ℕ) (r : Flow) : Type 0 where
 
 -- s between units, with its block closed
 abbrev parted : Flow → Pen → Flow
-parted s p = record { pen = p; left = s.left; seg = 0; from = s.from; begun = 1; inside = false; on = s.on }
+parted s p = record { pen = p; left = s.left; seg = 0; from = s.from; begun = true; inside = false; on = s.on }
 
 module _ (lay : Bool) (s : Flow) (o : List ℕ) (inside : s.inside ≡ true) where
   goes_none : (f b : ℕ) (j : Job) (piece : List ℕ) → Flowing lay f b j piece s o → FlowGoes lay f b j piece s o o s
@@ -300,5 +299,3 @@ module _ (lay : Bool) (piece : List ℕ) (s : Flow) (o : List ℕ) (y : CanSpell
 
       pub part_closed : t.seg ≡ 0 → 0 < t.left → DidPutPart lay piece s o z (parted t p)
       part_closed none some = part_steps z (parted t p) (ended_part lay t q spelled_inside none some z p c)
-
-pub ruleset parting = (part_closable, spelled_kept, part_over, part_in, part_kept, part_closed, rules)

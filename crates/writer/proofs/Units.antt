@@ -20,7 +20,7 @@ use Rattle.writing.proofs.Packing.{entered}
 use Rattle.writer.specs.declared.pen.Pen.{Pen}
 use Rattle.writer.specs.declared.pack.Flow.{Flow}
 use Rattle.writer.specs.Code.Pass.{ink_at}
-use Rattle.writer.specs.Code.Packs.{more, headed, CanPutHead, DidPutHead, many_of, CanSpell, DidSpell}
+use Rattle.writer.specs.Code.Packs.{more, number, headed, CanPutHead, DidPutHead, many_of, CanSpell, DidSpell}
 use Rattle.writer.proofs.Written.{ink_put, ink_put_in, ink_not, word_fits, word_said}
 
 -- ---- a unit is begun
@@ -53,13 +53,13 @@ module _ (lay : Bool) (f b : ℕ) (s : Flow) (size : ℕ) (y : CanPutHead lay f 
         let n : r ≡ more s.pen (word_of f) = m ∙ ap (more s.pen) h in
         λ z. record { pen = n z; left = s.left; seg = e z; from = s.from; begun = s.begun; inside = true; on = true }
 
-    pub head_laid : (i : ℕ) (d o q : List ℕ) → size ≡ length o → i ≡ 48 + indicator_of s.begun k s.left → lay ≡ true
+    pub head_laid : (i : ℕ) (d o q : List ℕ) → size ≡ length o → i ≡ 48 + indicator_of (number s.begun) k s.left → lay ≡ true
         → d ≡ digits 4 (k + w)
         → q ≡ put_in o (s.pen.at + 3 + s.pen.used) (word_with f i d) → DidPutHead lay f b s o q headed_by
     head_laid i d o q z g l v x =
-        let t : ℕ = indicator_of s.begun k s.left in
-        let c : control_word f t k ≡ control_word f (indicator_of s.begun (taken f b s.pen.used s.left) s.left) (taken f b s.pen.used s.left)
-        = ap (λ (z : ℕ). control_word f (indicator_of s.begun z s.left) z) e in
+        let t : ℕ = indicator_of (number s.begun) k s.left in
+        let c : control_word f t k ≡ control_word f (indicator_of (number s.begun) (taken f b s.pen.used s.left) s.left) (taken f b s.pen.used s.left)
+        = ap (λ (z : ℕ). control_word f (indicator_of (number s.begun) z s.left) z) e in
         let said : q ≡ put_in o (s.pen.at + 3 + s.pen.used) (word_with f (48 + t) d) = x ∙ ap (λ (m : ℕ). put_in o (s.pen.at + 3 + s.pen.used) (word_with f m d)) g in
         let room : s.pen.at + 3 + s.pen.used + word_of f ≤ length o = subst (λ (m : ℕ). s.pen.at + 3 + s.pen.used + word_of f ≤ m) z (head_room l) in
         record {

@@ -23,7 +23,7 @@ use Rattle.writing.specs.Pack.{control_word}
 use Rattle.writing.proofs.Packing.{by_test}
 use Rattle.writing.proofs.Units.{length_control}
 use Rattle.writer.specs.Code.Pass.{ink_at}
-use Rattle.writer.specs.Code.Pens.{most_of}
+use Rattle.writer.specs.Form.{most_of}
 
 pub ink_put : (lay : Bool) (o : List ℕ) (at : ℕ) (bs q : List ℕ) → lay ≡ true → q ≡ put_at o at bs → q ≡ ink_at lay o at bs
 unfolding ink_at

@@ -7,15 +7,17 @@ ghost use Rattle.writer.specs.Code.Pass.{job_of};
 ghost use Rattle.writer.specs.Code.Files.{CanBegin, DidBegin, CanPutEnd, DidPutEnd, CanPutFile, DidPutFile};
 
 use crate::body::{Body, put_records};
-use crate::pen::{Pen, close};
+use crate::form::form_of;
+use crate::pen::{Job, Pen, close};
 use crate::source::Cursor;
 use base::{part_of, put_in};
-use charset::{Number, number_in};
+use charset::number_in;
 use label::{BLOCK_LENGTH_IN, BLOCK_LENGTH_WIDTH, ENTRY};
 use sections::{FILE_END, HEADERS, Labels, file_end, headers};
 use sheet::format_in;
 
 // Begins a file on the reel of a pen.
+#[tactic(auto, using(crate::proofs::Files::beginning))]
 fn begin_file(labels: &Labels, p: Pen, out: &mut [u8], lay: bool) -> Pen
     requires { CanBegin lay p (length out.old) }
     ensures { DidBegin lay (set_in labels.now) (entry_in labels.now) (sequence_in labels.now) p out.old out.new result }
@@ -23,12 +25,11 @@ fn begin_file(labels: &Labels, p: Pen, out: &mut [u8], lay: bool) -> Pen
     let r = Pen {
         at: p.at + HEADERS,
         used: 0,
-        room: p.room,
-        next: p.next,
         section: 1,
         count: 0,
         on: false,
         short: false,
+        ..p
     };
     if lay {
         put_in(out, p.at, &headers(labels, 1));
@@ -37,6 +38,7 @@ fn begin_file(labels: &Labels, p: Pen, out: &mut [u8], lay: bool) -> Pen
 }
 
 // Ends a file whose records are packed, unless a reel is lacking: the open block is closed, and the trailer labels follow.
+#[tactic(auto, using(crate::proofs::Files::tails))]
 fn put_end(labels: &Labels, x: Body, out: &mut [u8], lay: bool) -> Body
     requires { CanPutEnd lay x (length out.old) }
     ensures { DidPutEnd lay (set_in labels.now) (entry_in labels.now) (sequence_in labels.now) x out.old out.new result }
@@ -49,12 +51,9 @@ fn put_end(labels: &Labels, x: Body, out: &mut [u8], lay: bool) -> Body
     let pen = Pen {
         at: c.at + FILE_END,
         used: 0,
-        room: c.room,
-        next: c.next,
-        section: c.section,
-        count: c.count,
         on: false,
         short: false,
+        ..c
     };
     let r = Body { pen, end: x.end };
     if lay {
@@ -64,14 +63,12 @@ fn put_end(labels: &Labels, x: Body, out: &mut [u8], lay: bool) -> Body
 }
 
 // The block length of a file's entry.
+#[tactic(auto, unfolding(reading::specs::Legal::block_length_from, volume::specs::Fault::value_of))]
 fn block_length_in(entry: &[u8]) -> usize
     ensures { result ≡ block_length_from entry.now }
 {
     let n = number_in(part_of(entry, BLOCK_LENGTH_IN, BLOCK_LENGTH_WIDTH));
-    match n {
-        Number::Value(v) => v as usize,
-        Number::Wrong => 0,
-    }
+    n.unwrap_or(0) as usize
 }
 
 // Lays a file: its header labels, its blocks, and its trailer labels. Its entry says the format of its records and the length of
@@ -80,19 +77,20 @@ pub(crate) fn put_file(
     lengths: &[u64],
     bytes: &[u8],
     c: Cursor,
-    labels: &Labels,
-    rooms: &[u64],
+    job: &Job,
     p: Pen,
     out: &mut [u8],
     lay: bool,
 ) -> Body
-    requires { CanPutFile lay (job_of labels.now rooms.now) lengths.now bytes.now c p out.old }
-    ensures { DidPutFile lay (job_of labels.now rooms.now) lengths.now bytes.now c p out.old out.new result }
+    requires { CanPutFile lay (job_of job.now) lengths.now bytes.now c p out.old }
+    ensures { DidPutFile lay (job_of job.now) lengths.now bytes.now c p out.old out.new result }
 {
+    let labels = job.labels;
     let entry = part_of(labels, 0, ENTRY);
     let f = format_in(entry);
     let b = block_length_in(entry);
+    let form = form_of(f, b);
     let h = begin_file(labels, p, out, lay);
-    let x = put_records(f, b, lengths, bytes, c, labels, rooms, h, out, lay);
+    let x = put_records(form, lengths, bytes, c, job, h, out, lay);
     put_end(labels, x, out, lay)
 }

@@ -3,26 +3,26 @@ ghost use Rattle.std.specs.Prelude.{◌≡◌, true, ◌+◌, ◌≤◌, length}
 ghost use Rattle.writer.specs.Code.Pass.{job_of};
 ghost use Rattle.writer.specs.Code.Packs.{enters_on, more, DidPutPart, CanPutHead, DidPutHead, CanSpell, DidSpell, DidTakeTurn, CanPack, DidPack};
 
-use crate::pen::{Pen, WORD, close, next_block};
+use crate::pen::{Job, Pen, WORD, close, next_block};
 use base::put_in;
 use block::{enters, indicator, put_word, smaller, taken, word_of};
 use output::four_digits;
-use sections::Labels;
 
 // Where the packing of a record is: the pen; the bytes that are left of the record, and of its open unit; the place in the piece;
-// 1 where the record has a unit already; whether a unit is open, and whether there is more to be packed of the piece.
+// whether the record has a unit already, whether one is open, and whether there is more to be packed of the piece.
 #[derive(Clone, Copy)]
 pub struct Flow {
     pub pen: Pen,
     pub left: usize,
     pub seg: usize,
     pub from: usize,
-    pub begun: u8,
+    pub begun: bool,
     pub inside: bool,
     pub on: bool,
 }
 
 // Whether a record of which n bytes remain enters the block that is open, if one is.
+#[tactic(auto, unfolding(crate::specs::Code::Packs::enters_on, base::specs::If::if_b))]
 pub(crate) fn enters_on(f: u8, b: usize, is_on: bool, u: usize, n: usize) -> bool
     ensures { result ≡ enters_on f b is_on u n }
 {
@@ -38,14 +38,10 @@ pub(crate) fn more(p: Pen, n: usize) -> Pen
     ensures { result ≡ more p n }
 {
     Pen {
-        at: p.at,
         used: p.used + n,
-        room: p.room,
-        next: p.next,
-        section: p.section,
-        count: p.count,
         on: true,
         short: false,
+        ..p
     }
 }
 
@@ -60,15 +56,13 @@ fn put_head(f: u8, b: usize, s: Flow, out: &mut [u8], lay: bool) -> Flow
     let pen = more(p, w);
     let r = Flow {
         pen,
-        left: s.left,
         seg: k,
-        from: s.from,
-        begun: s.begun,
         inside: true,
         on: true,
+        ..s
     };
     if lay {
-        let i = indicator(s.begun, k, s.left);
+        let i = indicator(s.begun as u8, k, s.left);
         let d = four_digits(k + w);
         put_word(out, p.at + WORD + p.used, f, i, d);
     }
@@ -90,9 +84,9 @@ fn spell(piece: &[u8], s: Flow, out: &mut [u8], lay: bool) -> Flow
         left: s.left - m,
         seg: s.seg - m,
         from: end,
-        begun: s.begun,
         inside: true,
         on: end < piece.len(),
+        ..s
     };
     if lay {
         put_in(out, p.at + WORD + p.used, &piece[from..end]);
@@ -112,12 +106,10 @@ fn put_part(piece: &[u8], s: Flow, out: &mut [u8], lay: bool) -> Flow
             let pen = close(p, out, lay);
             return Flow {
                 pen,
-                left: t.left,
                 seg: 0,
-                from: t.from,
-                begun: 1,
+                begun: true,
                 inside: false,
-                on: t.on,
+                ..t
             };
         }
     }
@@ -125,18 +117,9 @@ fn put_part(piece: &[u8], s: Flow, out: &mut [u8], lay: bool) -> Flow
 }
 
 // One turn: the rest of the open unit; or the next unit is begun; or, where it does not enter the open block, the next block.
-fn take_turn(
-    f: u8,
-    b: usize,
-    piece: &[u8],
-    labels: &Labels,
-    rooms: &[u64],
-    s: Flow,
-    out: &mut [u8],
-    lay: bool,
-) -> Flow
-    requires { CanPack lay f b (job_of labels.now rooms.now) piece.now s out.old }
-    ensures { DidTakeTurn lay f b (job_of labels.now rooms.now) piece.now s out.old out.new result }
+fn take_turn(f: u8, b: usize, piece: &[u8], job: &Job, s: Flow, out: &mut [u8], lay: bool) -> Flow
+    requires { CanPack lay f b (job_of job.now) piece.now s out.old }
+    ensures { DidTakeTurn lay f b (job_of job.now) piece.now s out.old out.new result }
 {
     if s.inside {
         return put_part(piece, s, out, lay);
@@ -145,15 +128,12 @@ fn take_turn(
     if enters_on(f, b, p.on, p.used, s.left) {
         return put_head(f, b, s, out, lay);
     }
-    let pen = next_block(labels, rooms, p, out, lay);
+    let pen = next_block(job, p, out, lay);
     Flow {
         pen,
-        left: s.left,
-        seg: s.seg,
-        from: s.from,
-        begun: s.begun,
         inside: false,
         on: !pen.short,
+        ..s
     }
 }
 
@@ -162,19 +142,18 @@ pub(crate) fn put_pieces(
     f: u8,
     b: usize,
     piece: &[u8],
-    labels: &Labels,
-    rooms: &[u64],
+    job: &Job,
     first: Flow,
     out: &mut [u8],
     lay: bool,
 ) -> Flow
-    requires can_pack { CanPack lay f b (job_of labels.now rooms.now) piece.now first out.old }
+    requires can_pack { CanPack lay f b (job_of job.now) piece.now first out.old }
     requires on_value { first.on ≡ true }
-    ensures { DidPack lay f b (job_of labels.now rooms.now) piece.now first out.old out.new result }
+    ensures { DidPack lay f b (job_of job.now) piece.now first out.old out.new result }
 {
     let mut s = first;
     while s.on {
-        s = take_turn(f, b, piece, labels, rooms, s, out, lay);
+        s = take_turn(f, b, piece, job, s, out, lay);
     }
     s
 }

@@ -26,6 +26,13 @@ pub struct Pen {
     pub short: bool,
 }
 
+// What the labels of a file are made of, and for how many blocks each of the reels has room.
+#[derive(Clone, Copy)]
+pub struct Job<'a> {
+    pub labels: &'a Labels,
+    pub rooms: &'a [u64],
+}
+
 // Closes the open block, if one is open.
 pub(crate) fn close(p: Pen, out: &mut [u8], lay: bool) -> Pen
     requires { CanClose lay p (length out.old) }
@@ -35,12 +42,8 @@ pub(crate) fn close(p: Pen, out: &mut [u8], lay: bool) -> Pen
         let r = Pen {
             at: p.at + WORD + p.used,
             used: 0,
-            room: p.room,
-            next: p.next,
-            section: p.section,
-            count: p.count,
             on: false,
-            short: p.short,
+            ..p
         };
         if lay {
             put_length(out, p.at, p.used);
@@ -57,35 +60,32 @@ pub(crate) fn opened(p: Pen) -> Pen
     ensures { result ≡ opened p }
 {
     Pen {
-        at: p.at,
         used: 0,
         room: p.room - 1,
-        next: p.next,
-        section: p.section,
         count: p.count + 1,
         on: true,
         short: false,
+        ..p
     }
 }
 
 // Ends a section on a full reel and begins the next one on the next reel, if there is one.
-fn change(labels: &Labels, rooms: &[u64], p: Pen, out: &mut [u8], lay: bool) -> Pen
+#[tactic(auto, using(crate::proofs::ReelChanges::changing))]
+fn change(job: &Job, p: Pen, out: &mut [u8], lay: bool) -> Pen
     requires on_value { p.on ≡ false }
     requires room_value { p.room ≡ 0 }
-    requires can_open { CanOpen lay (job_of labels.now rooms.now) p out.old }
-    ensures { DidChange lay (job_of labels.now rooms.now) p out.old out.new result }
+    requires can_open { CanOpen lay (job_of job.now) p out.old }
+    ensures { DidChange lay (job_of job.now) p out.old out.new result }
 {
+    let labels = job.labels;
+    let rooms = job.rooms;
     let next = p.next;
     if rooms.len() <= next {
         return Pen {
-            at: p.at,
             used: 0,
-            room: p.room,
-            next,
-            section: p.section,
-            count: p.count,
             on: false,
             short: true,
+            ..p
         };
     }
     let r = Pen {
@@ -107,15 +107,15 @@ fn change(labels: &Labels, rooms: &[u64], p: Pen, out: &mut [u8], lay: bool) -> 
 }
 
 // Closes the open block and opens the next, on the next reel where this one is full.
-pub(crate) fn next_block(labels: &Labels, rooms: &[u64], p: Pen, out: &mut [u8], lay: bool) -> Pen
-    requires { CanOpen lay (job_of labels.now rooms.now) p out.old }
-    ensures { DidOpen lay (job_of labels.now rooms.now) p out.old out.new result }
+pub(crate) fn next_block(job: &Job, p: Pen, out: &mut [u8], lay: bool) -> Pen
+    requires { CanOpen lay (job_of job.now) p out.old }
+    ensures { DidOpen lay (job_of job.now) p out.old out.new result }
 {
     let c = close(p, out, lay);
     if c.room != 0 {
         return opened(c);
     }
-    let d = change(labels, rooms, c, out, lay);
+    let d = change(job, c, out, lay);
     if d.short {
         return d;
     }

@@ -7,10 +7,10 @@ ghost use Rattle.writer.specs.Code.Pass.{ink_at, names_in};
 ghost use Rattle.writer.specs.Code.Sets.{CanCount, cursor_at, CanEnter, entry_at, DidEnter, behind_file, task_of, CanEndSet, DidEndSet, first_pen, DidLaySet, set_laid, CanLaySet};
 
 use crate::file::put_file;
-use crate::pen::Pen;
+use crate::pen::{Job, Pen};
 use crate::source::Cursor;
 use base::{part_of, put_in};
-use content::{FileAt, NextFile, file_behind};
+use content::{FileAt, file_behind};
 use label::{
     DATED_WIDTH, ENTRY, FORMAT_IN, FORMATTED_WIDTH, GENERATION, GENERATION_IN, IDENTIFIER,
     IDENTIFIER_IN, IDENTIFIER_WIDTH, RECORD_FORMAT,
@@ -19,6 +19,16 @@ use sections::{HEAD, Labels, NAME, NAMES, REEL_END, SEQUENCE, image_head, reel_e
 
 // The bytes of a label.
 pub(crate) const LABEL: usize = 80;
+
+// Where files come from: the slices of a sheet, or an accepted image, whose bytes then stand in `bytes`.
+#[derive(Clone, Copy)]
+pub struct Input<'a> {
+    pub files: &'a [u8],
+    pub counts: &'a [u64],
+    pub lengths: &'a [u64],
+    pub bytes: &'a [u8],
+    pub image: bool,
+}
 
 // A place among the files: how many are passed; of a sheet, the next length and the next byte; of an image, the next file; and
 // whether there is a next file to be laid.
@@ -44,11 +54,12 @@ pub(crate) fn with_part(labels: Labels, at: usize, s: &[u8]) -> Labels
 }
 
 // The cursor at the first record of the file at a place.
-fn cursor_at(counts: &[u64], lengths: &[u64], image: bool, g: Place) -> Cursor
-    requires { CanCount image counts.now (length lengths.now) g }
-    ensures { result ≡ cursor_at image counts.now g }
+#[tactic(auto, unfolding(crate::specs::Code::Sets::cursor_at, base::specs::If::if_b))]
+fn cursor_at(input: &Input, g: Place) -> Cursor
+    requires { CanCount input.now.image input.now.counts.now (length input.now.lengths.now) g }
+    ensures { result ≡ cursor_at input.now.image input.now.counts.now g }
 {
-    if image {
+    if input.image {
         let f = g.file;
         let w = f.walk;
         return Cursor {
@@ -62,7 +73,7 @@ fn cursor_at(counts: &[u64], lengths: &[u64], image: bool, g: Place) -> Cursor
         };
     }
     let i = g.nth;
-    let count = counts[i] as usize;
+    let count = input.counts[i] as usize;
     Cursor {
         at: g.byte,
         left: count,
@@ -75,14 +86,17 @@ fn cursor_at(counts: &[u64], lengths: &[u64], image: bool, g: Place) -> Cursor
 }
 
 // The label parts with the number and the entry of the file at a place: of an image, the fields of its first HDR1 and HDR2.
-fn entered(labels: Labels, files: &[u8], bytes: &[u8], image: bool, g: Place) -> Labels
-    requires { CanEnter image (length files.now) (length bytes.now) g }
-    ensures { DidEnter labels (entry_at image files.now bytes.now g) (g.nth + 1) result }
+#[tactic(auto, using(crate::proofs::LabelParts::entering))]
+fn entered(labels: Labels, input: &Input, g: Place) -> Labels
+    requires { CanEnter input.now.image (length input.now.files.now) (length input.now.bytes.now) g }
+    ensures { DidEnter labels (entry_at input.now.image input.now.files.now input.now.bytes.now g) (g.nth + 1) result }
 {
+    let files = input.files;
+    let bytes = input.bytes;
     let i = g.nth;
     let mut numbered = labels;
     numbered[SEQUENCE] = (i + 1) as u8;
-    if image {
+    if input.image {
         let f = g.file;
         let first = part_of(bytes, f.hdr1, LABEL);
         let second = part_of(bytes, f.hdr2, LABEL);
@@ -98,18 +112,12 @@ fn entered(labels: Labels, files: &[u8], bytes: &[u8], image: bool, g: Place) ->
 
 // The place behind a file, whose lengths end at `stop` and whose records end at `end`, unless a reel is lacking. The next file of
 // an image is looked for from there on.
-fn behind(
-    counts: &[u64],
-    bytes: &[u8],
-    image: bool,
-    g: Place,
-    stop: usize,
-    end: usize,
-    short: bool,
-) -> Place
+#[tactic(auto, unfolding(crate::specs::Code::Sets::behind_file, crate::specs::Code::Sets::followed_by, base::specs::If::if_b))]
+fn behind(input: &Input, g: Place, stop: usize, end: usize, short: bool) -> Place
     requires { g.nth < 64 }
-    ensures { result ≡ behind_file image counts.now bytes.now g stop end short }
+    ensures { result ≡ behind_file input.now.image input.now.counts.now input.now.bytes.now g stop end short }
 {
+    let bytes = input.bytes;
     let nth = g.nth + 1;
     let file = g.file;
     let over = Place {
@@ -122,30 +130,26 @@ fn behind(
     if short {
         return over;
     }
-    if image {
+    if input.image {
         return match file_behind(bytes, file.hdr1, end) {
-            NextFile::Nowhere => over,
-            NextFile::At(next) => Place {
-                nth,
-                first: stop,
-                byte: end,
+            None => over,
+            Some(next) => Place {
                 file: next,
                 on: true,
+                ..over
             },
         };
     }
     Place {
-        nth,
-        first: stop,
-        byte: end,
-        file,
-        on: nth < counts.len(),
+        on: nth < input.counts.len(),
+        ..over
     }
 }
 
 // ---- the set
 
 // Ends the last reel, unless a reel is lacking.
+#[tactic(auto, using(crate::proofs::Sets::closings))]
 fn end_set(p: Pen, out: &mut [u8], lay: bool) -> Pen
     requires { CanEndSet lay p (length out.old) }
     ensures { DidEndSet lay p out.old out.new result }
@@ -156,12 +160,9 @@ fn end_set(p: Pen, out: &mut [u8], lay: bool) -> Pen
     let r = Pen {
         at: p.at + REEL_END,
         used: 0,
-        room: p.room,
-        next: p.next,
-        section: p.section,
-        count: p.count,
         on: false,
         short: false,
+        ..p
     };
     if lay {
         put_in(out, p.at, &reel_end());
@@ -170,6 +171,7 @@ fn end_set(p: Pen, out: &mut [u8], lay: bool) -> Pen
 }
 
 // Begins a set on its first reel: the head of the image and the volume label.
+#[tactic(auto, using(crate::proofs::Sets::set_begins))]
 fn begin_set(labels: Labels, rooms: &[u64], out: &mut [u8], lay: bool) -> Pen
     requires in_bounds { 1 ≤ length rooms.now }
     requires in_bounds_2 { lay ≡ true → 88 ≤ length out.old }
@@ -193,29 +195,32 @@ fn begin_set(labels: Labels, rooms: &[u64], out: &mut [u8], lay: bool) -> Pen
 }
 
 // Lays a set down at the front of a buffer: all files from the first on. Where the pass does not lay, it only counts.
+#[tactic(auto, using(crate::proofs::Sets::sets))]
 pub(crate) fn lay_set(
-    files: &[u8],
-    counts: &[u64],
-    lengths: &[u64],
-    bytes: &[u8],
-    image: bool,
+    input: &Input,
     start: Place,
     labels: Labels,
     rooms: &[u64],
     out: &mut [u8],
     lay: bool,
 ) -> Pen
-    requires { CanLaySet lay (task_of image files.now counts.now lengths.now bytes.now labels rooms.now) start out.old }
-    ensures { DidLaySet lay (set_laid (task_of image files.now counts.now lengths.now bytes.now labels rooms.now) start) out.old out.new result }
+    requires { CanLaySet lay (task_of input.now labels rooms.now) start out.old }
+    ensures { DidLaySet lay (set_laid (task_of input.now labels rooms.now) start) out.old out.new result }
 {
+    let lengths = input.lengths;
+    let bytes = input.bytes;
     let mut pen = begin_set(labels, rooms, out, lay);
     let mut g = start;
     while g.on {
-        let c = cursor_at(counts, lengths, image, g);
-        let made = entered(labels, files, bytes, image, g);
-        let x = put_file(lengths, bytes, c, &made, rooms, pen, out, lay);
+        let c = cursor_at(input, g);
+        let made = entered(labels, input, g);
+        let job = Job {
+            labels: &made,
+            rooms,
+        };
+        let x = put_file(lengths, bytes, c, &job, pen, out, lay);
         pen = x.pen;
-        g = behind(counts, bytes, image, g, c.stop, x.end, pen.short);
+        g = behind(input, g, c.stop, x.end, pen.short);
     }
     end_set(pen, out, lay)
 }

@@ -1,21 +1,16 @@
 // The records of a file, one after the other, from the slices of an order sheet or from an accepted image: where the next one
 // stands. It knows how each of them holds a record, and nothing of blocks that are written.
 ghost use Rattle.std.specs.Prelude.{◌≡◌, true};
-ghost use Rattle.writer.specs.Code.Source.{walk_of, GoodCursor, stop_of, end_at, nothing, DidFind};
+ghost use Rattle.writer.specs.Code.Source.{walk_of, GoodCursor, stop_of, end_at, DidFind};
 
 use block::word_of;
 use content::{Measured, Walk, at_block, measure_far, whole_at};
 
-// How a record was found: not at all, in one piece, or in several segments.
-pub(crate) const NONE: u8 = 0;
-
-pub(crate) const WHOLE: u8 = 1;
-
-pub(crate) const SPLIT: u8 = 2;
-
 // Where a pass is in a file. Of a sheet: the place of the next record's bytes, the number of records that are left, and the end
 // of the file's lengths. Of an image: the place of what is left of the current block, and how many bytes that is; the offset
 // length, the record length and the format of the file.
+// Kept flat, for both sources: the loop over records copies one that holds a walk at each turn, and two loops are slower than one
+// (docs/PROVING.md).
 #[derive(Clone, Copy)]
 pub struct Cursor {
     pub at: usize,
@@ -27,15 +22,20 @@ pub struct Cursor {
     pub image: bool,
 }
 
-// The next record: where it stands, if in one piece; its length; the cursor's place and what is left behind it; and how it was
-// found.
+// How a record stands: in one piece, at a place, or in several segments.
+#[derive(Clone, Copy)]
+pub enum Shape {
+    Piece(usize),
+    Segments,
+}
+
+// The next record: how it stands; its length; the cursor's place and what is left behind it.
 #[derive(Clone, Copy)]
 pub struct Found {
-    pub from: usize,
+    pub shape: Shape,
     pub len: usize,
     pub at: usize,
     pub left: usize,
-    pub kind: u8,
 }
 
 // The walk of an image's cursor.
@@ -51,46 +51,32 @@ pub(crate) fn walk_of(c: Cursor) -> Walk
     }
 }
 
-// No further record.
-fn nothing() -> Found
-    ensures { result ≡ nothing }
-{
-    Found {
-        from: 0,
-        len: 0,
-        at: 0,
-        left: 0,
-        kind: NONE,
-    }
-}
-
 // The next record of an image's file, behind padding or a change of reel, or in several segments.
-fn next_far(lengths: &[u64], bytes: &[u8], c: Cursor) -> Found
+fn next_far(lengths: &[u64], bytes: &[u8], c: Cursor) -> Option<Found>
     requires good_cursor { GoodCursor lengths.now bytes.now c }
     requires image_value { c.image ≡ true }
     ensures { DidFind lengths.now bytes.now c result }
 {
-    match measure_far(bytes, walk_of(c)) {
-        Measured::Nothing => nothing(),
-        Measured::Whole(from, len, v) => Found {
-            from,
+    let measured = measure_far(bytes, walk_of(c))?;
+    match measured {
+        Measured::Whole(from, len, v) => Some(Found {
+            shape: Shape::Piece(from),
             len,
             at: v.at,
             left: v.left,
-            kind: WHOLE,
-        },
-        Measured::Split(len, v) => Found {
-            from: 0,
+        }),
+        Measured::Split(len, v) => Some(Found {
+            shape: Shape::Segments,
             len,
             at: v.at,
             left: v.left,
-            kind: SPLIT,
-        },
+        }),
     }
 }
 
 // The next record of an image's file, which most often stands whole in a block and then is told by one number.
-fn next_read(lengths: &[u64], bytes: &[u8], c: Cursor) -> Found
+#[tactic(auto, using(crate::proofs::Sources::read))]
+fn next_read(lengths: &[u64], bytes: &[u8], c: Cursor) -> Option<Found>
     requires good_cursor { GoodCursor lengths.now bytes.now c }
     requires image_value { c.image ≡ true }
     ensures { DidFind lengths.now bytes.now c result }
@@ -101,17 +87,17 @@ fn next_read(lengths: &[u64], bytes: &[u8], c: Cursor) -> Found
         return next_far(lengths, bytes, c);
     }
     let word = word_of(v.format);
-    Found {
-        from: v.at + word,
+    Some(Found {
+        shape: Shape::Piece(v.at + word),
         len: k - word,
         at: v.at + k,
         left: v.left - k,
-        kind: WHOLE,
-    }
+    })
 }
 
 // The next record of a file: of an image, or of a sheet, whose lengths say where it ends.
-pub(crate) fn next(lengths: &[u64], bytes: &[u8], c: Cursor) -> Found
+#[tactic(auto, using(crate::proofs::Sources::listed))]
+pub(crate) fn next(lengths: &[u64], bytes: &[u8], c: Cursor) -> Option<Found>
     requires { GoodCursor lengths.now bytes.now c }
     ensures { DidFind lengths.now bytes.now c result }
 {
@@ -120,20 +106,20 @@ pub(crate) fn next(lengths: &[u64], bytes: &[u8], c: Cursor) -> Found
     }
     let left = c.left;
     if left == 0 {
-        return nothing();
+        return None;
     }
     let i = c.stop - left;
     let n = lengths[i] as usize;
-    Found {
-        from: c.at,
+    Some(Found {
+        shape: Shape::Piece(c.at),
         len: n,
         at: c.at + n,
         left: left - 1,
-        kind: WHOLE,
-    }
+    })
 }
 
 // The place at which a file ends whose records are all found.
+#[tactic(auto, unfolding(crate::specs::Code::Source::stop_of, base::specs::If::if_b))]
 pub(crate) fn stop_of(lengths: &[u64], bytes: &[u8], c: Cursor) -> usize
     requires good_cursor { GoodCursor lengths.now bytes.now c }
     requires c_value { stop_of c ≡ end_at lengths.now bytes.now c }

@@ -7,10 +7,9 @@ ghost use Rattle.writer.specs.Code.Source.{split_bytes, SplitHere};
 ghost use Rattle.writer.specs.Code.Segments.{behind_of, HasRest, DidSegment};
 
 use crate::pack::{Flow, put_pieces};
-use crate::pen::Pen;
+use crate::pen::{Job, Pen};
 use crate::source::{Cursor, walk_of};
-use content::{Taken, Walk, first_segment, next_segment};
-use sections::Labels;
+use content::{Walk, first_segment, next_segment};
 
 // A segment of a record: where it stands, and its length; the place behind it, and what is left of its block there.
 #[derive(Clone, Copy)]
@@ -27,60 +26,59 @@ fn first_of(bytes: &[u8], c: Cursor, n: usize) -> Segment
     ensures { DidSegment bytes.now c (split_bytes bytes.now c) result }
 {
     match first_segment(bytes, walk_of(c)) {
-        Taken::Nothing => Segment {
+        None => Segment {
             from: 0,
             len: 0,
             at: 0,
             left: 0,
         },
-        Taken::One(_, from, len, v) => Segment {
-            from,
-            len,
-            at: v.at,
-            left: v.left,
+        Some(first) => Segment {
+            from: first.start,
+            len: first.len,
+            at: first.behind.at,
+            left: first.behind.left,
         },
     }
 }
 
 // The segment behind another, where the record goes on.
+#[tactic(auto, using(crate::proofs::Splits::nexts))]
 fn next_of(bytes: &[u8], c: Cursor, g: Segment) -> Segment
     requires { HasRest bytes.now (behind_of c g) }
     ensures did_segment { DidSegment bytes.now c (bytes_behind bytes.now (behind_of c g)) result }
     ensures at_lt_at { g.at < result.at }
 {
     let w = Walk {
-        format: c.format,
-        record_length: c.record_length,
-        offset: c.offset,
         at: g.at,
         left: g.left,
+        ..walk_of(c)
     };
     match next_segment(bytes, w) {
-        Taken::Nothing => g,
-        Taken::One(_, from, len, v) => Segment {
-            from,
-            len,
-            at: v.at,
-            left: v.left,
+        None => g,
+        Some(next) => Segment {
+            from: next.start,
+            len: next.len,
+            at: next.behind.at,
+            left: next.behind.left,
         },
     }
 }
 
 // Packs the record of n bytes that stands at a cursor in several segments.
+#[tactic(auto, using(crate::proofs::Splits::splits))]
 pub(crate) fn put_split(
     f: u8,
     b: usize,
     bytes: &[u8],
     c: Cursor,
     n: usize,
-    labels: &Labels,
-    rooms: &[u64],
+    job: &Job,
     p: Pen,
     out: &mut [u8],
     lay: bool,
 ) -> Pen
-    requires { CanSplit lay f b (job_of labels.now rooms.now) bytes.now c n p out.old }
-    ensures { DidPutRecord lay f b (job_of labels.now rooms.now) (split_bytes bytes.now c) p out.old out.new result }
+    requires { CanSplit lay f b (job_of job.now) bytes.now c n p out.old }
+    ensures { DidPutRecord lay f b (job_of job.now) (split_bytes bytes.now c) p out.old out.new result }
 {
     let mut g = first_of(bytes, c, n);
     let mut s = Flow {
@@ -88,14 +86,14 @@ pub(crate) fn put_split(
         left: n,
         seg: 0,
         from: 0,
-        begun: 0,
+        begun: false,
         inside: false,
         on: true,
     };
     loop {
         let from = g.from;
         let end = from + g.len;
-        let t = put_pieces(f, b, &bytes[from..end], labels, rooms, s, out, lay);
+        let t = put_pieces(f, b, &bytes[from..end], job, s, out, lay);
         let pen = t.pen;
         if pen.short {
             return pen;
@@ -104,13 +102,9 @@ pub(crate) fn put_split(
             return pen;
         }
         s = Flow {
-            pen,
-            left: t.left,
-            seg: t.seg,
             from: 0,
-            begun: t.begun,
-            inside: t.inside,
             on: true,
+            ..t
         };
         g = next_of(bytes, c, g);
     }

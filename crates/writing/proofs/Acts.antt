@@ -1,5 +1,6 @@
 -- The items that the writer lays, read one at a time: each is due where it stands and has no fault, and this is the state behind
 -- it. Assumes nothing.
+use Rattle.std.specs.Prelude.{Option, Some}
 use mathlib.Core.Path.{◌≡◌, refl, sym, ap, ◌∙◌}
 use mathlib.Core.Bool.{Bool, true, false}
 use mathlib.Core.List.{List, [], ◌∷◌, ◌++◌}
@@ -15,15 +16,12 @@ use Rattle.base.specs.Part.{same}
 use Rattle.base.specs.Answer.{fault, or_else}
 use Rattle.base.specs.declared.Fault.{Fault}
 use Rattle.charset.specs.Number.{number_in}
-use Rattle.charset.specs.declared.Number.{Number}
-use Rattle.charset.specs.declared.Number.TheVariants.{Value}
 use Rattle.image.specs.Item.{block, mark, reel_end}
 use Rattle.order.specs.Kind.{vol, hdr, eov, eof, data_block, tape_mark, end_of_reel, is_kind}
 use Rattle.order.specs.Due.{dues, choose, up_to_nine, due_after}
 use Rattle.order.specs.declared.Kind.{Kind}
 use Rattle.order.specs.declared.Phase.{Phase}
 use Rattle.order.specs.declared.Phase.TheVariants.{Reel, Volume, FirstHeader, Header, Data, Trailer, FirstEof, Eof, FirstEov, Eov}
-use Rattle.order.specs.declared.Due.TheVariants.{To}
 use Rattle.label.specs.Name.{hdr1_name, hdr2_name, eov1_name, eov2_name, eof1_name, eof2_name, kind_of}
 use Rattle.label.specs.Field.{volume_of, set_of, section_of, sequence_of, count_of}
 use Rattle.label.specs.Table.{fields_of}
@@ -47,7 +45,7 @@ at phase names files continues first second count pending =
 
 -- a label that is due and has no fault
 labelled : (s : State) (l : List ℕ) (k : Kind) (p : Phase) → is_due (due_after s.phase data_block) ≡ false → kind_of l ≡ k
-    → due_after s.phase k ≡ To p
+    → due_after s.phase k ≡ Some p
     → (label_fault k l).number ≡ 0 → (context_fault s k l).number ≡ 0 → step s (block l) ≡ go (state_after s p k l) (events_of s k l)
 unfolding step ordered judged kind_in bytes_in item_fault or_else
 labelled s l k p d e h a c =
@@ -58,13 +56,13 @@ labelled s l k p d e h a c =
 
 -- ---- marks and ends of reels
 
-pub act_mark : (p z : Phase) (names : List (List ℕ)) (files : ℕ) (on : Bool) (f s : List ℕ) (c o : ℕ) → due_after p tape_mark ≡ To z
+pub act_mark : (p z : Phase) (names : List (List ℕ)) (files : ℕ) (on : Bool) (f s : List ℕ) (c o : ℕ) → due_after p tape_mark ≡ Some z
     → step (at p names files on f s c o) mark ≡ go (at z names files on f s c o) []
 unfolding step ordered judged kind_in bytes_in item_fault or_else label_fault field_fault fields_of first_bad access_of access_at context_fault fault is_kind if_b state_after volumes_after files_after continues_after hdr1_after hdr2_after count_after pending_after events_of
 act_mark p z names files on f s c o h = ap (ordered (at p names files on f s c o) tape_mark []) h
 
 pub act_reel_end : (p z : Phase) (names : List (List ℕ)) (files : ℕ) (on : Bool) (f s : List ℕ) (c o : ℕ)
-    → due_after p end_of_reel ≡ To z
+    → due_after p end_of_reel ≡ Some z
     → step (at p names files on f s c o) reel_end ≡ go (at z names files on f s c o) []
 unfolding step ordered judged kind_in bytes_in item_fault or_else label_fault field_fault fields_of first_bad access_of access_at context_fault fault is_kind if_b state_after volumes_after files_after continues_after hdr1_after hdr2_after count_after pending_after events_of
 act_reel_end p z names files on f s c o h = ap (ordered (at p names files on f s c o) end_of_reel []) h
@@ -98,7 +96,7 @@ new_place : (files : ℕ) (set e f : List ℕ) → GoodFirst set e → OneSet fi
     → new_file_place files f (made_first hdr1_name set e 1 (suc files) 0) ≡ 0
 unfolding new_file_place says
 new_place files set e f g one few =
-    let sequence : sequence_of (made_first hdr1_name set e 1 (suc files) 0) ≡ Value (suc files) = sequence_back hdr1_name set e 1 (suc files) 0 (omega arith) in
+    let sequence : sequence_of (made_first hdr1_name set e 1 (suc files) 0) ≡ Some (suc files) = sequence_back hdr1_name set e 1 (suc files) 0 (omega arith) in
     if_true _ _ _ (ap (λ (x : List ℕ). if_b (eqb files 0) true (same x (set_of f))) (set_back hdr1_name set e 1 (suc files) 0 g.six)
     ∙ one)
     ∙ if_true _ _ _ (ap (says 1) (section_back hdr1_name set e 1 (suc files) 0 (omega arith)))
@@ -121,7 +119,7 @@ unfolding file_fault
 file_few files h = if_false _ _ _ (lt-leb 64 files h)
 
 pub act_header : (p : Phase) (names : List (List ℕ)) (files : ℕ) (f s : List ℕ) (c o : ℕ) (set e : List ℕ)
-    → is_due (due_after p data_block) ≡ false → due_after p (hdr 1) ≡ To FirstHeader → GoodFirst set e → OneSet files set f
+    → is_due (due_after p data_block) ≡ false → due_after p (hdr 1) ≡ Some FirstHeader → GoodFirst set e → OneSet files set f
     → files < 64
     → step (at p names files false f s c o) (block (made_first hdr1_name set e 1 (suc files) 0))
     ≡ go (at FirstHeader names files false (made_first hdr1_name set e 1 (suc files) 0) s 0 o) []
@@ -136,13 +134,13 @@ later_place_lem : (set e : List ℕ) (a q : ℕ) → a < 9999
     → later_place (made_first hdr1_name set e a q 0) (made_first hdr1_name set e (suc a) q 0) ≡ 0
 unfolding later_place lower says value_of if_b
 later_place_lem set e a q h =
-    let before : section_of (made_first hdr1_name set e a q 0) ≡ Value a = section_back hdr1_name set e a q 0 (omega arith) in
-    let here : section_of (made_first hdr1_name set e (suc a) q 0) ≡ Value (suc a) = section_back hdr1_name set e (suc a) q 0 (omega arith) in
+    let before : section_of (made_first hdr1_name set e a q 0) ≡ Some a = section_back hdr1_name set e a q 0 (omega arith) in
+    let here : section_of (made_first hdr1_name set e (suc a) q 0) ≡ Some (suc a) = section_back hdr1_name set e (suc a) q 0 (omega arith) in
     ap (λ (n : ℕ). lower n
     (if_b (says (value_of (section_of (made_first hdr1_name set e a q 0)) + 1) (section_of (made_first hdr1_name set e (suc a) q 0))) 0 28))
     (section_agrees set e a (suc a) q)
-    ∙ ap (λ (n : Number). if_b (says (value_of n + 1) (section_of (made_first hdr1_name set e (suc a) q 0))) 0 28) before
-    ∙ ap (λ (n : Number). if_b (says (a + 1) n) 0 28) here
+    ∙ ap (λ (n : Option ℕ). if_b (says (value_of n + 1) (section_of (made_first hdr1_name set e (suc a) q 0))) 0 28) before
+    ∙ ap (λ (n : Option ℕ). if_b (says (a + 1) n) 0 28) here
     ∙ ap (λ (t : Bool). if_b t 0 28) (eq-eqb (suc a) (a + 1) (sym (add-one a)))
 
 pub act_header_later : (names : List (List ℕ)) (files : ℕ) (s : List ℕ) (c o : ℕ) (set e : List ℕ) (a q : ℕ) → GoodFirst set e
@@ -184,7 +182,7 @@ trailer_fault : (name set e : List ℕ) (a q c : ℕ) → c < 1000000
 unfolding trailer1_fault lower says if_b
 trailer_fault name set e a q c h =
     ap (λ (n : ℕ). crossed (lower n (if_b (says c (count_of (made_first name set e a q c))) 0 55))) (trailer_agrees name set e a q c)
-    ∙ ap (λ (n : Number). crossed (if_b (says c n) 0 55)) (count_back name set e a q c h)
+    ∙ ap (λ (n : Option ℕ). crossed (if_b (says c n) 0 55)) (count_back name set e a q c h)
     ∙ ap (λ (t : Bool). crossed (if_b t 0 55)) (eq-eqb c c refl)
     ∙ crossed_none
 

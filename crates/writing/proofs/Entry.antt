@@ -1,5 +1,6 @@
 -- What a legal file's entry gives: good labels, lengths that suit each other, and the entry again from the labels made of it.
 -- Assumes nothing.
+use Rattle.std.specs.Prelude.{Option, Some, None}
 use mathlib.Core.Path.{◌≡◌, refl, sym, ap, ap₂, ◌∙◌, subst}
 use mathlib.Core.Bool.{Bool, true, false, false≢true, ◌||◌}
 use mathlib.Core.List.{List, [], ◌∷◌, ◌++◌}
@@ -15,8 +16,6 @@ use Rattle.base.specs.Digits.{is_digit, all_digits, value}
 use Rattle.base.proofs.Bytes.{same_true}
 use Rattle.base.proofs.Parts.{length_part}
 use Rattle.charset.specs.Number.{number_in}
-use Rattle.charset.specs.declared.Number.{Number}
-use Rattle.charset.specs.declared.Number.TheVariants.{Value, Wrong}
 use Rattle.charset.proofs.Digits.{digit_low, digit_high}
 use Rattle.charset.proofs.Numbers.{power_more}
 use Rattle.order.specs.Kind.{hdr}
@@ -74,8 +73,8 @@ value_below (x ∷ s) n i h =
 five_digits : (s : List ℕ) → length s ≡ 5 → value_of (number_in s) ≤ 99999
 unfolding number_in value_of
 five_digits s h =
-    if_case (λ (n : Number). value_of n ≤ 99999) (leb (length s) 9) _ Wrong
-    (λ a. if_case (λ (n : Number). value_of n ≤ 99999) (all_digits s) (Value (value 0 s)) Wrong
+    if_case (λ (n : Option ℕ). value_of n ≤ 99999) (leb (length s) 9) _ None
+    (λ a. if_case (λ (n : Option ℕ). value_of n ≤ 99999) (all_digits s) (Some (value 0 s)) None
     (λ d. let v : value 0 s < 10 ^ (0 + length s) = value_below s 0 0 (omega arith) d in
     let five : 0 + length s ≡ 5 = omega arith in
     let w : value 0 s < 100000 = subst (λ (k : ℕ). value 0 s < 10 ^ k) five v in
@@ -83,12 +82,12 @@ five_digits s h =
     (λ d. omega arith))
     (λ a. omega arith)
 
-lengths_suit : (f : ℕ) (b r : Number) → is_positive b ≡ true → is_record_length f b r (Value 0) ≡ true
+lengths_suit : (f : ℕ) (b r : Option ℕ) → is_positive b ≡ true → is_record_length f b r (Some 0) ≡ true
     → suits f (value_of b) (value_of r) 0 ≡ true
 unfolding is_positive is_record_length is_length suits_both value_of
-lengths_suit f Wrong r p h = absurd (false≢true p)
-lengths_suit f (Value b) Wrong p h = absurd (false≢true h)
-lengths_suit f (Value b) (Value r) p h = both (leb (least_record f) r) (suits f b r 0) (λ _ q. q) h
+lengths_suit f None r p h = absurd (false≢true p)
+lengths_suit f (Some b) None p h = absurd (false≢true h)
+lengths_suit f (Some b) (Some r) p h = both (leb (least_record f) r) (suits f b r 0) (λ _ q. q) h
 
 format_one : (e : List ℕ) → is_format (format_in e) ≡ true → Format (format_from e)
 unfolding is_format format_from

@@ -1,6 +1,7 @@
 -- The labels that the writer makes, as they are read: that they have no fault by themselves, that a trailer and a later section
 -- equal their header, and what is read of them. A label differs from the one that the order sheet is judged by in few fields, and
 -- of each of these its row is asked. Assumes nothing.
+use Rattle.std.specs.Prelude.{Some}
 use mathlib.Core.Path.{◌≡◌, refl, sym, ap, ◌∙◌}
 use mathlib.Core.Bool.{true, false≢true}
 use mathlib.Core.List.{List}
@@ -15,7 +16,6 @@ use Rattle.base.specs.Answer.{fault}
 use Rattle.base.proofs.Numbers.{length_digits}
 use Rattle.base.proofs.Parts.{length_part}
 use Rattle.charset.specs.Number.{number_in}
-use Rattle.charset.specs.declared.Number.TheVariants.{Value}
 use Rattle.charset.proofs.Digits.{digits_digits}
 use Rattle.charset.proofs.Numbers.{number_digits}
 use Rattle.order.specs.Kind.{hdr, eov, eof, is_kind}
@@ -100,15 +100,15 @@ file_end_kind set e a q c = kind_first eof1_name set e a q c (eof 1) refl refl r
 -- ---- what is read of it
 
 module _ (name set e : List ℕ) (a q c : ℕ) where
-  pub section_back : a < 10000 → section_of (made_first name set e a q c) ≡ Value a
+  pub section_back : a < 10000 → section_of (made_first name set e a q c) ≡ Some a
   unfolding section_of
   section_back h = ap number_in (first_field name set e a q c section_row (length_digits 4 a)) ∙ number_digits 4 a (omega arith) h
 
-  pub sequence_back : q < 10000 → sequence_of (made_first name set e a q c) ≡ Value q
+  pub sequence_back : q < 10000 → sequence_of (made_first name set e a q c) ≡ Some q
   unfolding sequence_of
   sequence_back h = ap number_in (first_field name set e a q c sequence_row (length_digits 4 q)) ∙ number_digits 4 q (omega arith) h
 
-  pub count_back : c < 1000000 → count_of (made_first name set e a q c) ≡ Value c
+  pub count_back : c < 1000000 → count_of (made_first name set e a q c) ≡ Some c
   unfolding count_of
   count_back h = ap number_in (first_field name set e a q c count_row (length_digits 6 c)) ∙ number_digits 6 c (omega arith) h
 
@@ -193,14 +193,14 @@ pub record_back : (name e : List ℕ) → length e ≡ 46 → record_length_of (
 unfolding record_length_of
 record_back name e h = ap number_in (second_record name e h)
 
-pub offset_back : (name e : List ℕ) → offset_of (made_second name e) ≡ Value 0
+pub offset_back : (name e : List ℕ) → offset_of (made_second name e) ≡ Some 0
 unfolding offset_of
 offset_back name e =
     ap number_in (second_field name e offset_row (length_digits 2 0)) ∙ number_digits 2 0 (omega arith) (omega arith)
 
 length_back : (name e : List ℕ) → length e ≡ 46
     → has_record_length (made_second name e)
-    ≡ is_record_length (format_from e) (number_in (block_length_in e)) (number_in (record_length_in e)) (Value 0)
+    ≡ is_record_length (format_from e) (number_in (block_length_in e)) (number_in (record_length_in e)) (Some 0)
 unfolding has_record_length
 length_back name e h = rw (format_back name e h, block_back name e h, record_back name e h, offset_back name e)
 
@@ -210,7 +210,7 @@ pub record GoodSecond (e : List ℕ) : Type 0 where
   pub fine : wrong_in (made_second hdr2_name e) hdr2 ≡ 0
   pub format : is_format (format_in e) ≡ true
   pub block_length : is_positive (number_in (block_length_in e)) ≡ true
-  pub record_length : is_record_length (format_from e) (number_in (block_length_in e)) (number_in (record_length_in e)) (Value 0) ≡ true
+  pub record_length : is_record_length (format_from e) (number_in (block_length_in e)) (number_in (record_length_in e)) (Some 0) ≡ true
 
 pub good_second : (e : List ℕ) → length e ≡ 46 → (label_fault (hdr 2) (made_second hdr2_name e)).number ≡ 0 → GoodSecond e
 unfolding fields_of is_kind if_b good_at good

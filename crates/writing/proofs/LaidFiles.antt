@@ -1,4 +1,5 @@
 -- What is laid down of a file, and of all files, is read again. Assumes nothing.
+use Rattle.std.specs.Prelude.{Some}
 use mathlib.Core.Path.{◌≡◌, refl, sym, ap, ap₂, ◌∙◌, subst}
 use mathlib.Core.Bool.{Bool, true, false, false≢true}
 use mathlib.Core.List.{List, [], ◌∷◌, ◌++◌, map, append_assoc, append-nil}
@@ -18,7 +19,6 @@ use Rattle.order.specs.Kind.{hdr, vol, data_block, end_of_image, is_kind}
 use Rattle.order.specs.Due.{dues, choose, up_to_nine, due_after}
 use Rattle.order.specs.declared.Phase.{Phase}
 use Rattle.order.specs.declared.Phase.TheVariants.{FirstHeader, Data, FileEnd, SetClosed, Over}
-use Rattle.order.specs.declared.Due.TheVariants.{To}
 use Rattle.label.specs.Name.{hdr1_name, hdr2_name}
 use Rattle.label.specs.Judged.{label_fault}
 use Rattle.label.specs.Made.{made_volume, made_first, made_second}
@@ -221,7 +221,7 @@ module _ (set : List ℕ) where
   -- one file, where what is laid behind it is read to its end
   pub file_ends : (d : File) (ds : List File) (p : Phase) (files room r c : ℕ) (used : List (List ℕ)) (left : List Reel)
       (f s : List ℕ)
-      → is_due (due_after p data_block) ≡ false → due_after p (hdr 1) ≡ To FirstHeader → OneSet files set f → files < 64
+      → is_due (due_after p data_block) ≡ false → due_after p (hdr 1) ≡ Some FirstHeader → OneSet files set f → files < 64
       → legal_entry set d.fields ≡ true
       → legal_records (format_from d.fields) (record_length_from d.fields) d.records ≡ true
       → ReelsRead r used left → room ≤ 999999

@@ -1,4 +1,5 @@
 -- Items that are laid down are read to the end. Assumes nothing.
+use Rattle.std.specs.Prelude.{Some}
 use mathlib.Core.Path.{◌≡◌, refl, sym, ap, ◌∙◌, subst}
 use mathlib.Core.Bool.{Bool, true, false}
 use mathlib.Core.List.{List, [], ◌∷◌, ◌++◌}
@@ -17,7 +18,6 @@ use Rattle.order.specs.Kind.{hdr, vol, data_block, is_kind}
 use Rattle.order.specs.Due.{dues, choose, up_to_nine, due_after}
 use Rattle.order.specs.declared.Phase.{Phase}
 use Rattle.order.specs.declared.Phase.TheVariants.{Reel as ReelDue, FirstHeader, Header, Data, Trailer, Eof, Eov, FileEnd, VolumeEnd, ReelClosed}
-use Rattle.order.specs.declared.Due.TheVariants.{To}
 use Rattle.label.specs.Name.{hdr1_name, hdr2_name, eov1_name, eov2_name, eof1_name, eof2_name}
 use Rattle.label.specs.Judged.{label_fault}
 use Rattle.label.specs.Made.{made_volume, made_first, made_second}
@@ -117,7 +117,7 @@ ends_put s t r q ys short P Q more k m h xs e = absurd (subst IsLaid (sym e) tt)
 -- the headers of a file's first section
 pub read_headers : (p : Phase) (names : List (List ℕ)) (files : ℕ) (f s : List ℕ) (c r : ℕ) (set e : List ℕ) (xs : List Item)
     (es : List Event)
-    → is_due (due_after p data_block) ≡ false → due_after p (hdr 1) ≡ To FirstHeader → GoodFirst set e → GoodSecond e
+    → is_due (due_after p data_block) ≡ false → due_after p (hdr 1) ≡ Some FirstHeader → GoodFirst set e → GoodSecond e
     → OneSet files set f → files < 64 → r < 16
     → ReadTo (at Data names (suc files) false (made_first hdr1_name set e 1 (suc files) 0) (made_second hdr2_name e) 0 0) r xs es
     → ReadTo (at p names files false f s c 0) r (headers set e 1 (suc files) ++ xs)

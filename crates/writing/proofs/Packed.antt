@@ -1,8 +1,8 @@
 -- One block that was packed: its units, and their turns. Assumes nothing.
+use Rattle.std.specs.Prelude.{Option, Some, None}
 use mathlib.Core.Path.{◌≡◌, refl, sym, ap, ◌∙◌, subst}
 use mathlib.Core.Bool.{Bool, true, false}
 use mathlib.Core.List.{List, [], ◌∷◌, ◌++◌, append-nil}
-use mathlib.Core.Option.{Option, none, some}
 use Prim.Native.Nat.{ℕ, ◌+◌, ◌-◌, ◌≤◌}
 use native.Mathlib.Omega.{arith}
 use borrow.Author.Tests.{eq-eqb, ne_eqb, le-leb}
@@ -13,8 +13,7 @@ use Rattle.base.specs.Part.{all_are}
 use Rattle.block.specs.Unit.{pad, unit_of}
 use Rattle.block.specs.Cut.{Segment, onto, cut}
 use Rattle.block.specs.Turn.{outcome, is_turn, open_after, turns_from}
-use Rattle.block.specs.declared.Unit.{Unit as Piece}
-use Rattle.block.specs.declared.Unit.TheVariants.{Of, None}
+use Rattle.block.specs.declared.Unit.{Unit}
 use Rattle.block.proofs.Units.{unit_stands}
 use Rattle.block.proofs.Cuts.{cut_end}
 use Rattle.reading.specs.Legal.{legal_record, legal_records}
@@ -117,14 +116,14 @@ goes_on f r t o k head x form (begun z _ s n q) e m d =
       begun refl e (omega arith) rest refl,
     )
 
-pub cut_nothing : (f r : ℕ) → cut f r [] ≡ some []
+pub cut_nothing : (f r : ℕ) → cut f r [] ≡ Some []
 cut_nothing f r = cut_end f r [] (no_unit (unit_of f r []) refl) ∙ all
   where
-    all : if_b {A = Option (List Segment)} (all_are pad []) (some []) none ≡ some []
+    all : if_b {A = Option (List Segment)} (all_are pad []) (Some []) None ≡ Some []
     all = unfold all_are if_b in refl
 
-    no_unit : (v : Piece) → unit_of f r [] ≡ v → unit_of f r [] ≡ None
-    no_unit (Of i w n) e = let c = unit_stands f r [] i w n e in absurd (omega arith)
+    no_unit : (v : Option Unit) → unit_of f r [] ≡ v → unit_of f r [] ≡ None
+    no_unit (Some u) e = let c = unit_stands f r [] u.indicator u.word u.len e in absurd (omega arith)
     no_unit None e = e
 
 ready_first : (f r t o : ℕ) (head : Bool) (x : List ℕ) → UnitReady f r t o head x → UnitReady f r t o true x
@@ -133,7 +132,7 @@ ready_first f r t o head x (begun z e s m q) = begun z e s m refl
 
 -- what the open block still gets is cut to its segments, is within the block length, and stands in its turns
 pub record Filled (f b r u o : ℕ) (head : Bool) (c : List ℕ) (l : Left) (g : List Segment) : Type 0 where
-  pub cuts : cut f r c ≡ some g
+  pub cuts : cut f r c ≡ Some g
   pub within : u + length c ≤ b
   pub opens : ℕ
   pub turns : turns_from r o head g ≡ outcome 0 opens
@@ -145,7 +144,7 @@ Fills f b r u t x xs c l g =
 
 -- the one segment of a unit that closes the block
 cut_one_lem : (f b r u t o : ℕ) (head : Bool) (x : List ℕ) → Format f → UnitReady f r t o head x → enters f b u (length x) ≡ true
-    → cut f r (unit_in f b u t x) ≡ some (segment_in f b u t x ∷ [])
+    → cut f r (unit_in f b u t x) ≡ Some (segment_in f b u t x ∷ [])
 unfolding onto
 cut_one_lem f b r u t o head x form ready e =
     ap (cut f r) (sym (append-nil (unit_in f b u t x)))

@@ -1,8 +1,8 @@
 -- All blocks of a file hold its records again. Assumes nothing.
+use Rattle.std.specs.Prelude.{Option, Some, None}
 use mathlib.Core.Path.{◌≡◌, refl, sym, ap, ap₂, ◌∙◌, subst}
 use mathlib.Core.Bool.{Bool, true, false, false≢true}
 use mathlib.Core.List.{List, [], ◌∷◌, ◌++◌}
-use mathlib.Core.Option.{Option, none, some}
 use Prim.Native.Nat.{ℕ, zero, suc, ◌+◌, ◌≤◌, ◌<◌}
 use native.Mathlib.Omega.{arith}
 use borrow.Author.Tests.{eq-eqb, ne_eqb, leb-true, le-leb}
@@ -74,10 +74,10 @@ joins f b =
     whole f b u x k = let long : length x ≤ taken f b u (length x) = omega arith in take_all (taken f b u (length x)) x long
 
 -- a block that a unit enters has a unit
-abbrev Some : ℕ → ℕ → UnitSaid
-Some f b u t x xs c l g = enters f b u (length x) ≡ true → some_units (some g) ≡ some g
+abbrev SomeUnits : ℕ → ℕ → UnitSaid
+SomeUnits f b u t x xs c l g = enters f b u (length x) ≡ true → some_units (Some g) ≡ Some g
 
-somes : (f b : ℕ) → Ways f b (Some f b)
+somes : (f b : ℕ) → Ways f b (SomeUnits f b)
 unfolding some_units
 somes f b =
     record {
@@ -130,7 +130,7 @@ legal_room f b r (x ∷ xs) s h =
 
 -- a block as it is read: its segments, which leave p open behind o
 pub record Block (f b r o p : ℕ) (c : List ℕ) (g : List Segment) : Type 0 where
-  pub cuts : units f b r 0 c ≡ some g
+  pub cuts : units f b r 0 c ≡ Some g
   pub turns : turns_from r o true g ≡ outcome 0 p
   pub item : is_item (block c) ≡ true
 
@@ -151,10 +151,10 @@ Blocks f b r o (c ∷ cs) [] = ⊥
 Blocks f b r o (c ∷ cs) (g ∷ gs) = (p : ℕ) × Block f b r o p c g × Blocks f b r p cs gs
 
 abbrev Absent : Option (List Segment) → Type 0
-Absent none = Unit {0}
-Absent (some g) = ⊥
+Absent None = Unit {0}
+Absent (Some g) = ⊥
 
-unequal : (g : List Segment) → none ≡ some g → ⊥
+unequal : (g : List Segment) → None ≡ Some g → ⊥
 unequal g e = subst Absent e tt
 
 first_block : (f b r t o : ℕ) (x : List ℕ) (xs : List (List ℕ)) → Suited f b r → UnitReady f r t o true x
@@ -165,7 +165,7 @@ first_block f b r t o x xs s ready legal =
     let c : List ℕ = fill f b 0 t x xs in
     let g : List Segment = segments_from f b 0 t x xs in
     let a : Filled f b r 0 o true c (after f b 0 t x xs) g = by_ways f b (Fills f b r) (fills f b r s.format) 0 t x xs o true ready legal (omega arith) in
-    let one : some_units (some g) ≡ some g = by_ways f b (Some f b) (somes f b) 0 t x xs (ready_enters f b r t o true x s ready) in
+    let one : some_units (Some g) ≡ Some g = by_ways f b (SomeUnits f b) (somes f b) 0 t x xs (ready_enters f b r t o true x s ready) in
     let within : 0 + length c ≤ b = a.within in
     let most : b ≤ 99999 = s.most in (
       a.opens,
@@ -179,10 +179,10 @@ first_block f b r t o x xs s ready legal =
       a.left,
     )
   where
-    some_bytes : (f r : ℕ) (c : List ℕ) (g : List Segment) → cut f r c ≡ some g → some_units (some g) ≡ some g → 1 ≤ length c
+    some_bytes : (f r : ℕ) (c : List ℕ) (g : List Segment) → cut f r c ≡ Some g → some_units (Some g) ≡ Some g → 1 ≤ length c
     some_bytes f r [] g e q = absurd (unequal g (nothing ∙ ap some_units (sym (cut_nothing f r) ∙ e) ∙ q))
       where
-        nothing : none ≡ some_units (some [])
+        nothing : None ≡ some_units (Some [])
         nothing = unfold some_units in refl
     some_bytes f r (y ∷ c) g e q = omega arith
 

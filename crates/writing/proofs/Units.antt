@@ -1,4 +1,5 @@
 -- A unit that the writer makes is read back, whatever follows it. Assumes nothing.
+use Rattle.std.specs.Prelude.{Some}
 use mathlib.Core.Path.{◌≡◌, refl, sym, ap, ◌∙◌}
 use mathlib.Core.Bool.{Bool, true, false, not, false≢true}
 use mathlib.Core.List.{List, [], ◌∷◌, ◌++◌, append_assoc}
@@ -14,12 +15,10 @@ use Rattle.base.specs.Part.{part, all_are}
 use Rattle.base.specs.Digits.{digits}
 use Rattle.base.proofs.Numbers.{length_digits}
 use Rattle.charset.specs.Number.{number_in}
-use Rattle.charset.specs.declared.Number.TheVariants.{Value}
 use Rattle.charset.proofs.Numbers.{number_digits}
-use Rattle.block.specs.Unit.{pad, fixed, measured, variable, segment, unit_of, word_of}
+use Rattle.block.specs.Unit.{pad, fixed, measured, variable, segment, unit_of, word_of, one_unit}
 use Rattle.block.proofs.Wholes.{word_fixed, word_variable, word_segmented}
 use Rattle.block.specs.Cut.{segment_of, onto, cut}
-use Rattle.block.specs.declared.Unit.TheVariants.{Of}
 use Rattle.block.proofs.Cuts.{cut_unit}
 use Rattle.reading.specs.Legal.{legal_record}
 use Rattle.writing.specs.Pack.{control_word, unit_in}
@@ -28,7 +27,7 @@ use Rattle.writing.proofs.Packing.{by_test, Entered, entered, taken_whole, segme
 
 -- ---- a unit of each format, followed by any bytes
 
-fixed_back : (r : ℕ) (x s : List ℕ) → length x ≡ r → all_are pad x ≡ false → fixed r (x ++ s) ≡ Of 0 0 r
+fixed_back : (r : ℕ) (x s : List ℕ) → length x ≡ r → all_are pad x ≡ false → fixed r (x ++ s) ≡ one_unit 0 0 r
 unfolding fixed
 fixed_back r x s h e =
     let long : r ≤ length (x ++ s) = simp length-append (omega arith) in
@@ -43,12 +42,12 @@ fixed_back r x s h e =
         none = unfold all_are in refl
     some (a ∷ y) k q z = omega arith
 
-measured_back : (i w m l n : ℕ) → w ≤ n → n ≤ m → n ≤ l → measured i w m l (Value n) ≡ Of i w (n - w)
+measured_back : (i w m l n : ℕ) → w ≤ n → n ≤ m → n ≤ l → measured i w m l (Some n) ≡ one_unit i w (n - w)
 unfolding measured
 measured_back i w m l n a b c = if_true _ _ _ (le-leb w n a) ∙ if_true _ _ _ (le-leb n m b) ∙ if_true _ _ _ (le-leb n l c)
 
 variable_back : (r k : ℕ) (x s : List ℕ) → length x ≡ k → k + 4 ≤ r → k + 4 ≤ 9999
-    → variable r (digits 4 (k + 4) ++ x ++ s) ≡ Of 0 4 k
+    → variable r (digits 4 (k + 4) ++ x ++ s) ≡ one_unit 0 4 k
 unfolding variable part
 variable_back r k x s h most small =
     let word : length (digits 4 (k + 4)) ≡ 4 = length_digits 4 (k + 4) in
@@ -59,10 +58,10 @@ variable_back r k x s h most small =
     ap (λ (l : List ℕ). measured 0 4 r (length (digits 4 (k + 4) ++ x ++ s)) (number_in l)) front
     ∙ ap (measured 0 4 r (length (digits 4 (k + 4) ++ x ++ s))) (number_digits 4 (k + 4) (omega arith) (omega arith))
     ∙ measured_back 0 4 r _ (k + 4) (omega arith) most long
-    ∙ ap (Of 0 4) back
+    ∙ ap (one_unit 0 4) back
 
 segment_back : (i k : ℕ) (x s : List ℕ) → i ≤ 3 → length x ≡ k → k ≤ 9994
-    → segment ((48 + i) ∷ digits 4 (k + 5) ++ x ++ s) ≡ Of i 5 k
+    → segment ((48 + i) ∷ digits 4 (k + 5) ++ x ++ s) ≡ one_unit i 5 k
 unfolding segment part
 segment_back i k x s j h small =
     let word : length (digits 4 (k + 5)) ≡ 4 = length_digits 4 (k + 5) in
@@ -77,8 +76,8 @@ segment_back i k x s j h small =
     ∙ ap (measured (48 + i - 48) 5 9999 (suc (length (digits 4 (k + 5) ++ x ++ s))))
     (number_digits 4 (k + 5) (omega arith) (omega arith))
     ∙ measured_back (48 + i - 48) 5 9999 _ (k + 5) (omega arith) (omega arith) long
-    ∙ ap (λ (j : ℕ). Of j 5 (k + 5 - 5)) same
-    ∙ ap (Of i 5) back
+    ∙ ap (λ (j : ℕ). one_unit j 5 (k + 5 - 5)) same
+    ∙ ap (one_unit i 5) back
 
 -- ---- the format and the record
 
@@ -174,12 +173,12 @@ length_unit f b u t x h =
     ∙ ap (λ (m : ℕ). m + length (take (taken f b u (length x)) x)) (length_control f _ (taken f b u (length x)))
     ∙ ap (λ (m : ℕ). word_of f + m) (length_taken f b u x h)
 
-of : {i j w v k l : ℕ} → i ≡ j → w ≡ v → k ≡ l → Of i w k ≡ Of j v l
-of {i} {j} {w} {v} {k} {l} p q e = ap (λ (a : ℕ). Of a w k) p ∙ ap (λ (a : ℕ). Of j a k) q ∙ ap (Of j v) e
+of : {i j w v k l : ℕ} → i ≡ j → w ≡ v → k ≡ l → one_unit i w k ≡ one_unit j v l
+of {i} {j} {w} {v} {k} {l} p q e = ap (λ (a : ℕ). one_unit a w k) p ∙ ap (λ (a : ℕ). one_unit j a k) q ∙ ap (one_unit j v) e
 
 unit_f : (f b r u t : ℕ) (x s : List ℕ) → f ≡ 70 → t ≡ 0 → legal_record f r x ≡ true
     → unit_of f r (unit_in f b u t x ++ s)
-    ≡ Of (indicator_of t (taken f b u (length x)) (length x)) (word_of f) (taken f b u (length x))
+    ≡ one_unit (indicator_of t (taken f b u (length x)) (length x)) (word_of f) (taken f b u (length x))
 unfolding unit_of unit_in
 unit_f f b r u t x s e z h =
     let other : f ≡ 83 → ⊥ = λ q. omega arith in
@@ -195,7 +194,7 @@ unit_f f b r u t x s e z h =
 
 unit_d : (f b r u t : ℕ) (x s : List ℕ) → f ≡ 68 → t ≡ 0 → legal_record f r x ≡ true
     → unit_of f r (unit_in f b u t x ++ s)
-    ≡ Of (indicator_of t (taken f b u (length x)) (length x)) (word_of f) (taken f b u (length x))
+    ≡ one_unit (indicator_of t (taken f b u (length x)) (length x)) (word_of f) (taken f b u (length x))
 unfolding unit_of unit_in
 unit_d f b r u t x s e z h =
     let k : ℕ = taken f b u (length x) in
@@ -212,7 +211,7 @@ unit_d f b r u t x s e z h =
 
 unit_s : (f b r u t : ℕ) (x s : List ℕ) → f ≡ 83 → enters f b u (length x) ≡ true
     → unit_of f r (unit_in f b u t x ++ s)
-    ≡ Of (indicator_of t (taken f b u (length x)) (length x)) (word_of f) (taken f b u (length x))
+    ≡ one_unit (indicator_of t (taken f b u (length x)) (length x)) (word_of f) (taken f b u (length x))
 unfolding unit_of unit_in
 unit_s f b r u t x s e h =
     let k : ℕ = taken f b u (length x) in
@@ -229,7 +228,7 @@ unit_s f b r u t x s e h =
 
 unit_back : (f b r u t o : ℕ) (head : Bool) (x s : List ℕ) → Format f → UnitReady f r t o head x → enters f b u (length x) ≡ true
     → unit_of f r (unit_in f b u t x ++ s)
-    ≡ Of (indicator_of t (taken f b u (length x)) (length x)) (word_of f) (taken f b u (length x))
+    ≡ one_unit (indicator_of t (taken f b u (length x)) (length x)) (word_of f) (taken f b u (length x))
 unit_back f b r u t o head x s (is_f e) (fresh z _ h) _ = unit_f f b r u t x s e z h
 unit_back f b r u t o head x s (is_f e) (begun _ q _ _ _) _ = absurd (omega arith)
 unit_back f b r u t o head x s (is_d e) (fresh z _ h) _ = unit_d f b r u t x s e z h

@@ -19,8 +19,8 @@ overflow_cast-k c = search measureds
 pub returns-then-left-k : goal.returns-then-left-k
 returns-then-left-k c = search measureds
 
-pub returns-in-Wrong : goal.returns-in-Wrong
-returns-in-Wrong c = search measureds
+pub returns-in-None : goal.returns-in-None
+returns-in-None c = search measureds
 
 pub returns-else-left-k : goal.returns-else-left-k
 returns-else-left-k c = search measureds

@@ -37,11 +37,8 @@ segments_outcome-requires c = search segmented
 pub returns-then-in_turn : goal.returns-then-in_turn
 returns-then-in_turn c = search segmented
 
-pub segments_outcome-requires-in-Of : goal.segments_outcome-requires-in-Of
-segments_outcome-requires-in-Of c = search segmented
-
-pub enum_told-1 : goal.enum_told-1
-enum_told-1 c = search segmented
+pub segments_outcome-requires-in-Some : goal.segments_outcome-requires-in-Some
+segments_outcome-requires-in-Some c = search segmented
 
 pub answer-requires-in-None : goal.answer-requires-in-None
 answer-requires-in-None c = search segmented

@@ -34,17 +34,14 @@ open_after-held-requires c = search turnings
 pub overflow_add-at : goal.overflow_add-at
 overflow_add-at c = search turnings
 
-pub overflow_add-at-in-Of : goal.overflow_add-at-in-Of
-overflow_add-at-in-Of c = search turnings
+pub overflow_add-at-in-Some : goal.overflow_add-at-in-Some
+overflow_add-at-in-Some c = search turnings
 
 pub loop-indicator-smaller : goal.loop-indicator-smaller
 loop-indicator-smaller c = search turnings
 
 pub loop-indicator-preserved : goal.loop-indicator-preserved
 loop-indicator-preserved c = search turnings
-
-pub enum_told-1 : goal.enum_told-1
-enum_told-1 c = search turnings
 
 pub answer-requires-then-at-from : goal.answer-requires-then-at-from
 answer-requires-then-at-from c = search turnings

@@ -1,6 +1,5 @@
 -- Where the loops of the code over a block stand.
-use Rattle.std.specs.Prelude.{◌≡◌, Bool, true, List, ℕ, ◌-◌, ◌≤◌, ◌<◌, ◌*◌, eqb, length, drop}
-use Rattle.std.proofs.Math.Option.{Option}
+use Rattle.std.specs.Prelude.{◌≡◌, Bool, true, List, ℕ, ◌-◌, ◌≤◌, ◌<◌, ◌*◌, eqb, length, drop, Option}
 use Rattle.base.specs.If.{if_b}
 use Rattle.block.specs.Cut.{Segment, cut, some_units, is_cut}
 use Rattle.block.specs.Turn.{turned}

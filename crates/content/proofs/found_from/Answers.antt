@@ -1,12 +1,6 @@
 use Rattle.content.proofs.Founds.{founds}
 use Rattle.content.proofs.found_from.Goals as goal
 
-pub enum_known-begun : goal.enum_known-begun
-enum_known-begun c = search founds
-
-pub enum_known-begun-in-At-1 : goal.enum_known-begun-in-At-1
-enum_known-begun-in-At-1 c = search founds
-
 pub answer-requires : goal.answer-requires
 answer-requires c = search founds
 
@@ -22,11 +16,14 @@ pass-requires c = search founds
 pub found_in-requires : goal.found_in-requires
 found_in-requires c = search founds
 
-pub returns-in-Refused : goal.returns-in-Refused
-returns-in-Refused c = search founds
-
 pub shape_of-join : goal.shape_of-join
 shape_of-join c = search founds
 
-pub returns-else-r-eq0 : goal.returns-else-r-eq0
-returns-else-r-eq0 c = search founds
+pub returns : goal.returns
+returns c = record { value = search (founds, c.in_ok-f.was); join_after = search (founds, c.in_ok-f.was) }
+
+pub returns-in_err-f : goal.returns-in_err-f
+returns-in_err-f c = search founds
+
+pub branch-f-requires : goal.branch-f-requires
+branch-f-requires c = search founds

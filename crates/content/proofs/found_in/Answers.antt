@@ -16,11 +16,11 @@ step_units-requires c = search founds
 pub found_by-requires : goal.found_by-requires
 found_by-requires c = search founds
 
-pub returns-in-Nowhere : goal.returns-in-Nowhere
-returns-in-Nowhere c = search founds
+pub returns-in-None : goal.returns-in-None
+returns-in-None c = search founds
 
 pub shape_of-join : goal.shape_of-join
 shape_of-join c = search founds
 
-pub returns-in-At : goal.returns-in-At
-returns-in-At c = search founds
+pub returns-in-Some : goal.returns-in-Some
+returns-in-Some c = search founds

@@ -7,12 +7,6 @@ loop-left-init c = search passes
 pub measure-requires : goal.measure-requires
 measure-requires c = search passes
 
-pub enum_told-1 : goal.enum_told-1
-enum_told-1 c = search passes
-
-pub returns-in-Nothing : goal.returns-in-Nothing
-returns-in-Nothing c = search passes
-
 pub enum_known-v : goal.enum_known-v
 enum_known-v c = search passes
 
@@ -39,3 +33,6 @@ loop-left-preserved c = search passes
 
 pub returns : goal.returns
 returns c = search passes
+
+pub returns-in_err-v : goal.returns-in_err-v
+returns-in_err-v c = search passes

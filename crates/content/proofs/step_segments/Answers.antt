@@ -25,29 +25,26 @@ rest_length-requires c = search steps_begun
 pub enum_told-1 : goal.enum_told-1
 enum_told-1 c = search steps_begun
 
-pub enum_known-m : goal.enum_known-m
-enum_known-m c = search steps_begun
-
-pub overflow_add-n : goal.overflow_add-n
-overflow_add-n c = search steps_begun
-
-pub returns-then-join-n : goal.returns-then-join-n
-returns-then-join-n c = search steps_begun
-
-pub overflow_add-v-in-Ends : goal.overflow_add-v-in-Ends
-overflow_add-v-in-Ends c = search steps_begun
-
 pub join_from-requires : goal.join_from-requires
 join_from-requires c = record { n_in_bounds = search steps_begun; rest_fits = search steps_begun }
-
-pub overflow_add-result : goal.overflow_add-result
-overflow_add-result c = search steps_begun
-
-pub returns-in-Fails : goal.returns-in-Fails
-returns-in-Fails c = search steps_begun
 
 pub shape_of-join : goal.shape_of-join
 shape_of-join c = search steps_begun
 
-pub returns-else-join-n : goal.returns-else-join-n
-returns-else-join-n c = search steps_begun
+pub returns : goal.returns
+returns c = search steps_begun
+
+pub returns-in_default : goal.returns-in_default
+returns-in_default c = search steps_begun
+
+pub overflow_add-v-2 : goal.overflow_add-v-2
+overflow_add-v-2 c = search steps_begun
+
+pub overflow_add-len : goal.overflow_add-len
+overflow_add-len c = search steps_begun
+
+pub returns-then-join-len-clause-value : goal.returns-then-join-len-clause-value
+returns-then-join-len-clause-value c = search steps_begun
+
+pub returns-then-join-len-clause-join_after : goal.returns-then-join-len-clause-join_after
+returns-then-join-len-clause-join_after c = search steps_begun

@@ -1,10 +1,9 @@
 -- What stands at the head of what is left of a block, as the code tells it by one number.
-use Rattle.std.specs.Prelude.{List, ℕ, ◌+◌, ◌-◌, ◌≤◌, leb, eqb, length, get_or, ◌≡◌}
+use Rattle.std.specs.Prelude.{List, ℕ, ◌+◌, ◌-◌, ◌≤◌, leb, eqb, length, get_or, ◌≡◌, Option, None}
 use Rattle.base.specs.If.{if_b}
 use Rattle.content.specs.declared.Walk.{Walk}
 use Rattle.content.specs.declared.unit.Taken.{Taken}
-use Rattle.content.specs.declared.unit.Taken.TheVariants.{One, Nothing}
-use Rattle.content.specs.Walk.{Record, is_inside, left_of, moved, whole, nothing, split}
+use Rattle.content.specs.Walk.{Record, is_inside, left_of, moved, whole, nothing, split, taken_at}
 use Rattle.base.specs.Format.{format_s}
 use Rattle.block.specs.Unit.{segment, length_of}
 use Rattle.content.specs.Whole.{whole_in, at_block, stands_at}
@@ -40,10 +39,10 @@ pub record TwoAt (s : List ℕ) (w : Walk) (k : ℕ) (h : Walk) (j : ℕ) : Type
   pub some : j ≡ 0 → ⊥
 
 -- a record that is one unit, as the unit
-unfoldable pub whole_by : Record → Taken
-whole_by (whole start n v) = One 0 start n v
-whole_by (split bs v) = Nothing
-whole_by nothing = Nothing
+unfoldable pub whole_by : Record → Option Taken
+whole_by (whole start n v) = taken_at 0 start n v
+whole_by (split bs v) = None
+whole_by nothing = None
 
 -- it does not run past the image
 abbrev pub Inside : List ℕ → Walk → Type 0

@@ -1,19 +1,21 @@
 -- How the code measures the rest of a record, and joins it.
-use Rattle.std.specs.Prelude.{◌≡◌, Bool, true, false, List, [], ℕ, ◌+◌, ◌≤◌, length}
+use Rattle.std.specs.Prelude.{◌≡◌, Bool, true, false, List, [], ℕ, ◌+◌, ◌≤◌, length, Option, Some, None}
 use Rattle.content.specs.Walk.{Rest, ends, fails, rest_at, Record, whole, split, nothing, record_at}
 use Rattle.content.specs.Code.Heads.{Inside}
 use Rattle.content.specs.declared.Walk.{Walk}
 use Rattle.content.specs.declared.measuring.Tail.{Tail}
-use Rattle.content.specs.declared.measuring.Tail.TheVariants.{Ends, Fails}
 
-unfoldable pub tail_by : Rest → Tail
-tail_by (ends bs v) = Ends (length bs) v
-tail_by fails = Fails
+abbrev pub tail : ℕ → Walk → Option Tail
+tail n v = Some (record { len = n; behind = v })
+
+unfoldable pub tail_by : Rest → Option Tail
+tail_by (ends bs v) = tail (length bs) v
+tail_by fails = None
 
 -- with k bytes before it
-unfoldable pub longer : ℕ → Tail → Tail
-longer k (Ends n v) = Ends (k + n) v
-longer k Fails = Fails
+unfoldable pub longer : ℕ → Option Tail → Option Tail
+longer k (Some u) = tail (k + u.len) u.behind
+longer k None = None
 
 unfoldable pub is_ended : Rest → Bool
 is_ended (ends bs v) = true

@@ -13,12 +13,6 @@ loop-next-init c = search lining
 pub enum_told-1 : goal.enum_told-1
 enum_told-1 c = search lining
 
-pub shape_of-out-in-Nowhere : goal.shape_of-out-in-Nowhere
-shape_of-out-in-Nowhere c = search lining
-
-pub returns-in-Nowhere : goal.returns-in-Nowhere
-returns-in-Nowhere c = search lining
-
 pub enum_known-next : goal.enum_known-next
 enum_known-next c = search lining
 
@@ -39,3 +33,6 @@ loop-next-smaller c = search lining
 
 pub loop-next-preserved : goal.loop-next-preserved
 loop-next-preserved c = search lining
+
+pub returns : goal.returns
+returns c = search lining

@@ -4,11 +4,8 @@ use Rattle.reader.proofs.opened_by.Goals as goal
 pub enum_known-begun : goal.enum_known-begun
 enum_known-begun c = search places
 
-pub enum_known-begun-in-Refused-1 : goal.enum_known-begun-in-Refused-1
-enum_known-begun-in-Refused-1 c = search places
+pub returns-in-Ok : goal.returns-in-Ok
+returns-in-Ok c = search places
 
-pub returns-in-At : goal.returns-in-At
-returns-in-At c = search places
-
-pub returns-in-Refused : goal.returns-in-Refused
-returns-in-Refused c = search places
+pub returns-in-Err : goal.returns-in-Err
+returns-in-Err c = search places

@@ -1,17 +1,15 @@
 -- What the functions below the number of a sheet answer: records passed one behind the other, and the files of a sheet.
-use Rattle.std.specs.Prelude.{◌≡◌, Bool, true, false, List, ℕ, ◌+◌, ◌-◌, ◌/◌, ◌%◌, min, eqb, length}
+use Rattle.std.specs.Prelude.{Bool, false, List, ℕ, Option, Some, None, ◌+◌, ◌-◌, ◌/◌, ◌%◌, min, eqb, length}
 use Rattle.base.specs.If.{if_b}
 use Rattle.base.specs.Format.{format_d}
 use Rattle.base.specs.Sum.{sum}
 use Rattle.label.specs.Made.{entry_length}
 use Rattle.reading.specs.Legal.{legal_files}
 use Rattle.sheet.specs.Flat.{in_parts, files_from}
-use Rattle.sheet.specs.declared.file.Passed.{Passed}
 
--- the answer b on records of lengths ls that stand from a place on; where it is yes, the place behind them
-pub record DidPassRecords (b : Bool) (ls : List ℕ) (from : ℕ) (r : Passed) : Type 0 where
-  pub answer : r.legal ≡ b
-  pub place : r.legal ≡ true → r.at ≡ from + sum ls
+-- the place behind records of lengths ls that stand from a place on, where the answer on them is yes
+unfoldable pub passed : Bool → List ℕ → ℕ → Option ℕ
+passed b ls from = if_b b (Some (from + sum ls)) None
 
 -- the least length that is too long for a record of a D or S file with record length r
 unfoldable pub too_long : ℕ → ℕ → ℕ

@@ -1,20 +1,23 @@
 use Rattle.writer.proofs.FromImage.{images}
 use Rattle.writer.proofs.rewrite_accepted.Goals as goal
 
-pub enum_told-1 : goal.enum_told-1
-enum_told-1 c = search images
-
-pub enum_known-f : goal.enum_known-f
-enum_known-f c = search images
-
 pub write_quota-requires : goal.write_quota-requires
 write_quota-requires c = search images
 
-pub returns-in-Nowhere : goal.returns-in-Nowhere
-returns-in-Nowhere c = search images
+pub returns-in_default : goal.returns-in_default
+returns-in_default c = search images
 
-pub shape_of-out : goal.shape_of-out
-shape_of-out c = search images
+pub returns : goal.returns
+returns c = search images
 
-pub returns-in-At : goal.returns-in-At
-returns-in-At c = search images
+pub refusal-requires : goal.refusal-requires
+refusal-requires c = search images
+
+pub part_of-requires : goal.part_of-requires
+part_of-requires c = search images
+
+pub first_file-requires : goal.first_file-requires
+first_file-requires c = search images
+
+pub set_of-set-requires : goal.set_of-set-requires
+set_of-set-requires c = search images

@@ -2,9 +2,6 @@ use borrow.Author.Rules.{rules}
 use Rattle.writer.proofs.Answering.{answering, measured_ready, measured_kept, answers_lacking, answers_over, answers_short}
 use Rattle.writer.proofs.write_set.Goals as goal
 
-pub lay_set-m-requires : goal.lay_set-m-requires
-lay_set-m-requires c = search answering
-
 pub shape_of-out-then-m : goal.shape_of-out-then-m
 shape_of-out-then-m c =
     measured_kept _ _ _ _ _ c.lay_set-m.ensures
@@ -37,9 +34,6 @@ lay_set-requires c =
     measured_ready _ _ _ _ _ c.lay_set-m.ensures
     c.if-m.false c.if-end-ge-OVER_LONG.false (search rules)
     c.requires
-
-pub shape_of-out : goal.shape_of-out
-shape_of-out c = search answering
 
 pub returns : goal.returns
 returns c = search answering

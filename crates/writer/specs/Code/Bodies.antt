@@ -1,5 +1,5 @@
 -- The records of a file packed into blocks: contracts.
-use Rattle.std.specs.Prelude.{◌≡◌, Bool, true, false, List, ℕ, ◌+◌, ◌≤◌, length}
+use Rattle.std.specs.Prelude.{◌≡◌, Bool, true, false, List, ℕ, ◌≤◌, length}
 use Rattle.writing.specs.Pack.{finished, start_of}
 use Rattle.block.specs.Room.{enters}
 use Rattle.writing.specs.Code.Room.{RoomEach}
@@ -9,7 +9,7 @@ use Rattle.writer.specs.declared.source.Cursor.{Cursor}
 use Rattle.writer.specs.declared.source.Found.{Found}
 use Rattle.writer.specs.declared.body.Body.{Body}
 use Rattle.writer.specs.Code.Pass.{Job, EndsWithin, Sound, between, penned}
-use Rattle.writer.specs.Code.Source.{records_of, end_at, GoodCursor, SplitHere, found_bytes}
+use Rattle.writer.specs.Code.Source.{records_of, end_at, GoodCursor, Stands, found_bytes}
 use Rattle.writer.specs.Code.Records.{RoomBehind}
 
 -- the record that was found at a cursor can be packed
@@ -19,8 +19,7 @@ pub record CanTake (lay : Bool) (f b : ℕ) (j : Job) (bytes : List ℕ) (c : Cu
   pub given : p.short ≡ false
   pub most : b ≤ 99999
   pub enough : enters f b 0 r.len ≡ true
-  pub inside : (r.kind ≡ 2 → ⊥) → r.from + r.len ≤ length bytes
-  pub split : r.kind ≡ 2 → SplitHere bytes c r.len
+  pub stands : Stands bytes c r.len r.shape
   pub ahead : lay ≡ true → RoomBehind f b j (found_bytes bytes c r) p o
 
 -- whatever follows the file, for which the buffer has room behind these records

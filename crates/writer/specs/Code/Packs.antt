@@ -55,9 +55,14 @@ more p n =
 unfoldable pub due_of : Bool → ℕ → ℕ → List ℕ → List (List ℕ) → UnitDue
 due_of is_in k t x xs = if_b is_in (within k x xs) (between (going t x xs))
 
+-- 1 where a record has a unit already, else 0
+abbrev pub number : Bool → ℕ
+number true = 1
+number false = 0
+
 -- how the pass ends where x is left of the record
 unfoldable pub flowed : Bool → ℕ → ℕ → Job → Flow → List ℕ → List ℕ → List (List ℕ) → Sequel → PassEnd
-flowed lay f b j s o x xs next = penned lay f b j s.pen o (due_of s.inside s.seg s.begun x xs) next
+flowed lay f b j s o x xs next = penned lay f b j s.pen o (due_of s.inside s.seg (number s.begun) x xs) next
 
 -- a unit that is over is the last of its record
 abbrev pub Settled : Flow → Type 0
@@ -133,7 +138,7 @@ pub record CanPutHead (lay : Bool) (f b : ℕ) (s : Flow) (size : ℕ) : Type 0 
 pub record DidPutHead (lay : Bool) (f b : ℕ) (s : Flow) (o q : List ℕ) (r : Flow) : Type 0 where
   pub is : r ≡ headed f b s
   pub laid : q ≡ ink_at lay o (s.pen.at + 3 + s.pen.used)
-      (control_word f (indicator_of s.begun (taken f b s.pen.used s.left) s.left) (taken f b s.pen.used s.left))
+      (control_word f (indicator_of (number s.begun) (taken f b s.pen.used s.left) s.left) (taken f b s.pen.used s.left))
 
 -- ---- bytes of the open unit
 

@@ -14,6 +14,7 @@ use Rattle.sections.specs.Section.{set_length, entry_in, sequence_in, set_in}
 use Rattle.sheet.specs.Flat.{in_parts}
 use Rattle.writing.specs.Pack.{Left, finished, going, start_of, fill, after, blocks_left}
 use Rattle.writing.specs.Lay.{Reel, Laid, laid, short, Sequel, rest}
+use Rattle.writer.specs.declared.pen.Job.{Job as Held}
 use Rattle.writer.specs.declared.pen.Pen.{Pen}
 
 -- one more than the longest image
@@ -54,8 +55,12 @@ job set e sequence rooms names = record { set = set; entry = e; sequence = seque
 abbrev pub names_in : ℕ → List ℕ → List ℕ
 names_in n labels = part (entry_length + 1 + set_length) (6 * n) labels
 
-abbrev pub job_of : List ℕ → List ℕ → Job
-job_of labels rooms = job (set_in labels) (entry_in labels) (sequence_in labels) rooms (names_in (length rooms) labels)
+abbrev pub job_with : List ℕ → List ℕ → Job
+job_with labels rooms = job (set_in labels) (entry_in labels) (sequence_in labels) rooms (names_in (length rooms) labels)
+
+-- as the code holds it
+abbrev pub job_of : Held → Job
+job_of h = job_with h.labels.now h.rooms.now
 
 -- ---- the buffer
 

@@ -1,5 +1,5 @@
 -- A record that stands in one piece, packed into blocks: contracts.
-use Rattle.std.specs.Prelude.{◌≡◌, Bool, true, false, List, ◌++◌, ℕ, ◌+◌, ◌≤◌, length}
+use Rattle.std.specs.Prelude.{◌≡◌, Bool, true, false, List, ◌++◌, ℕ, ◌+◌, ◌≤◌, Option, Some, None, length}
 use Rattle.base.specs.Part.{part}
 use Rattle.block.specs.Unit.{word_of}
 use Rattle.writing.specs.Pack.{going, start_of, control_word}
@@ -8,9 +8,8 @@ use Rattle.writing.specs.Code.Room.{RoomEach}
 use Rattle.writing.specs.Lay.{Sequel}
 use Rattle.writer.specs.declared.pen.Pen.{Pen}
 use Rattle.writer.specs.declared.source.Cursor.{Cursor}
-use Rattle.writer.specs.Code.Pens.{most_of}
+use Rattle.writer.specs.Form.{most_of}
 use Rattle.writer.specs.Code.Pass.{Job, EndsWithin, Sound, ink_at, between, penned}
-use Rattle.writer.specs.declared.record.Quick.{Quick}
 use Rattle.writer.specs.Code.Packs.{enters_on, more, Wanting, Blocked}
 use Rattle.writer.specs.Code.Source.{split_bytes, SplitHere}
 
@@ -75,12 +74,16 @@ pub record EntersWhole (lay : Bool) (f b : ℕ) (j : Job) (n : ℕ) (p : Pen) (o
   pub given : r.short ≡ false
   pub whole : taken f b r.used n ≡ n
 
--- the block for a record that goes whole into the open block or into the next of this reel; else nothing was done
-pub record DidQuickBlock (lay : Bool) (f b n : ℕ) (p : Pen) (o q : List ℕ) (r : Quick) : Type 0 where
+-- pen r is in the block for a record that goes whole into the open block or into the next of this reel
+pub record GoesWhole (lay : Bool) (f b n : ℕ) (p : Pen) (o q : List ℕ) (r : Pen) : Type 0 where
   pub kept : length q ≡ length o
-  pub small : r.ok ≡ true → n ≤ most_of f
-  pub yes : r.ok ≡ true → (j : Job) → Wanting lay f b j n p o → EntersWhole lay f b j n p o q r.pen
-  pub no : r.ok ≡ false → q ≡ o
+  pub small : n ≤ most_of f
+  pub whole : (j : Job) → Wanting lay f b j n p o → EntersWhole lay f b j n p o q r
+
+-- such a block; for any other record nothing was done
+abbrev pub DidQuickBlock : Bool → ℕ → ℕ → ℕ → Pen → List ℕ → List ℕ → Option Pen → Type 0
+DidQuickBlock lay f b n p o q None = q ≡ o
+DidQuickBlock lay f b n p o q (Some r) = GoesWhole lay f b n p o q r
 
 -- ---- a record in several segments
 

@@ -1,6 +1,6 @@
 -- All files of a set laid down. They come from the slices of a sheet or from an accepted image: `files_at` is what is left of them
 -- at a place, and the loop over them knows nothing else.
-use Rattle.std.specs.Prelude.{◌≡◌, Bool, true, false, List, [], ◌∷◌, ℕ, suc, ◌+◌, ◌*◌, ◌≤◌, ◌<◌, ltb, length, drop, get_or}
+use Rattle.std.specs.Prelude.{◌≡◌, Bool, true, false, List, [], ◌∷◌, ℕ, suc, ◌+◌, ◌*◌, ◌≤◌, ◌<◌, ltb, length, drop, get_or, Option, Some, None}
 use Rattle.base.specs.If.{if_b}
 use Rattle.base.specs.Part.{part}
 use Rattle.base.specs.Sum.{sum}
@@ -13,12 +13,11 @@ use Rattle.content.specs.File.{file_behind}
 use Rattle.content.specs.Code.Files.{Filed as Met}
 use Rattle.content.specs.declared.Walk.{Walk}
 use Rattle.content.specs.declared.FileAt.{FileAt}
-use Rattle.content.specs.declared.NextFile.{NextFile}
-use Rattle.content.specs.declared.NextFile.TheVariants.{At, Nowhere}
 use Rattle.writing.specs.Lay.{Laid, laid, lay_files, lay_on}
 use Rattle.sections.specs.Section.{entry_in, sequence_in, set_in}
 use Rattle.writer.specs.declared.pen.Pen.{Pen}
 use Rattle.writer.specs.declared.source.Cursor.{Cursor}
+use Rattle.writer.specs.declared.set.Input.{Input}
 use Rattle.writer.specs.declared.set.Place.{Place}
 use Rattle.writer.specs.Code.Pass.{names_in, reels_at, Reels, laid_from, image_from, EndsWithin, BetweenFiles}
 
@@ -52,7 +51,7 @@ pub record Listed (files counts lengths bytes : List ℕ) (g : Place) : Type 0 w
 abbrev pub StandsAmong : Origin → List ℕ → List ℕ → Place → Type 0
 StandsAmong (listed files counts) lengths bytes g = Listed files counts lengths bytes g
 StandsAmong read lengths bytes g =
-    g.nth < length (content bytes).files → Met bytes (At g.file) (drop g.nth (content bytes).files)
+    g.nth < length (content bytes).files → Met bytes (Some g.file) (drop g.nth (content bytes).files)
 
 -- a place among the files, from which on all of them are legal
 pub record PlacedAmong (from : Origin) (set lengths bytes : List ℕ) (g : Place) : Type 0 where
@@ -101,9 +100,9 @@ pub record DidEnter (labels e : List ℕ) (n : ℕ) (r : List ℕ) : Type 0 wher
 abbrev pub passed : Place → ℕ → ℕ → FileAt → Bool → Place
 passed g stop end f on = record { nth = g.nth + 1; first = stop; byte = end; file = f; on = on }
 
-unfoldable pub followed_by : Place → ℕ → ℕ → NextFile → Place
-followed_by g stop end (At h) = passed g stop end h true
-followed_by g stop end Nowhere = passed g stop end g.file false
+unfoldable pub followed_by : Place → ℕ → ℕ → Option FileAt → Place
+followed_by g stop end (Some h) = passed g stop end h true
+followed_by g stop end None = passed g stop end g.file false
 
 unfoldable pub behind_file : Bool → List ℕ → List ℕ → Place → ℕ → ℕ → Bool → Place
 behind_file image counts bytes g stop end short =
@@ -126,10 +125,16 @@ abbrev pub task : Origin → List ℕ → List ℕ → List ℕ → List ℕ →
 task from set lengths bytes rooms names =
     record { from = from; set = set; lengths = lengths; bytes = bytes; rooms = rooms; names = names }
 
--- as the code holds it
-abbrev pub task_of : Bool → List ℕ → List ℕ → List ℕ → List ℕ → List ℕ → List ℕ → Task
-task_of image files counts lengths bytes labels rooms =
+abbrev pub task_with : Bool → List ℕ → List ℕ → List ℕ → List ℕ → List ℕ → List ℕ → Task
+task_with image files counts lengths bytes labels rooms =
     task (origin_of image files counts) (set_in labels) lengths bytes rooms (names_in (length rooms) labels)
+
+-- as the code holds them
+abbrev pub origin_in : Input → Origin
+origin_in x = origin_of x.image x.files.now x.counts.now
+
+abbrev pub task_of : Input → List ℕ → List ℕ → Task
+task_of x labels rooms = task_with x.image x.files.now x.counts.now x.lengths.now x.bytes.now labels rooms
 
 abbrev pub PlacedIn : Task → Place → Type 0
 PlacedIn t g = PlacedAmong t.from t.set t.lengths t.bytes g

@@ -1,7 +1,7 @@
 -- The records of a file that are left from a cursor on. There are two sources: the slices of an order sheet, and an accepted
 -- image, in which a record may stand in several segments. Whoever packs the records knows of a cursor only these, and where the
 -- file ends.
-use Rattle.std.specs.Prelude.{◌≡◌, false, List, [], ◌∷◌, ℕ, ◌+◌, ◌-◌, ◌≤◌, eqb, length, drop}
+use Rattle.std.specs.Prelude.{◌≡◌, false, List, [], ◌∷◌, ℕ, ◌+◌, ◌-◌, ◌≤◌, Option, Some, None, length, drop}
 use Rattle.base.specs.If.{if_b}
 use Rattle.base.specs.Part.{part}
 use Rattle.base.specs.Sum.{sum, cut_by}
@@ -14,6 +14,8 @@ use Rattle.content.specs.declared.Walk.{Walk}
 use Rattle.content.specs.declared.measuring.Measured.TheVariants.{Split}
 use Rattle.writer.specs.declared.source.Cursor.{Cursor}
 use Rattle.writer.specs.declared.source.Found.{Found}
+use Rattle.writer.specs.declared.source.Shape.{Shape}
+use Rattle.writer.specs.declared.source.Shape.TheVariants.{Piece, Segments}
 
 -- the walk of an image's cursor
 abbrev pub walk_of : Cursor → Walk
@@ -47,9 +49,6 @@ pub record GoodCursor (lengths bytes : List ℕ) (c : Cursor) : Type 0 where
 
 -- ---- the next record
 
-abbrev pub nothing : Found
-nothing = record { from = 0; len = 0; at = 0; left = 0; kind = 0 }
-
 -- the bytes of an image's record that stands in several segments
 unfoldable pub split_bytes : List ℕ → Cursor → List ℕ
 split_bytes bytes c = record_bytes (record_at bytes (walk_of c))
@@ -57,19 +56,35 @@ split_bytes bytes c = record_bytes (record_at bytes (walk_of c))
 -- such a record, of n bytes, stands at a cursor
 pub record SplitHere (bytes : List ℕ) (c : Cursor) (n : ℕ) : Type 0 where
   pub behind : Walk
-  pub is : Split n behind ≡ measured_by (record_at bytes (walk_of c))
+  pub is : Some (Split n behind) ≡ measured_by (record_at bytes (walk_of c))
+
+-- a record of n bytes, by how it stands
+abbrev pub standing : List ℕ → Cursor → ℕ → Shape → List ℕ
+standing bytes c n (Piece from) = part from n bytes
+standing bytes c n Segments = split_bytes bytes c
 
 -- the record that was found
-unfoldable pub found_bytes : List ℕ → Cursor → Found → List ℕ
-found_bytes bytes c r = if_b (eqb r.kind 2) (split_bytes bytes c) (part r.from r.len bytes)
+abbrev pub found_bytes : List ℕ → Cursor → Found → List ℕ
+found_bytes bytes c r = standing bytes c r.len r.shape
+
+-- it stands there
+abbrev pub Stands : List ℕ → Cursor → ℕ → Shape → Type 0
+Stands bytes c n (Piece from) = from + n ≤ length bytes
+Stands bytes c n Segments = SplitHere bytes c n
+
+-- no record is left
+pub record NoneLeft (lengths bytes : List ℕ) (c : Cursor) : Type 0 where
+  pub none : records_of lengths bytes c ≡ []
+  pub over : stop_of c ≡ end_at lengths bytes c
+
+-- the next record is r
+pub record IsNext (lengths bytes : List ℕ) (c : Cursor) (r : Found) : Type 0 where
+  pub one : records_of lengths bytes c ≡ found_bytes bytes c r ∷ records_of lengths bytes (moved_to c r.at r.left)
+  pub good : GoodCursor lengths bytes (moved_to c r.at r.left)
+  pub end : end_at lengths bytes (moved_to c r.at r.left) ≡ end_at lengths bytes c
+  pub stands : Stands bytes c r.len r.shape
 
 -- the next record was found, or there is none
-pub record DidFind (lengths bytes : List ℕ) (c : Cursor) (r : Found) : Type 0 where
-  pub none : r.kind ≡ 0 → records_of lengths bytes c ≡ []
-  pub over : r.kind ≡ 0 → stop_of c ≡ end_at lengths bytes c
-  pub one : (r.kind ≡ 0 → ⊥)
-      → records_of lengths bytes c ≡ found_bytes bytes c r ∷ records_of lengths bytes (moved_to c r.at r.left)
-  pub good : (r.kind ≡ 0 → ⊥) → GoodCursor lengths bytes (moved_to c r.at r.left)
-  pub end : (r.kind ≡ 0 → ⊥) → end_at lengths bytes (moved_to c r.at r.left) ≡ end_at lengths bytes c
-  pub inside : (r.kind ≡ 0 → ⊥) → (r.kind ≡ 2 → ⊥) → r.from + r.len ≤ length bytes
-  pub split : r.kind ≡ 2 → SplitHere bytes c r.len
+abbrev pub DidFind : List ℕ → List ℕ → Cursor → Option Found → Type 0
+DidFind lengths bytes c None = NoneLeft lengths bytes c
+DidFind lengths bytes c (Some r) = IsNext lengths bytes c r

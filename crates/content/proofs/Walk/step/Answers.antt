@@ -22,9 +22,6 @@ overflow_add-v c = search steps
 pub overflow_sub-v : goal.overflow_sub-v
 overflow_sub-v c = search steps
 
-pub moved-requires : goal.moved-requires
-moved-requires c = search steps
-
 pub returns-then-k-ne0 : goal.returns-then-k-ne0
 returns-then-k-ne0 c = search steps
 
@@ -36,3 +33,6 @@ shape_of-join c = search steps
 
 pub returns : goal.returns
 returns c = search steps
+
+pub moved-behind-requires : goal.moved-behind-requires
+moved-behind-requires c = search steps

@@ -1,32 +1,24 @@
+use Rattle.content.specs.declared.part.Part.TheVariants.{File}
+use Rattle.std.specs.Prelude.{Some}
+use Rattle.std.proofs.Common.{ap, ◌≡◌, ◌∙◌}
 use Rattle.content.proofs.Files.{founds}
 use Rattle.content.proofs.file.file_from.Goals as goal
 
 pub search-found-requires : goal.search-found-requires
 search-found-requires c = search founds
 
-pub enum_known-part : goal.enum_known-part
-enum_known-part c = search founds
-
 pub file_at-requires : goal.file_at-requires
 file_at-requires c = search founds
 
-pub enum_told-1 : goal.enum_told-1
-enum_told-1 c = search founds
+pub returns-in_default : goal.returns-in_default
+returns-in_default c = search founds
 
-pub enum_told-in-Block : goal.enum_told-in-Block
-enum_told-in-Block c = search founds
+pub returns-in_err-hdr1 : goal.returns-in_err-hdr1
+returns-in_err-hdr1 c = search founds
 
-pub enum_told-in-None : goal.enum_told-in-None
-enum_told-in-None c = search founds
+pub returns : goal.returns
+returns c =
+    let e : c.search-found.result.part ≡ Some (File c.in-File.hdr1 c.in-File.hdr2) = c.in_ok-hdr1.was ∙ ap Some c.in-File.is in search founds
 
-pub returns-in-File : goal.returns-in-File
-returns-in-File c = search founds
-
-pub returns-in-Section : goal.returns-in-Section
-returns-in-Section c = search founds
-
-pub returns-in-Block : goal.returns-in-Block
-returns-in-Block c = search founds
-
-pub returns-in-None : goal.returns-in-None
-returns-in-None c = search founds
+pub branch-hdr1-requires : goal.branch-hdr1-requires
+branch-hdr1-requires c = search founds

@@ -7,15 +7,6 @@ loop-left-init c = search goings
 pub next_file-requires : goal.next_file-requires
 next_file-requires c = search goings
 
-pub enum_told-1 : goal.enum_told-1
-enum_told-1 c = search goings
-
-pub returns-in-Nowhere : goal.returns-in-Nowhere
-returns-in-Nowhere c = search goings
-
-pub enum_known-g : goal.enum_known-g
-enum_known-g c = search goings
-
 pub overflow_sub-left : goal.overflow_sub-left
 overflow_sub-left c = search goings
 
@@ -27,3 +18,9 @@ loop-left-preserved c = search goings
 
 pub returns : goal.returns
 returns c = search goings
+
+pub returns-in_err-f : goal.returns-in_err-f
+returns-in_err-f c = search goings
+
+pub branch-f-requires : goal.branch-f-requires
+branch-f-requires c = search goings

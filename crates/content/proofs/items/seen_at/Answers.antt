@@ -4,9 +4,6 @@ use Rattle.content.proofs.items.seen_at.Goals as goal
 pub shape_at-requires : goal.shape_at-requires
 shape_at-requires c = search seens
 
-pub enum_known-n : goal.enum_known-n
-enum_known-n c = search seens
-
 pub unnumbered-requires : goal.unnumbered-requires
 unnumbered-requires c = search seens
 
@@ -27,9 +24,6 @@ slice_bounds-kind-start c = search seens
 
 pub slice_bounds-kind-end : goal.slice_bounds-kind-end
 slice_bounds-kind-end c = search seens
-
-pub kind-requires : goal.kind-requires
-kind-requires c = search seens
 
 pub enum_told-1 : goal.enum_told-1
 enum_told-1 c = search seens
@@ -57,3 +51,6 @@ returns-in-ReelEnd c = search seens
 
 pub returns-in-Broken : goal.returns-in-Broken
 returns-in-Broken c = search seens
+
+pub kind-kind-requires : goal.kind-kind-requires
+kind-kind-requires c = search seens

@@ -22,23 +22,8 @@ overflow_add-w-in-Block c = search heads
 pub moved-requires : goal.moved-requires
 moved-requires c = search heads
 
-pub enum_told-1 : goal.enum_told-1
-enum_told-1 c = search heads
-
-pub enum_told-in-ReelEnd : goal.enum_told-in-ReelEnd
-enum_told-in-ReelEnd c = search heads
-
-pub enum_told-in-Broken : goal.enum_told-in-Broken
-enum_told-in-Broken c = search heads
-
 pub returns-else-n-w : goal.returns-else-n-w
 returns-else-n-w c = search heads
 
-pub returns-in-Mark : goal.returns-in-Mark
-returns-in-Mark c = search heads
-
-pub returns-in-ReelEnd : goal.returns-in-ReelEnd
-returns-in-ReelEnd c = search heads
-
-pub returns-in-Broken : goal.returns-in-Broken
-returns-in-Broken c = search heads
+pub returns-in_default : goal.returns-in_default
+returns-in_default c = search heads

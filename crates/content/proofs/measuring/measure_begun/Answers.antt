@@ -22,17 +22,11 @@ overflow_sub-most c = search measures_begun
 pub rest_length-requires : goal.rest_length-requires
 rest_length-requires c = search measures_begun
 
-pub enum_told-1 : goal.enum_told-1
-enum_told-1 c = search measures_begun
-
-pub enum_known-m : goal.enum_known-m
-enum_known-m c = search measures_begun
-
 pub overflow_add-result : goal.overflow_add-result
 overflow_add-result c = search measures_begun
 
-pub returns-in-Fails : goal.returns-in-Fails
-returns-in-Fails c = search measures_begun
+pub returns-in_err-rest : goal.returns-in_err-rest
+returns-in_err-rest c = search measures_begun
 
-pub returns-in-Ends : goal.returns-in-Ends
-returns-in-Ends c = search measures_begun
+pub returns : goal.returns
+returns c = search measures_begun

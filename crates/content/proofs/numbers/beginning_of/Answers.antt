@@ -7,11 +7,8 @@ enum_known-begun c = search cases
 pub answer-requires : goal.answer-requires
 answer-requires c = search cases
 
-pub enum_known-begun-in-Refused-1 : goal.enum_known-begun-in-Refused-1
-enum_known-begun-in-Refused-1 c = search cases
+pub returns-in-Ok : goal.returns-in-Ok
+returns-in-Ok c = search cases
 
-pub returns-in-At : goal.returns-in-At
-returns-in-At c = search cases
-
-pub returns-in-Refused : goal.returns-in-Refused
-returns-in-Refused c = search cases
+pub returns-in-Err : goal.returns-in-Err
+returns-in-Err c = search cases

@@ -10,8 +10,8 @@ enum_told-1 c = search cases
 pub answer-requires : goal.answer-requires
 answer-requires c = search cases
 
-pub returns-in-At : goal.returns-in-At
-returns-in-At c = search cases
+pub returns-in-Some : goal.returns-in-Some
+returns-in-Some c = search cases
 
-pub returns-in-Nowhere : goal.returns-in-Nowhere
-returns-in-Nowhere c = search cases
+pub returns-in-None : goal.returns-in-None
+returns-in-None c = search cases

@@ -7,20 +7,14 @@ enum_known-found c = search cases
 pub answer-requires : goal.answer-requires
 answer-requires c = search cases
 
-pub enum_known-found-in-Joined-1 : goal.enum_known-found-in-Joined-1
-enum_known-found-in-Joined-1 c = search cases
+pub returns-in-Err : goal.returns-in-Err
+returns-in-Err c = search cases
 
 pub answer-requires-in-Joined : goal.answer-requires-in-Joined
 answer-requires-in-Joined c = search cases
 
-pub enum_known-found-in-Refused-1 : goal.enum_known-found-in-Refused-1
-enum_known-found-in-Refused-1 c = search cases
-
-pub returns-in-InImage : goal.returns-in-InImage
-returns-in-InImage c = search cases
-
 pub returns-in-Joined : goal.returns-in-Joined
 returns-in-Joined c = search cases
 
-pub returns-in-Refused : goal.returns-in-Refused
-returns-in-Refused c = search cases
+pub returns-in-InImage : goal.returns-in-InImage
+returns-in-InImage c = search cases

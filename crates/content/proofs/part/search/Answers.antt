@@ -1,32 +1,14 @@
 use Rattle.content.proofs.Parts.{searchings}
 use Rattle.content.proofs.part.search.Goals as goal
 
-pub loop-k-init : goal.loop-k-init
-loop-k-init c = search searchings
-
 pub seen_in-requires : goal.seen_in-requires
 seen_in-requires c = search searchings
 
 pub enum_told-1 : goal.enum_told-1
 enum_told-1 c = search searchings
 
-pub returns-in-Nothing : goal.returns-in-Nothing
-returns-in-Nothing c = search searchings
-
-pub enum_known-k : goal.enum_known-k
-enum_known-k c = search searchings
-
 pub led_to-requires : goal.led_to-requires
 led_to-requires c = search searchings
-
-pub enum_told-in-Wrong : goal.enum_told-in-Wrong
-enum_told-in-Wrong c = search searchings
-
-pub returns-in-Wrong : goal.returns-in-Wrong
-returns-in-Wrong c = search searchings
-
-pub enum_known-q : goal.enum_known-q
-enum_known-q c = search searchings
 
 pub overflow_add-here : goal.overflow_add-here
 overflow_add-here c = search searchings
@@ -43,8 +25,17 @@ is_wanted-requires c = search searchings
 pub returns-then-is_wanted : goal.returns-then-is_wanted
 returns-then-is_wanted c = search searchings
 
-pub loop-k-smaller : goal.loop-k-smaller
-loop-k-smaller c = search searchings
+pub loop-seen-preserved : goal.loop-seen-preserved
+loop-seen-preserved c = search searchings
 
-pub loop-k-preserved : goal.loop-k-preserved
-loop-k-preserved c = search searchings
+pub loop-seen-init : goal.loop-seen-init
+loop-seen-init c = search searchings
+
+pub loop-seen-smaller : goal.loop-seen-smaller
+loop-seen-smaller c = search searchings
+
+pub returns-in_default : goal.returns-in_default
+returns-in_default c = search searchings
+
+pub returns-in_default-led_to : goal.returns-in_default-led_to
+returns-in_default-led_to c = search searchings

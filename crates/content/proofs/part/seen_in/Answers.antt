@@ -10,14 +10,14 @@ enum_told-1 c = search seens_in
 pub seen_at-requires : goal.seen_at-requires
 seen_at-requires c = search seens_in
 
-pub enum_told-in-To : goal.enum_told-in-To
-enum_told-in-To c = search seens_in
+pub enum_told-in-Some : goal.enum_told-in-Some
+enum_told-in-Some c = search seens_in
 
-pub seen_at-requires-in-To : goal.seen_at-requires-in-To
-seen_at-requires-in-To c = search seens_in
+pub seen_at-requires-in-Some : goal.seen_at-requires-in-Some
+seen_at-requires-in-Some c = search seens_in
 
-pub returns-in-Wrong : goal.returns-in-Wrong
-returns-in-Wrong c = search seens_in
+pub returns-in-None : goal.returns-in-None
+returns-in-None c = search seens_in
 
-pub returns-in-To : goal.returns-in-To
-returns-in-To c = search seens_in
+pub returns-in-Some : goal.returns-in-Some
+returns-in-Some c = search seens_in

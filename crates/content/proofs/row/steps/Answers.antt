@@ -67,35 +67,32 @@ whole_from-requires c = search rows
 pub enum_told-1 : goal.enum_told-1
 enum_told-1 c = search rows
 
-pub row_to-requires-in-Nothing : goal.row_to-requires-in-Nothing
-row_to-requires-in-Nothing c = search rows
+pub row_to-requires-in-None : goal.row_to-requires-in-None
+row_to-requires-in-None c = search rows
 
-pub shape_of-places-in-Nothing : goal.shape_of-places-in-Nothing
-shape_of-places-in-Nothing c = search rows
+pub shape_of-places-in-None : goal.shape_of-places-in-None
+shape_of-places-in-None c = search rows
 
-pub shape_of-lengths-in-Nothing : goal.shape_of-lengths-in-Nothing
-shape_of-lengths-in-Nothing c = search rows
+pub shape_of-lengths-in-None : goal.shape_of-lengths-in-None
+shape_of-lengths-in-None c = search rows
 
-pub returns-in-Nothing : goal.returns-in-Nothing
-returns-in-Nothing c = record { value = search rows; places_after = search rows; lengths_after = search rows }
+pub returns-in-None : goal.returns-in-None
+returns-in-None c = record { value = search rows; places_after = search rows; lengths_after = search rows }
 
-pub enum_known-start : goal.enum_known-start
-enum_known-start c = search rows
+pub offset_bounds-places-i-in-Some : goal.offset_bounds-places-i-in-Some
+offset_bounds-places-i-in-Some c = search rows
 
-pub offset_bounds-places-i-in-One : goal.offset_bounds-places-i-in-One
-offset_bounds-places-i-in-One c = search rows
+pub bounds-places-i-in-Some : goal.bounds-places-i-in-Some
+bounds-places-i-in-Some c = search rows
 
-pub bounds-places-i-in-One : goal.bounds-places-i-in-One
-bounds-places-i-in-One c = search rows
+pub offset_bounds-lengths-i-in-Some : goal.offset_bounds-lengths-i-in-Some
+offset_bounds-lengths-i-in-Some c = search rows
 
-pub offset_bounds-lengths-i-in-One : goal.offset_bounds-lengths-i-in-One
-offset_bounds-lengths-i-in-One c = search rows
+pub bounds-lengths-i-in-Some : goal.bounds-lengths-i-in-Some
+bounds-lengths-i-in-Some c = search rows
 
-pub bounds-lengths-i-in-One : goal.bounds-lengths-i-in-One
-bounds-lengths-i-in-One c = search rows
-
-pub overflow_add-i-in-One : goal.overflow_add-i-in-One
-overflow_add-i-in-One c = search rows
+pub overflow_add-i-in-Some : goal.overflow_add-i-in-Some
+overflow_add-i-in-Some c = search rows
 
 pub loop-i-smaller : goal.loop-i-smaller
 loop-i-smaller c = search rows

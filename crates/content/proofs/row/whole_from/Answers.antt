@@ -13,20 +13,14 @@ returns-then-k-ne0 c = search wholes_from
 pub measure_units-requires : goal.measure_units-requires
 measure_units-requires c = search wholes_from
 
-pub enum_told-1 : goal.enum_told-1
-enum_told-1 c = search wholes_from
+pub returns-in_default : goal.returns-in_default
+returns-in_default c = search wholes_from
 
-pub enum_told-in-Split : goal.enum_told-in-Split
-enum_told-in-Split c = search wholes_from
+pub returns-in_err-start : goal.returns-in_err-start
+returns-in_err-start c = search wholes_from
 
-pub enum_known-start : goal.enum_known-start
-enum_known-start c = search wholes_from
+pub branch-start-requires : goal.branch-start-requires
+branch-start-requires c = search wholes_from
 
-pub returns-in-Nothing : goal.returns-in-Nothing
-returns-in-Nothing c = search wholes_from
-
-pub returns-in-Split : goal.returns-in-Split
-returns-in-Split c = search wholes_from
-
-pub returns-in-Whole : goal.returns-in-Whole
-returns-in-Whole c = search wholes_from
+pub returns : goal.returns
+returns c = search wholes_from

@@ -16,23 +16,17 @@ overflow_add-at c = search blocks
 pub next_data-requires : goal.next_data-requires
 next_data-requires c = search blocks
 
-pub enum_told-1 : goal.enum_told-1
-enum_told-1 c = search blocks
-
-pub enum_known-start : goal.enum_known-start
-enum_known-start c = search blocks
-
-pub returns-then-n-w : goal.returns-then-n-w
-returns-then-n-w c = search blocks
-
-pub overflow_add-start : goal.overflow_add-start
-overflow_add-start c = search blocks
-
 pub moved-requires : goal.moved-requires
 moved-requires c = search blocks
 
-pub returns-in-Nowhere : goal.returns-in-Nowhere
-returns-in-Nowhere c = search blocks
+pub returns-then-block-w : goal.returns-then-block-w
+returns-then-block-w c = search (blocks, c.in_ok-block.was)
 
-pub returns-else-n-w : goal.returns-else-n-w
-returns-else-n-w c = search blocks
+pub returns : goal.returns
+returns c = search (blocks, c.in_ok-block.was)
+
+pub returns-in_err-block : goal.returns-in_err-block
+returns-in_err-block c = search blocks
+
+pub overflow_add-block : goal.overflow_add-block
+overflow_add-block c = search (blocks, c.in_ok-block.was)

@@ -7,17 +7,8 @@ part_of-requires c = search units
 pub unit_in-requires : goal.unit_in-requires
 unit_in-requires c = search units
 
-pub enum_told-1 : goal.enum_told-1
-enum_told-1 c = search units
-
-pub enum_known-i : goal.enum_known-i
-enum_known-i c = search units
-
 pub overflow_add-start : goal.overflow_add-start
 overflow_add-start c = search units
-
-pub overflow_add-start-in-Of : goal.overflow_add-start-in-Of
-overflow_add-start-in-Of c = search units
 
 pub overflow_add-word : goal.overflow_add-word
 overflow_add-word c = search units
@@ -28,8 +19,11 @@ overflow_sub-left c = search units
 pub moved-requires : goal.moved-requires
 moved-requires c = search units
 
-pub returns-in-None : goal.returns-in-None
-returns-in-None c = search units
+pub returns-in_err-indicator : goal.returns-in_err-indicator
+returns-in_err-indicator c = search units
 
-pub returns-in-Of : goal.returns-in-Of
-returns-in-Of c = search units
+pub returns : goal.returns
+returns c = search (units, c.in_ok-indicator.was)
+
+pub overflow_add-start-2 : goal.overflow_add-start-2
+overflow_add-start-2 c = search units

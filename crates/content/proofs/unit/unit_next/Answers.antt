@@ -10,12 +10,6 @@ segment_in-k-requires c = search next_segments
 pub bounds-image-at : goal.bounds-image-at
 bounds-image-at c = search next_segments
 
-pub overflow_sub-i : goal.overflow_sub-i
-overflow_sub-i c = search next_segments
-
-pub overflow_cast-i : goal.overflow_cast-i
-overflow_cast-i c = search next_segments
-
 pub overflow_add-result : goal.overflow_add-result
 overflow_add-result c = search next_segments
 
@@ -39,3 +33,9 @@ unit_beyond-requires c = search next_segments
 
 pub returns : goal.returns
 returns c = search next_segments
+
+pub overflow_cast-result : goal.overflow_cast-result
+overflow_cast-result c = search next_segments
+
+pub overflow_sub-result-then-k-ne0 : goal.overflow_sub-result-then-k-ne0
+overflow_sub-result-then-k-ne0 c = search next_segments

@@ -1,8 +1,8 @@
 use Rattle.label.proofs.Composed.{composed}
 use Rattle.label.proofs.field.is_record_length.Goals as goal
 
-pub returns-in-Value : goal.returns-in-Value
-returns-in-Value c = search composed
+pub returns-in-Some : goal.returns-in-Some
+returns-in-Some c = search composed
 
-pub returns-in-Wrong : goal.returns-in-Wrong
-returns-in-Wrong c = search composed
+pub returns-in-None : goal.returns-in-None
+returns-in-None c = search composed

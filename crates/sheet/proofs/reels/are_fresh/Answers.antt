@@ -1,62 +1,36 @@
-use Rattle.sheet.proofs.Names.{freshes}
+use Rattle.std.proofs.Common.{◌∙◌, ap, refl, rules, inl}
+use Rattle.std.specs.Iterator.Adapters.{enumerate_source, enumerate_count}
+use Rattle.std.specs.Slice.Iter.{chunks_rest, chunks_size}
+use Rattle.sheet.proofs.Names.{fresh_none, fresh_fits, fresh_wrong, fresh_again, fresh_more}
 use Rattle.sheet.proofs.reels.are_fresh.Goals as goal
+use Rattle.sheet.proofs.reels.are_fresh.Goals.{then-not-is_legal_name-via-then-not-is_legal_name, then-not-is_legal_name-via-else-not-is_legal_name+then-is_among}
 
--- src/reels.rt:55:5
-pub loop-at-init : goal.loop-at-init
-loop-at-init c = search freshes
+pub loop-i-init : goal.loop-i-init
+loop-i-init c =
+    let same = c.into_iter-i-iterator.ensures.into_iter_gives in
+    let source = ap enumerate_source same ∙ c.enumerate-i-items.ensures.source in (
+      (search rules, tt, search rules),
+      tt,
+      ap chunks_size source ∙ c.chunks.ensures.size,
+      fresh_none _ _ _ _ refl (ap chunks_rest source ∙ c.chunks.ensures.rest) (ap enumerate_count same ∙ c.enumerate-i-items.ensures.count),
+    )
 
--- src/reels.rt:56:13
-pub part_of-name-requires : goal.part_of-name-requires
-part_of-name-requires c = search freshes
-
--- src/reels.rt:57:13
-pub is_legal_name-requires : goal.is_legal_name-requires
-is_legal_name-requires c = search freshes
-
--- src/reels.rt:58:13
 pub returns-then-not-is_legal_name : goal.returns-then-not-is_legal_name
-returns-then-not-is_legal_name c = search freshes
+returns-then-not-is_legal_name c =
+    let now = c.loop-i.invariant in
+    let steps = c.in-Some.ensures.steps in
+    elim c.then-not-is_legal_name.branch [
+      | then-not-is_legal_name-via-then-not-is_legal_name w ↦
+          fresh_wrong _ _ _ _ _ _ _ _ now.3 steps.1 now.2 steps.0.1.0 steps.0.1.1 steps.0.1.2 _ c.is_legal_name.ensures w.if-not-is_legal_name.true
+      | then-not-is_legal_name-via-else-not-is_legal_name+then-is_among w ↦
+          fresh_again _ _ _ _ _ _ _ _ now.3 steps.1 now.2 steps.0.1.0 steps.0.1.1 steps.0.1.2 _ _ c.is_legal_name.ensures w.if-not-is_legal_name.false
+          w.is_among.ensures w.if-is_among.true
+    ]
 
--- src/reels.rt:60:28
-pub slice_bounds-places-end : goal.slice_bounds-places-end
-slice_bounds-places-end c = search freshes
-
--- src/reels.rt:60:28
-pub slice_bounds-is_among-end : goal.slice_bounds-is_among-end
-slice_bounds-is_among-end c = search freshes
-
--- src/reels.rt:60:12
-pub is_among-requires : goal.is_among-requires
-is_among-requires c = search freshes
-
--- src/reels.rt:61:13
-pub returns-then-is_among : goal.returns-then-is_among
-returns-then-is_among c = search freshes
-
--- src/reels.rt:63:9
-pub offset_bounds-places-before : goal.offset_bounds-places-before
-offset_bounds-places-before c = search freshes
-
--- src/reels.rt:63:9
-pub bounds-places-before : goal.bounds-places-before
-bounds-places-before c = search freshes
-
--- src/reels.rt:64:9
-pub overflow_add-before : goal.overflow_add-before
-overflow_add-before c = search freshes
-
--- src/reels.rt:65:9
-pub overflow_add-at : goal.overflow_add-at
-overflow_add-at c = search freshes
-
--- src/reels.rt:55:5
-pub loop-at-smaller : goal.loop-at-smaller
-loop-at-smaller c = search freshes
-
--- src/reels.rt:55:5
-pub loop-at-preserved : goal.loop-at-preserved
-loop-at-preserved c = search freshes
-
--- src/reels.rt:48:1
-pub returns : goal.returns
-returns c = search freshes
+pub loop-i-preserved : goal.loop-i-preserved
+loop-i-preserved c =
+    let now = c.loop-i.invariant in
+    let steps = c.in-Some.ensures.steps in
+    let more = fresh_more _ _ _ _ _ _ _ _ now.3 steps.1 now.2 steps.0.1.0 steps.0.1.1 steps.0.1.2 _ _ c.requires c.is_legal_name.ensures
+    c.if-not-is_legal_name.false c.is_among.ensures c.if-is_among.false _ steps.2 in
+    ((search rules, tt, inl (fresh_fits _ _ _ _ _ c.requires more)), tt, steps.0.0 ∙ now.2, more)

@@ -1,14 +1,14 @@
 use Rattle.volume.proofs.Faults.{pieces}
 use Rattle.volume.proofs.among.is_among.Goals as goal
 
-pub loop-i-init : goal.loop-i-init
-loop-i-init c = search pieces
+pub loop-at-init : goal.loop-at-init
+loop-at-init c = search pieces
 
 pub returns-then-is_name_at : goal.returns-then-is_name_at
 returns-then-is_name_at c = search pieces
 
-pub loop-i-preserved : goal.loop-i-preserved
-loop-i-preserved c = search pieces
+pub loop-at-preserved : goal.loop-at-preserved
+loop-at-preserved c = search pieces
 
 pub returns : goal.returns
 returns c = search pieces

@@ -16,8 +16,8 @@ enum_known-p c = search items
 pub pass-requires : goal.pass-requires
 pass-requires c = search items
 
-pub returns-in-Wrong : goal.returns-in-Wrong
-returns-in-Wrong c = search items
+pub returns-in-None : goal.returns-in-None
+returns-in-None c = search items
 
-pub returns-in-To : goal.returns-in-To
-returns-in-To c = search items
+pub returns-in-Some : goal.returns-in-Some
+returns-in-Some c = search items

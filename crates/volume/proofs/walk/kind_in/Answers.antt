@@ -10,11 +10,11 @@ enum_told-1 c = search items
 pub kind-requires : goal.kind-requires
 kind-requires c = search items
 
-pub enum_told-in-To : goal.enum_told-in-To
-enum_told-in-To c = search items
+pub enum_told-in-Some : goal.enum_told-in-Some
+enum_told-in-Some c = search items
 
-pub returns-in-Wrong : goal.returns-in-Wrong
-returns-in-Wrong c = search items
+pub returns-in-None : goal.returns-in-None
+returns-in-None c = search items
 
-pub returns-in-To : goal.returns-in-To
-returns-in-To c = search items
+pub returns-in-Some : goal.returns-in-Some
+returns-in-Some c = search items

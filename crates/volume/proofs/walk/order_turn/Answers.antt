@@ -16,8 +16,8 @@ enum_known-p c = search turns
 pub judge-requires : goal.judge-requires
 judge-requires c = search turns
 
-pub returns-in-Wrong : goal.returns-in-Wrong
-returns-in-Wrong c = search turns
+pub returns-in-None : goal.returns-in-None
+returns-in-None c = search turns
 
-pub returns-in-To : goal.returns-in-To
-returns-in-To c = search turns
+pub returns-in-Some : goal.returns-in-Some
+returns-in-Some c = search turns

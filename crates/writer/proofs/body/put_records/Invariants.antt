@@ -6,7 +6,7 @@ use Rattle.writer.proofs.body.put_records.Given as goal
 
 abbrev pub invariant-loop-r : goal.invariant-loop-r
 invariant-loop-r l =
-    Writing l.lay l.f l.b (job_of l.labels l.rooms) l.lengths l.bytes l.initial.c l.initial.pen l.initial.out l.out l.pen l.c
+    Writing l.lay l.form.format l.form.block (job_of l.job) l.lengths l.bytes l.initial.c l.initial.pen l.initial.out l.out l.pen l.c
 
 abbrev pub decreases-loop-r : goal.decreases-loop-r
 decreases-loop-r l = length (records_of l.lengths l.bytes l.c)

@@ -7,15 +7,6 @@ more-pen-requires c = search heading
 pub overflow_add-k : goal.overflow_add-k
 overflow_add-k c = search heading
 
-pub overflow_add-p : goal.overflow_add-p
-overflow_add-p c = search heading
-
-pub overflow_add-p-then-lay : goal.overflow_add-p-then-lay
-overflow_add-p-then-lay c = search heading
-
-pub shape_of-out : goal.shape_of-out
-shape_of-out c = search heading
-
 pub returns-then-lay : goal.returns-then-lay
 returns-then-lay c = search heading
 

@@ -1,8 +1,5 @@
-use Rattle.writer.proofs.Steps.{parting, part_closable, spelled_kept, part_over, part_in, part_kept, part_closed}
+use Rattle.writer.proofs.Steps.{part_closable, spelled_kept, part_over, part_in, part_kept, part_closed}
 use Rattle.writer.proofs.pack.put_part.Goals as goal
-
-pub spell-t-requires : goal.spell-t-requires
-spell-t-requires c = search parting
 
 pub close-pen-requires : goal.close-pen-requires
 close-pen-requires c =

@@ -1,4 +1,4 @@
-use Rattle.writer.proofs.Packs.{turning, turn_partable, turn_in, turn_in_kept, turn_headable, turn_head_kept, turn_head, turn_ready, turn_open_kept, turn_open}
+use Rattle.writer.proofs.Packs.{turn_partable, turn_in, turn_in_kept, turn_headable, turn_head_kept, turn_head, turn_ready, turn_open_kept, turn_open}
 use Rattle.writer.proofs.pack.take_turn.Goals as goal
 
 pub put_part-requires : goal.put_part-requires
@@ -12,9 +12,6 @@ shape_of-out-then-s c =
 pub returns-then-s : goal.returns-then-s
 returns-then-s c =
     turn_in _ _ _ _ _ _ _ c.requires _ _ c.if-s.true c.put_part.ensures
-
-pub enters_on-requires : goal.enters_on-requires
-enters_on-requires c = search turning
 
 pub put_head-requires : goal.put_head-requires
 put_head-requires c =

@@ -1,12 +1,9 @@
-use Rattle.writer.proofs.NextBlocks.{opening, closable, closed_shut, closed_ready, here_kept, opens_here, next_kept, next_short, next_room, next_few, opens_next}
+use Rattle.writer.proofs.NextBlocks.{closable, closed_shut, closed_ready, here_kept, opens_here, next_kept, next_short, next_room, next_few, opens_next}
 use Rattle.writer.proofs.pen.next_block.Goals as goal
 
 pub close-c-requires : goal.close-c-requires
 close-c-requires c =
     closable _ _ _ _ c.requires
-
-pub opened-requires : goal.opened-requires
-opened-requires c = search opening
 
 pub shape_of-out-then-c-ne0 : goal.shape_of-out-then-c-ne0
 shape_of-out-then-c-ne0 c =

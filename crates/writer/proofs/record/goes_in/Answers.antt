@@ -1,17 +1,12 @@
-use Rattle.writer.proofs.Records.{goings}
+use Rattle.std.proofs.Common.{arith, sym, ◌∙◌}
+use borrow.Author.Tests.{leb-true}
+use Rattle.writer.proofs.Records.{goes_in}
 use Rattle.writer.proofs.record.goes_in.Goals as goal
+use Rattle.writer.proofs.record.goes_in.Goals.{then-n-form, else-n-form}
 
-pub overflow_add-result : goal.overflow_add-result
-overflow_add-result c = search goings
-
-pub overflow_add-result-then-is_on : goal.overflow_add-result-then-is_on
-overflow_add-result-then-is_on c = search goings
-
-pub returns-then-is_on : goal.returns-then-is_on
-returns-then-is_on c = search goings
-
-pub returns-else-is_on : goal.returns-else-is_on
-returns-else-is_on c = search goings
-
-pub returns-else-n-most : goal.returns-else-n-most
-returns-else-n-most c = search goings
+pub returns-then-p : goal.returns-then-p
+returns-then-p c =
+    elim c.if-n-form.branch [
+      | then-n-form w ↦ λ h. let fits = leb-true _ _ h in goes_in _ _ _ _ _ (sym w.value-is ∙ c.if-p.true) (omega arith) (omega arith)
+      | else-n-form w ↦ grind arith
+    ]

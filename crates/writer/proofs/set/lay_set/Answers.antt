@@ -1,9 +1,6 @@
-use Rattle.writer.proofs.Sets.{sets, along_closing, along_sheeted, begun_along, along_all_kept}
+use Rattle.writer.proofs.Sets.{along_closing, along_sheeted, begun_along, along_all_kept}
 use Rattle.writer.proofs.Origins.{turn_small, turn_countable, turn_enterable, turn_ready, turn_more, turn_falls}
 use Rattle.writer.proofs.set.lay_set.Goals as goal
-
-pub begin_set-pen-requires : goal.begin_set-pen-requires
-begin_set-pen-requires c = search sets
 
 pub loop-g-init : goal.loop-g-init
 loop-g-init c =

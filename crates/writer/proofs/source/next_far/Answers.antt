@@ -1,5 +1,19 @@
+use Rattle.content.specs.declared.measuring.Measured.TheVariants.{Whole, Split}
+use Rattle.std.specs.Prelude.{Some}
+use Rattle.std.proofs.Common.{◌∙◌, ◌≡◌, ap}
 use Rattle.writer.proofs.Sources.{far}
 use Rattle.writer.proofs.source.next_far.Goals as goal
+
+pub returns-in-Whole : goal.returns-in-Whole
+returns-in-Whole c =
+    let e : c.measure_far.result ≡ Some (Whole c.in-Whole.from c.in-Whole.len c.in-Whole.v) = c.in_ok-measured.was ∙ ap Some c.in-Whole.is in search far
+
+pub returns-in-Split : goal.returns-in-Split
+returns-in-Split c =
+    let e : c.measure_far.result ≡ Some (Split c.in-Split.len c.in-Split.v) = c.in_ok-measured.was ∙ ap Some c.in-Split.is in search far
+
+pub returns-in_err-measured : goal.returns-in_err-measured
+returns-in_err-measured c = search far
 
 pub walk_of-requires : goal.walk_of-requires
 walk_of-requires c = search far
@@ -7,23 +21,5 @@ walk_of-requires c = search far
 pub measure_far-requires : goal.measure_far-requires
 measure_far-requires c = search far
 
-pub enum_told-1 : goal.enum_told-1
-enum_told-1 c = search far
-
-pub nothing-requires : goal.nothing-requires
-nothing-requires c = search far
-
-pub enum_known-from : goal.enum_known-from
-enum_known-from c = search far
-
-pub enum_known-len : goal.enum_known-len
-enum_known-len c = search far
-
-pub returns-in-Nothing : goal.returns-in-Nothing
-returns-in-Nothing c = search far
-
-pub returns-in-Whole : goal.returns-in-Whole
-returns-in-Whole c = search far
-
-pub returns-in-Split : goal.returns-in-Split
-returns-in-Split c = search far
+pub from_residual-requires : goal.from_residual-requires
+from_residual-requires c = search far

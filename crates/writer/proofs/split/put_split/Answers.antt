@@ -1,11 +1,5 @@
-use Rattle.writer.proofs.Splits.{splits, splits_goes, splits_more, splits_packable, splits_on, splits_kept_on, splits_short, splits_last, splits_fall}
+use Rattle.writer.proofs.Splits.{splits_goes, splits_more, splits_packable, splits_on, splits_kept_on, splits_short, splits_last, splits_fall}
 use Rattle.writer.proofs.split.put_split.Goals as goal
-
-pub first_of-g-requires : goal.first_of-g-requires
-first_of-g-requires c = search splits
-
-pub loop-c-init : goal.loop-c-init
-loop-c-init c = search splits
 
 pub put_pieces-t-requires : goal.put_pieces-t-requires
 put_pieces-t-requires c = record {
