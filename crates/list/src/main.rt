@@ -20,12 +20,7 @@ fn text_on(input: &[u8], out: &mut [u8]) -> Written
     ensures { Answers (fitted (input_text input.now) out.old) result out.new }
 {
     if MOST < input.len() {
-        let v = Verdict {
-            number: 9,
-            item: 0,
-            byte: 0,
-        };
-        return refused(v, out);
+        return refused(Verdict::at(9, 0), out);
     }
     listing(input, out)
 }

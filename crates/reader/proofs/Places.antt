@@ -24,10 +24,10 @@ use Rattle.reader.specs.declared.Opened.{Opened}
 use Rattle.reader.specs.declared.FileFacts.{FileFacts}
 use Rattle.reader.specs.declared.Reading.{Reading}
 
-pub by_begun : (w : Walk) (f : FileAt) (b : Result FileAt Verdict) → b ≡ Ok f
-    → ◌≡◌ {A = Opened} (record { verdict = record { number = 0; item = 0; byte = 0 }; walk = f.walk }) (opened_by w b)
-unfolding opened_by verdict
-by_begun w f b e = sym (ap (opened_by w) e)
+pub by_begun : (w : Walk) (f : FileAt) (v : Verdict) (b : Result FileAt Verdict) → b ≡ Ok f → v ≡ verdict 0 0 0
+    → ◌≡◌ {A = Opened} (record { verdict = v; walk = f.walk }) (opened_by w b)
+unfolding opened_by
+by_begun w f v b e h = ap (λ (x : Verdict). record { verdict = x; walk = f.walk }) h ∙ sym (ap (opened_by w) e)
 
 pub by_refused : (w : Walk) (a : Verdict) (b : Result FileAt Verdict) → b ≡ Err a
     → ◌≡◌ {A = Opened} (record { verdict = a; walk = w }) (opened_by w b)
@@ -59,10 +59,10 @@ unfolding read_by found_by walk_behind
 by_found w v (InImage start n) x e = sym (ap (read_by w) e)
 by_found w v (Joined n) x e = sym (ap (read_by w) e)
 
-pub by_stopped : (w : Walk) (k : ℕ) (x : Step) → x ≡ Err k
-    → ◌≡◌ {A = Reading} (record { found = Err (record { number = k; item = 0; byte = 0 }); walk = w }) (read_by w x)
-unfolding read_by found_by walk_behind verdict
-by_stopped w k x e = sym (ap (read_by w) e)
+pub by_stopped : (w : Walk) (k : ℕ) (v : Verdict) (x : Step) → x ≡ Err k → v ≡ verdict k 0 0
+    → ◌≡◌ {A = Reading} (record { found = Err v; walk = w }) (read_by w x)
+unfolding read_by found_by walk_behind
+by_stopped w k v x e h = ap (λ (y : Verdict). record { found = Err y; walk = w }) h ∙ sym (ap (read_by w) e)
 
 pub read_at_lem : (s : List ℕ) (room : ℕ) (w : Walk) (x : Step) (y : Reading) → x ≡ step_at s room w → y ≡ read_by w x
     → y ≡ read_at s room w

@@ -46,11 +46,7 @@ fn opened_by(w: Walk, begun: Result<FileAt, Verdict>) -> Opened
 {
     match begun {
         Ok(f) => Opened {
-            verdict: Verdict {
-                number: 0,
-                item: 0,
-                byte: 0,
-            },
+            verdict: Verdict::at(0, 0),
             walk: f.walk,
         },
         Err(verdict) => Opened { verdict, walk: w },
@@ -74,11 +70,7 @@ fn read_by(w: Walk, x: Result<(Found, Walk), u32>) -> Reading
             walk,
         },
         Err(number) => Reading {
-            found: Err(Verdict {
-                number,
-                item: 0,
-                byte: 0,
-            }),
+            found: Err(Verdict::at(number, 0)),
             walk: w,
         },
     }

@@ -102,12 +102,7 @@ fn write_set<W: Write>(out: &mut W, image: &[u8], join: &mut [u8]) -> io::Result
 // A joined record is no longer than its image, so it has room in the buffer.
 fn write_input<W: Write>(out: &mut W, input: &[u8]) -> io::Result<()> {
     if MOST < input.len() {
-        let v = Verdict {
-            number: 9,
-            item: 0,
-            byte: 0,
-        };
-        return write_refusal(out, v);
+        return write_refusal(out, Verdict::at(9, 0));
     }
     let mut join = [0u8; 60000];
     write_set(out, input, &mut join)

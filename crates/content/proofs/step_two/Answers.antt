@@ -10,8 +10,11 @@ overflow_sub-m c = search steps_two
 pub overflow_add-total : goal.overflow_add-total
 overflow_add-total c = search steps_two
 
-pub returns-then-join-total : goal.returns-then-join-total
-returns-then-join-total c = search steps_two
+pub returns-then-join-total-clause-value : goal.returns-then-join-total-clause-value
+returns-then-join-total-clause-value c = search steps_two
+
+pub returns-then-join-total-clause-join_after : goal.returns-then-join-total-clause-join_after
+returns-then-join-total-clause-join_after c = search steps_two
 
 pub overflow_add-v : goal.overflow_add-v
 overflow_add-v c = search steps_two
@@ -19,8 +22,11 @@ overflow_add-v c = search steps_two
 pub overflow_add-h : goal.overflow_add-h
 overflow_add-h c = search steps_two
 
-pub join_two-requires : goal.join_two-requires
-join_two-requires c = search steps_two
+pub join_two-requires-clause-n_in_bounds : goal.join_two-requires-clause-n_in_bounds
+join_two-requires-clause-n_in_bounds c = search steps_two
+
+pub join_two-requires-clause-m_in_bounds : goal.join_two-requires-clause-m_in_bounds
+join_two-requires-clause-m_in_bounds c = search steps_two
 
 pub overflow_add-h-2 : goal.overflow_add-h-2
 overflow_add-h-2 c = search steps_two
@@ -28,11 +34,8 @@ overflow_add-h-2 c = search steps_two
 pub overflow_sub-h : goal.overflow_sub-h
 overflow_sub-h c = search steps_two
 
-pub moved-requires : goal.moved-requires
-moved-requires c = search steps_two
+pub returns-clause-value : goal.returns-clause-value
+returns-clause-value c = search steps_two
 
-pub shape_of-join : goal.shape_of-join
-shape_of-join c = search steps_two
-
-pub returns : goal.returns
-returns c = search steps_two
+pub returns-clause-join_after : goal.returns-clause-join_after
+returns-clause-join_after c = search steps_two

@@ -1,9 +1,6 @@
 use Rattle.reader.proofs.Places.{places}
 use Rattle.reader.proofs.opened_by.Goals as goal
 
-pub enum_known-begun : goal.enum_known-begun
-enum_known-begun c = search places
-
 pub returns-in-Ok : goal.returns-in-Ok
 returns-in-Ok c = search places
 

@@ -1,15 +1,6 @@
 use Rattle.content.proofs.Files.{markings}
 use Rattle.content.proofs.file.behind_mark.Goals as goal
 
-pub loop-n-init : goal.loop-n-init
-loop-n-init c = search markings
-
-pub shape_at-requires : goal.shape_at-requires
-shape_at-requires c = search markings
-
-pub enum_known-n : goal.enum_known-n
-enum_known-n c = search markings
-
 pub overflow_add-at : goal.overflow_add-at
 overflow_add-at c = search markings
 
@@ -22,23 +13,14 @@ loop-n-smaller c = search markings
 pub loop-n-preserved : goal.loop-n-preserved
 loop-n-preserved c = search markings
 
-pub enum_told-1 : goal.enum_told-1
-enum_told-1 c = search markings
-
 pub overflow_add-result : goal.overflow_add-result
 overflow_add-result c = search markings
 
 pub returns-in-Mark : goal.returns-in-Mark
 returns-in-Mark c = search markings
 
-pub enum_told-in-ReelEnd : goal.enum_told-in-ReelEnd
-enum_told-in-ReelEnd c = search markings
-
 pub returns-in-ReelEnd : goal.returns-in-ReelEnd
 returns-in-ReelEnd c = search markings
-
-pub enum_told-in-Broken : goal.enum_told-in-Broken
-enum_told-in-Broken c = search markings
 
 pub returns-in-Broken : goal.returns-in-Broken
 returns-in-Broken c = search markings

@@ -4,12 +4,6 @@ use Rattle.content.proofs.measuring.at_block.Goals as goal
 pub returns-then-w-ne0 : goal.returns-then-w-ne0
 returns-then-w-ne0 c = search heads
 
-pub shape_at-requires : goal.shape_at-requires
-shape_at-requires c = search heads
-
-pub enum_known-n : goal.enum_known-n
-enum_known-n c = search heads
-
 pub returns-then-n-w : goal.returns-then-n-w
 returns-then-n-w c = search heads
 
@@ -18,9 +12,6 @@ overflow_add-w c = search heads
 
 pub overflow_add-w-in-Block : goal.overflow_add-w-in-Block
 overflow_add-w-in-Block c = search heads
-
-pub moved-requires : goal.moved-requires
-moved-requires c = search heads
 
 pub returns-else-n-w : goal.returns-else-n-w
 returns-else-n-w c = search heads

@@ -4,8 +4,5 @@ use Rattle.content.proofs.measuring.begun_at.Goals as goal
 pub returns-then-record_length-eq0 : goal.returns-then-record_length-eq0
 returns-then-record_length-eq0 c = search begun_numbers
 
-pub turn_in-requires : goal.turn_in-requires
-turn_in-requires c = search begun_numbers
-
 pub returns : goal.returns
 returns c = search begun_numbers

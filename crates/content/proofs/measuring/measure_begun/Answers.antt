@@ -4,17 +4,11 @@ use Rattle.content.proofs.measuring.measure_begun.Goals as goal
 pub overflow_sub-n : goal.overflow_sub-n
 overflow_sub-n c = search measures_begun
 
-pub overflow_cast-most : goal.overflow_cast-most
-overflow_cast-most c = search measures_begun
-
 pub overflow_add-v : goal.overflow_add-v
 overflow_add-v c = search measures_begun
 
 pub overflow_sub-v : goal.overflow_sub-v
 overflow_sub-v c = search measures_begun
-
-pub moved-u-requires : goal.moved-u-requires
-moved-u-requires c = search measures_begun
 
 pub overflow_sub-most : goal.overflow_sub-most
 overflow_sub-most c = search measures_begun
@@ -22,11 +16,11 @@ overflow_sub-most c = search measures_begun
 pub rest_length-requires : goal.rest_length-requires
 rest_length-requires c = search measures_begun
 
-pub overflow_add-result : goal.overflow_add-result
-overflow_add-result c = search measures_begun
-
 pub returns-in_err-rest : goal.returns-in_err-rest
 returns-in_err-rest c = search measures_begun
+
+pub overflow_add-result : goal.overflow_add-result
+overflow_add-result c = search measures_begun
 
 pub returns : goal.returns
 returns c = search measures_begun

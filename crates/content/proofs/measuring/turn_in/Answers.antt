@@ -1,9 +1,6 @@
 use Rattle.content.proofs.Segments.{turn_numbers}
 use Rattle.content.proofs.measuring.turn_in.Goals as goal
 
-pub segment_in-k-requires : goal.segment_in-k-requires
-segment_in-k-requires c = search turn_numbers
-
 pub returns-then-k-eq0 : goal.returns-then-k-eq0
 returns-then-k-eq0 c = search turn_numbers
 

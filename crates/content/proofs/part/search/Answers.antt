@@ -1,41 +1,23 @@
 use Rattle.content.proofs.Parts.{searchings}
 use Rattle.content.proofs.part.search.Goals as goal
 
-pub seen_in-requires : goal.seen_in-requires
-seen_in-requires c = search searchings
-
-pub enum_told-1 : goal.enum_told-1
-enum_told-1 c = search searchings
-
-pub led_to-requires : goal.led_to-requires
-led_to-requires c = search searchings
-
-pub overflow_add-here : goal.overflow_add-here
-overflow_add-here c = search searchings
-
-pub part_in-part-requires : goal.part_in-part-requires
-part_in-part-requires c = search searchings
-
-pub position_behind-here-requires : goal.position_behind-here-requires
-position_behind-here-requires c = search searchings
-
-pub is_wanted-requires : goal.is_wanted-requires
-is_wanted-requires c = search searchings
-
-pub returns-then-is_wanted : goal.returns-then-is_wanted
-returns-then-is_wanted c = search searchings
-
-pub loop-seen-preserved : goal.loop-seen-preserved
-loop-seen-preserved c = search searchings
-
-pub loop-seen-init : goal.loop-seen-init
-loop-seen-init c = search searchings
-
-pub loop-seen-smaller : goal.loop-seen-smaller
-loop-seen-smaller c = search searchings
-
 pub returns-in_default : goal.returns-in_default
 returns-in_default c = search searchings
 
 pub returns-in_default-led_to : goal.returns-in_default-led_to
 returns-in_default-led_to c = search searchings
+
+pub overflow_add-here : goal.overflow_add-here
+overflow_add-here c = search searchings
+
+pub position_behind-here-requires : goal.position_behind-here-requires
+position_behind-here-requires c = search searchings
+
+pub returns-then-is_wanted : goal.returns-then-is_wanted
+returns-then-is_wanted c = search searchings
+
+pub loop-seen-smaller : goal.loop-seen-smaller
+loop-seen-smaller c = search searchings
+
+pub loop-seen-preserved : goal.loop-seen-preserved
+loop-seen-preserved c = search searchings

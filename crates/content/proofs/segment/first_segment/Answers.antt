@@ -1,9 +1,6 @@
 use Rattle.content.proofs.Units.{segments}
 use Rattle.content.proofs.segment.first_segment.Goals as goal
 
-pub is_inside-requires : goal.is_inside-requires
-is_inside-requires c = search segments
-
 pub unit_from-requires : goal.unit_from-requires
 unit_from-requires c = search segments
 

@@ -1,9 +1,6 @@
 use Rattle.content.proofs.Units.{segments}
 use Rattle.content.proofs.segment.next_segment.Goals as goal
 
-pub is_inside-requires : goal.is_inside-requires
-is_inside-requires c = search segments
-
 pub unit_next-requires : goal.unit_next-requires
 unit_next-requires c = search segments
 

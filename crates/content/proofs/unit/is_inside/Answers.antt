@@ -4,8 +4,5 @@ use Rattle.content.proofs.unit.is_inside.Goals as goal
 pub returns-then-image-at : goal.returns-then-image-at
 returns-then-image-at c = search insides
 
-pub overflow_sub-result : goal.overflow_sub-result
-overflow_sub-result c = search insides
-
 pub returns : goal.returns
 returns c = search insides

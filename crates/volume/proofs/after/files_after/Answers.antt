@@ -1,14 +1,8 @@
 use Rattle.base.proofs.Rules.{ifs}
 use Rattle.volume.proofs.after.files_after.Goals as goal
 
-pub is-requires : goal.is-requires
-is-requires c = search ifs
-
 pub returns-then-continues : goal.returns-then-continues
 returns-then-continues c = search ifs
-
-pub overflow_add-result : goal.overflow_add-result
-overflow_add-result c = search ifs
 
 pub returns-then-is : goal.returns-then-is
 returns-then-is c = search ifs

@@ -1,9 +1,6 @@
 use Rattle.volume.proofs.Faults.{pieces}
 use Rattle.volume.proofs.among.is_among.Goals as goal
 
-pub loop-at-init : goal.loop-at-init
-loop-at-init c = search pieces
-
 pub returns-then-is_name_at : goal.returns-then-is_name_at
 returns-then-is_name_at c = search pieces
 

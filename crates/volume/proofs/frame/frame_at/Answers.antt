@@ -4,12 +4,6 @@ use Rattle.volume.proofs.frame.frame_at.Goals as goal
 pub returns-then-reels-eq0 : goal.returns-then-reels-eq0
 returns-then-reels-eq0 c = search frames
 
-pub is_inside-requires : goal.is_inside-requires
-is_inside-requires c = search frames
-
-pub overflow_sub-result : goal.overflow_sub-result
-overflow_sub-result c = search frames
-
 pub returns-then-is_inside : goal.returns-then-is_inside
 returns-then-is_inside c = search frames
 

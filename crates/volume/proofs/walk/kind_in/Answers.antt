@@ -1,18 +1,6 @@
 use Rattle.volume.proofs.WalkItems.{items}
 use Rattle.volume.proofs.walk.kind_in.Goals as goal
 
-pub due_after-requires : goal.due_after-requires
-due_after-requires c = search items
-
-pub enum_told-1 : goal.enum_told-1
-enum_told-1 c = search items
-
-pub kind-requires : goal.kind-requires
-kind-requires c = search items
-
-pub enum_told-in-Some : goal.enum_told-in-Some
-enum_told-in-Some c = search items
-
 pub returns-in-None : goal.returns-in-None
 returns-in-None c = search items
 
