@@ -207,7 +207,12 @@ variable_some r s at l x k e h q m =
     ∙ ap (λ (j : ℕ). length_of (measured 0 4 r j x)) (e ∙ sym (length-drop at s))
     ∙ ap (λ (y : Option ℕ). length_of (measured 0 4 r (length (drop at s)) y)) (q ∙ ap number_in word)
 
-pub ruleset variables = (variable_short, variable_some, rules)
+pub variable_wrong : (r : ℕ) (s : List ℕ) (at l : ℕ) → l ≡ length s - at → 4 ≤ l
+    → None ≡ number_in (get_or s at 0 ∷ get_or s (at + 1) 0 ∷ get_or s (at + 2) 0 ∷ get_or s (at + 3) 0 ∷ [])
+    → 0 ≡ length_of (variable r (drop at s))
+variable_wrong r s at l e h q = variable_some r s at l None 0 e h q (measured_wrong 0 4 r l None refl)
+
+pub ruleset variables = (variable_short, variable_wrong, variable_some, rules)
 
 -- ---- the bytes of a segment
 
@@ -251,4 +256,9 @@ segment_some s at l x k e h a b q m =
     ∙ sym (ap length_of (if_true _ _ _ (le-leb 48 (get_or (drop at s) 0 0) (omega arith))
     ∙ if_true _ _ _ (le-leb (get_or (drop at s) 0 0) 51 (omega arith))))
 
-pub ruleset segments = (segment_short, segment_low, segment_high, segment_some, rules)
+pub segment_wrong : (s : List ℕ) (at l : ℕ) → l ≡ length s - at → 5 ≤ l → 48 ≤ get_or s at 0 → get_or s at 0 ≤ 51
+    → None ≡ number_in (get_or s (at + 1) 0 ∷ get_or s (at + 2) 0 ∷ get_or s (at + 3) 0 ∷ get_or s (at + 4) 0 ∷ [])
+    → 0 ≡ length_of (segment (drop at s))
+segment_wrong s at l e h a b q = segment_some s at l None 0 e h a b q (measured_wrong 0 5 9999 l None refl)
+
+pub ruleset segments = (segment_short, segment_low, segment_high, segment_wrong, segment_some, rules)

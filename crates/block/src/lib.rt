@@ -201,25 +201,20 @@ fn fixed_length(record_length: u32, s: &[u8], at: usize) -> usize
 
 // The bytes of a unit led by a control word of `word` bytes whose length field says `n`, at most `longest`, with `left` bytes
 // there; or 0.
-fn measured_length(word: u32, longest: u32, left: usize, n: Option<u32>) -> usize
-    ensures { result ≡ length_of (measured 0 word longest left n) }
+fn measured_length(word: u32, longest: u32, left: usize, n: u32) -> usize
+    ensures { result ≡ length_of (measured 0 word longest left (Some n)) }
 {
-    match n {
-        None => 0,
-        Some(v) => {
-            if v < word {
-                return 0;
-            }
-            if longest < v {
-                return 0;
-            }
-            let k = v as usize;
-            if left < k {
-                return 0;
-            }
-            k
-        }
+    if n < word {
+        return 0;
     }
+    if longest < n {
+        return 0;
+    }
+    let k = n as usize;
+    if left < k {
+        return 0;
+    }
+    k
 }
 
 // The bytes of the variable-length record at a place, with its control word, or 0 where there is none.
@@ -230,8 +225,10 @@ fn variable_length(record_length: u32, s: &[u8], at: usize) -> usize
     if left < 4 {
         return 0;
     }
-    let n = four_digits(s[at], s[at + 1], s[at + 2], s[at + 3]);
-    measured_length(4, record_length, left, n)
+    match four_digits(s[at], s[at + 1], s[at + 2], s[at + 3]) {
+        None => 0,
+        Some(n) => measured_length(4, record_length, left, n),
+    }
 }
 
 // The bytes of the segment at a place, with its control word, or 0 where there is none.
@@ -249,8 +246,10 @@ pub fn segment_length(s: &[u8], at: usize) -> usize
     if b'3' < i {
         return 0;
     }
-    let n = four_digits(s[at + 1], s[at + 2], s[at + 3], s[at + 4]);
-    measured_length(5, 9999, left, n)
+    match four_digits(s[at + 1], s[at + 2], s[at + 3], s[at + 4]) {
+        None => 0,
+        Some(n) => measured_length(5, 9999, left, n),
+    }
 }
 
 // The segment at a place, if one stands there.

@@ -40,11 +40,14 @@ overflow_add-at-4 c = search segments
 pub bounds-s-at-5 : goal.bounds-s-at-5
 bounds-s-at-5 c = search segments
 
-pub four_digits-n-requires : goal.four_digits-n-requires
-four_digits-n-requires c = search segments
-
 pub measured_length-requires : goal.measured_length-requires
 measured_length-requires c = search segments
 
-pub returns : goal.returns
-returns c = search segments
+pub four_digits-requires : goal.four_digits-requires
+four_digits-requires c = search segments
+
+pub returns-in-None : goal.returns-in-None
+returns-in-None c = search segments
+
+pub returns-in-Some : goal.returns-in-Some
+returns-in-Some c = search segments

@@ -28,11 +28,14 @@ overflow_add-at-3 c = search variables
 pub bounds-s-at-4 : goal.bounds-s-at-4
 bounds-s-at-4 c = search variables
 
-pub four_digits-n-requires : goal.four_digits-n-requires
-four_digits-n-requires c = search variables
-
 pub measured_length-requires : goal.measured_length-requires
 measured_length-requires c = search variables
 
-pub returns : goal.returns
-returns c = search variables
+pub four_digits-requires : goal.four_digits-requires
+four_digits-requires c = search variables
+
+pub returns-in-None : goal.returns-in-None
+returns-in-None c = search variables
+
+pub returns-in-Some : goal.returns-in-Some
+returns-in-Some c = search variables
