@@ -72,11 +72,21 @@ pub fn part_of(s: &[u8], a: usize, n: usize) -> &[u8]
 }
 
 // Whether two byte strings are the same.
-#[tactic(auto, using(crate::proofs::Bytes::same_pointwise))]
+#[tactic(auto, using(crate::proofs::Bytes::pieces))]
 pub fn equal(a: &[u8], b: &[u8]) -> bool
     ensures { result ≡ same a.now b.now }
 {
-    a == b
+    if a.len() != b.len() {
+        return false;
+    }
+    // By hand: where the first four bytes are the same `==` calls a function, for names of four too, of which the kind of a label
+    // is told. This loop is unrolled over a name.
+    for i in 0..a.len() {
+        if a[i] != b[i] {
+            return false;
+        }
+    }
+    true
 }
 
 // Whether numbers add up to a total: each is taken from what is left over of it, so that nothing can overflow.
