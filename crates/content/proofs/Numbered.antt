@@ -16,8 +16,10 @@ use Rattle.base.proofs.Ifs.{if_true, if_case}
 use Rattle.base.specs.Part.{part}
 use Rattle.base.proofs.Parts.{length_part}
 use Rattle.base.specs.Sum.{sum}
-use Rattle.content.specs.Walk.{is_inside, unit_next, unit_from, first_segment, next_segment, Rest, ends, fails, rest_at, Record, whole, split, nothing, split_by, begun_by, record_at}
-use Rattle.content.specs.Code.Heads.{Inside}
+use Rattle.block.specs.Unit.{word_of}
+use Rattle.content.specs.Walk.{moved, is_inside, unit_next, unit_from, first_segment, next_segment, Rest, ends, fails, rest_at, Record, whole, split, nothing, split_by, begun_by, record_at}
+use Rattle.content.specs.Code.Heads.{Inside, whole_at}
+use Rattle.content.specs.Whole.{at_block}
 use Rattle.content.specs.Measure.{measured_by}
 use Rattle.content.specs.Code.Joining.{is_ended, bytes_behind, record_bytes}
 use Rattle.content.specs.Walked.{handed, end_of}
@@ -28,6 +30,7 @@ use Rattle.content.specs.declared.measuring.Measured.TheVariants.{Whole, Split}
 use Rattle.content.specs.declared.unit.Taken.{Taken}
 use Rattle.content.proofs.Units.{inside_true, inside_is}
 use Rattle.content.proofs.Rests.{from_behind}
+use Rattle.content.proofs.Wholes.{measured_whole as whole_measured, word_least, whole_left, whole_end}
 use Rattle.content.proofs.Joins.{JoinGoing, going, not_nothing, Splitting, splitting, split_not_nothing}
 use Rattle.content.proofs.Stepping.{split_stands}
 use Rattle.content.proofs.Records.{handed_passes, records_more, records_over, end_more, end_over}
@@ -297,5 +300,49 @@ pub split_falls : (s : List ℕ) (from : Walk) (records bytes : ℕ) (w : Walk) 
     → m ≡ measured_by (record_at s w) → m ≡ Some x → x ≡ Split n v → length s - v.at < length s - w.at
 split_falls s from records bytes w n v m x c e q z = (further_split s from records bytes w n v m x c e q z).falls
 
-pub ruleset counts =
-    (counting_none, counting_whole, counting_split, counted_all, whole_number, split_number, whole_total, split_total, whole_falls, split_falls, rules)
+-- the same of a record that stands whole in a block, which one number tells: of k bytes, with its control word of c
+module _ (s : List ℕ) (from : Walk) (records bytes : ℕ) (w v : Walk) (k c : ℕ) (h : Counting s from records bytes w)
+    (e : v ≡ at_block s w) (m : k ≡ whole_at s v) (z : k ≡ 0 → ⊥) (p : c ≡ word_of v.format) where
+  abbrev pub here : Walk
+  here = moved v (v.at + k) (v.left - k)
+
+  told : Some (Whole (v.at + c) (k - c) here) ≡ measured_by (record_at s w)
+  told = whole_measured s w v here k c e m z p refl
+
+  more : Further s records bytes w (k - c) here
+  more = further_whole s from records bytes w (v.at + c) (k - c) here _ (Whole (v.at + c) (k - c) here) h told refl refl
+
+  pub here_number : length s < 18446744073709551616 → Fits w64 (records + 1)
+  here_number q = omega (arith, more.number)
+
+  pub here_total : length s < 18446744073709551616 → Fits w64 (bytes + (k - c))
+  here_total q = omega (arith, more.total)
+
+  pub here_counted : (u : Walk) → u ≡ here → Counting s from (records + 1) (bytes + (k - c)) u
+  here_counted u q =
+      counting_whole s from records bytes w (v.at + c) (k - c) u _ (Whole (v.at + c) (k - c) u) h
+      (whole_measured s w v u k c e m z p q) refl refl
+
+  pub here_falls : (u : Walk) → u ≡ here → length s - u.at < length s - w.at
+  here_falls u q = subst (λ (x : Walk). length s - x.at < length s - w.at) (sym q) more.falls
+
+pub ruleset counts = (
+  counting_none,
+  counting_whole,
+  counting_split,
+  counted_all,
+  whole_number,
+  split_number,
+  whole_total,
+  split_total,
+  whole_falls,
+  split_falls,
+  here_number,
+  here_total,
+  here_counted,
+  here_falls,
+  word_least,
+  whole_left,
+  whole_end,
+  rules,
+)

@@ -207,7 +207,9 @@ pub fn measure_far(image: &[u8], w: Walk) -> Option<Measured>
     measure_begun(image, v, k)
 }
 
-// The record at a walk's place. Most records stand whole in a block, and are told by one number.
+// The record at a walk's place. Most records stand whole in a block, and are told by one number. It stays a call: the loop that
+// passes records takes longer with all of it.
+#[inline(never)]
 pub fn measure(image: &[u8], w: Walk) -> Option<Measured>
     ensures { result ≡ measured_by (record_at image.now w) }
 {

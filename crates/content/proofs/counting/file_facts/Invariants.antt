@@ -3,8 +3,8 @@ use lib.ListN.{length}
 use Rattle.content.proofs.Numbered.{Counting}
 use Rattle.content.proofs.counting.file_facts.Given as goal
 
-abbrev pub invariant-loop-measured : goal.invariant-loop-measured
-invariant-loop-measured l = Counting l.image l.initial.w l.records l.bytes l.w
+abbrev pub invariant-loop-w : goal.invariant-loop-w
+invariant-loop-w l = Counting l.image l.initial.w l.records l.bytes l.w
 
-abbrev pub decreases-loop-measured : goal.decreases-loop-measured
-decreases-loop-measured l = length l.image - l.w.at
+abbrev pub decreases-loop-w : goal.decreases-loop-w
+decreases-loop-w l = length l.image - l.w.at

@@ -10,6 +10,9 @@ returns-in_default-led_to c = search searchings
 pub overflow_add-here : goal.overflow_add-here
 overflow_add-here c = search searchings
 
+pub position_behind-behind-requires : goal.position_behind-behind-requires
+position_behind-behind-requires c = search searchings
+
 pub position_behind-here-requires : goal.position_behind-here-requires
 position_behind-here-requires c = search searchings
 
