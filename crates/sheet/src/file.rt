@@ -86,7 +86,9 @@ fn is_fixed(record_length: u32, x: &[u8]) -> bool
     x.len() == record_length as usize && !all_padding(x)
 }
 
-// The records of an F file, of these lengths from a place on: the place behind them, if all are legal.
+// The records of an F file, of these lengths from a place on: the place behind them, if all are legal. It stays a call, once a
+// file: in its caller the place is kept in memory from record to record, for which the next one waits.
+#[inline(never)]
 #[tactic(auto, using(crate::proofs::Records::cuts))]
 fn fixed_passed(record_length: u32, lengths: &[u64], bytes: &[u8], from: usize) -> Option<usize>
     requires { from + sum lengths.now ≤ length bytes.now }
