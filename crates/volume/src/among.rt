@@ -27,8 +27,8 @@ fn is_name_at(bytes: &[u8], at: usize, v: &[u8]) -> bool
 pub fn is_among(bytes: &[u8], places: &[usize], v: &[u8]) -> bool
     ensures { result ≡ is_among v.now (names_at bytes.now places.now) }
 {
-    for at in places {
-        if is_name_at(bytes, *at, v) {
+    for i in 0..places.len() {
+        if is_name_at(bytes, places[i], v) {
             return true;
         }
     }
