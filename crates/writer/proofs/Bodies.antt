@@ -1,5 +1,5 @@
 -- The records of a file. Assumes nothing.
-use Rattle.std.specs.Prelude.{Some}
+use Rattle.std.specs.Prelude.{Option, Some, None}
 use mathlib.Core.Path.{◌≡◌, refl, sym, ap, ◌∙◌, subst}
 use mathlib.Core.Bool.{Bool, true, false, false≢true}
 use mathlib.Core.List.{List, ◌∷◌}
@@ -21,9 +21,10 @@ use Rattle.writer.specs.declared.source.Shape.{Shape}
 use Rattle.writer.specs.declared.source.Shape.TheVariants.{Piece, Segments}
 use Rattle.writer.specs.Code.Pass.{Job, PassEnd, EndsWithin, between, penned}
 use Rattle.writer.specs.Code.Source.{walk_of, moved_to, records_of, end_at, stop_of, GoodCursor, split_bytes, SplitHere, standing, found_bytes, Stands, NoneLeft, IsNext}
-use Rattle.writer.specs.Code.Records.{DidPutRecord}
+use Rattle.writer.specs.Code.Records.{RoomBehind, CanPutRecord, DidPutRecord, DidQuickBlock}
 use Rattle.writer.specs.Code.Bodies.{CanTake, CanPutRecords, DidPutRecords}
 use Rattle.writer.proofs.Blocks.{penned_short}
+use Rattle.writer.proofs.RecordBlocks.{record_again}
 
 -- ---- a record that was found
 
@@ -35,6 +36,23 @@ split_length bytes c n h = split_long bytes (walk_of c) n h.behind (Some (Split 
 stands_long : (bytes : List ℕ) (c : Cursor) (n : ℕ) (x : Shape) → Stands bytes c n x → length (standing bytes c n x) ≡ n
 stands_long bytes c n (Piece from) h = length_part from n bytes h
 stands_long bytes c n Segments h = split_length bytes c n h
+
+-- one in one piece can be packed wherever it has room; also where no block was found for it quickly
+module _ (lay : Bool) (f b : ℕ) (j : Job) (bytes : List ℕ) (c : Cursor) (r : Found) (p : Pen) (o : List ℕ)
+    (k : CanTake lay f b j bytes c r p o) (from : ℕ) (e : r.shape ≡ Piece from) where
+  take_whole : CanPutRecord lay f b j bytes from r.len p o
+  take_whole =
+      record {
+        sound = k.sound;
+        given = k.given;
+        most = k.most;
+        inside = subst (Stands bytes c r.len) e k.stands;
+        enough = k.enough;
+        ahead = λ l. subst (λ (x : Shape). RoomBehind f b j (standing bytes c r.len x) p o) e (k.ahead l);
+      }
+
+  pub take_slow : (q : List ℕ) (t : Option Pen) → DidQuickBlock lay f b r.len p o q t → t ≡ None → CanPutRecord lay f b j bytes from r.len p q
+  take_slow q t y z = record_again lay f b j bytes from r.len p o take_whole q (subst (DidQuickBlock lay f b r.len p o q) z y)
 
 -- ---- all records
 
