@@ -1,4 +1,4 @@
-"""Rattle and antt as words: what `.ci/contracts` and `.ci/believed` read in a source file."""
+"""Rattle and antt as words: what `.ci/contracts`, `.ci/believed` and `.ci/calls` read in a source file."""
 import re
 import shutil
 import subprocess

@@ -1,17 +1,15 @@
 -- Laws of `same` and `all_are`, as a loop over the places of a list wants them. Assumes nothing.
 use mathlib.Core.Path.{◌≡◌, refl, sym, ap, ◌∙◌}
-use mathlib.Core.Bool.{Bool, true, false, ◌&&◌}
+use mathlib.Core.Bool.{Bool, true, false}
 use mathlib.Core.List.{List, [], ◌∷◌}
 use Prim.Native.Nat.{ℕ, suc, ◌+◌, ◌≤◌, ◌<◌}
 use native.Mathlib.Omega.{arith}
 use native.Mathlib.Numerals.{add-one}
-use borrow.Author.Tests.{eq-eqb, ne_eqb, eqb-true, eqb-false}
+use borrow.Author.Tests.{eq-eqb, ne_eqb, eqb-true}
 use borrow.Author.Rules.{rules}
 use lib.Dec.{eqb}
-use lib.Pointwise.{pointwise}
 use lib.ListN.{length, drop, get_or, drop_of_length-le}
 use lib.Seq.{drop-cons}
-use Rattle.base.specs.If.{if_b}
 use Rattle.base.proofs.Ifs.{if_true, if_false, if_case}
 use Rattle.base.specs.Part.{same, all_are}
 
@@ -85,33 +83,6 @@ same_first t p q a e f = cc
 -- the same for the second list alone
 pub same_second : (t : Bool) (p q b : List ℕ) → t ≡ same p q → q ≡ b → t ≡ same p b
 same_second t p q b e f = cc
-
--- ---- what `==` says of two byte strings
-
-pub same_pointwise : (s t : List ℕ) → pointwise eqb s t ≡ same s t
-unfolding same
-same_pointwise [] [] = refl
-same_pointwise [] (y ∷ t) = refl
-same_pointwise (x ∷ s) [] = refl
-same_pointwise (x ∷ s) (y ∷ t) =
-    if_case (λ (b : Bool). eqb x y && pointwise eqb s t ≡ b) (eqb x y) (same s t) false
-    (λ e. ap (λ (b : Bool). b && pointwise eqb s t) e ∙ same_pointwise s t)
-    (λ e. ap (λ (b : Bool). b && pointwise eqb s t) e)
-
-eqb_flip : (x y : ℕ) → eqb x y ≡ eqb y x
-eqb_flip x y = by (eqb y x) refl
-  where
-    by : (t : Bool) → eqb y x ≡ t → eqb x y ≡ eqb y x
-    by true e = eq-eqb x y (sym (eqb-true y x e)) ∙ sym e
-    by false e = ne_eqb x y (λ q. eqb-false y x e (sym q)) ∙ sym e
-
--- in which order two are compared does not matter
-pub same_flip : (s t : List ℕ) → same s t ≡ same t s
-unfolding same
-same_flip [] [] = refl
-same_flip [] (y ∷ t) = refl
-same_flip (x ∷ s) [] = refl
-same_flip (x ∷ s) (y ∷ t) = mathlib.Core.Path.ap₂ (λ (b c : Bool). if_b b c false) (eqb_flip x y) (same_flip s t)
 
 -- ---- the loop of `equal`: what is left from here compares as the whole
 

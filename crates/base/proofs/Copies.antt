@@ -8,12 +8,12 @@ use native.Mathlib.Numerals.{add-one}
 use borrow.Author.Rules.{rules}
 use borrow.Author.Tests.{le-leb, leb-true}
 use lib.Dec.{leb}
-use lib.ListN.{length, take, drop, get_or, set, length-take, length-drop, length-set, take-append-drop, drop_of_length-le}
+use lib.ListN.{length, take, drop, get_or, set, replicate, length-replicate, length-take, length-drop, length-set, take-append-drop, drop_of_length-le}
 use lib.Seq.{drop-cons, drop-drop, get_or-drop, length-take-le, take-add, take_all, take-take}
 use Rattle.base.proofs.Ifs.{if_true, if_false, if_case}
 use Rattle.base.specs.Part.{part, put_at, put_in}
 use Rattle.base.specs.Code.Copy.{Short, Chunked}
-use Rattle.base.proofs.Parts.{drop_take, length_put, put_none, put_put, put_again}
+use Rattle.base.proofs.Parts.{drop_take, length_part, part_within, length_put, put_none, put_put, put_again, put_over_all}
 use Rattle.base.proofs.Put.{put_first}
 
 -- ---- copying: what is left to put from here makes the whole
@@ -74,6 +74,13 @@ four_read s a h =
     let e3 : get_or (drop a s) 3 0 ≡ get_or s (a + 3) 0 = get_or-drop a s 3 0 in
     let all = first_four (drop a s) (simp length-drop (omega arith)) in
     cc
+
+-- n bytes put over an array of as many are the part that they make up
+pub word_copied : (n a b : ℕ) (s : List ℕ) → a + n ≤ length s → put_at (replicate n b) 0 (take (a + n - a) (drop a s)) ≡ part a n s
+word_copied n a b s h =
+    let wide : length (part a n s) ≡ n = length_part a n s h in
+    let room : length (replicate n b) ≡ n = length-replicate n b in
+    ap (put_at (replicate n b) 0) (part_within a n s) ∙ put_over_all (replicate n b) (part a n s) (omega arith)
 
 -- the first i of some bytes, and those from m on, which may meet, are all of them
 put_meet : (o s : List ℕ) (at i m : ℕ) → m ≤ i → i ≤ length s → at + length s ≤ length o

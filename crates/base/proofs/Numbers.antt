@@ -6,8 +6,6 @@ use Prim.Native.Nat.{ℕ, zero, suc, ◌+◌, ◌*◌, ◌-◌, ◌/◌, ◌%◌
 use native.Mathlib.Nat.{pow-suc, div-lt_iff_lt-mul}
 use native.Mathlib.Omega.{arith}
 use native.Mathlib.Numerals.{add-one}
-use mir.Syntax.{w32}
-use Rattle.std.specs.Int.{to_le_bytes}
 use lib.ListN.{length, length-append}
 use Rattle.base.specs.If.{if_b}
 use Rattle.base.proofs.Ifs.{if_true, if_case}
@@ -43,9 +41,3 @@ value_digits (suc w) n h =
     value_append 0 (digits w (n / 10)) ((48 + n % 10) ∷ [])
     ∙ ap (λ (v : ℕ). v * 10 + (48 + n % 10 - 48)) (value_digits w (n / 10) small)
     ∙ omega arith
-
--- ---- the bytes of a word, the low byte first
-
-pub low_first : (n : ℕ) → n < 4294967296
-    → to_le_bytes w32 n ≡ n % 256 ∷ n / 256 % 256 ∷ n / 65536 % 256 ∷ n / 16777216 ∷ []
-low_first n h = let last : n / 16777216 % 256 ≡ n / 16777216 = omega arith in rw last

@@ -1,9 +1,8 @@
 -- Laws of parts of lists and of lists put over others. Assumes nothing.
-use mathlib.Core.Path.{◌≡◌, sym, ap, ap₂, ◌∙◌}
+use mathlib.Core.Path.{◌≡◌, sym, ap, ◌∙◌}
 use mathlib.Core.List.{List, [], ◌∷◌, ◌++◌, append_assoc, append-nil}
 use Prim.Native.Nat.{ℕ, zero, suc, ◌+◌, ◌-◌, ◌≤◌}
 use native.Mathlib.Omega.{arith}
-use borrow.Rule.Slice.PartMut.{put_mid}
 use lib.ListN.{length, take, drop, length-append, length-take, length-drop, take-append-drop, drop_of_length-le}
 use lib.Seq.{length-take-le, take_all, take_at, drop_at, drop-drop, take-take, take-append_seam, take-nil}
 use Rattle.base.specs.Part.{part, put_at}
@@ -114,6 +113,10 @@ pub put_first_of_all : (old bs : List ℕ) → put_at old 0 bs ≡ bs ++ drop (l
 unfolding put_at
 put_first_of_all old bs = let e : 0 + length bs ≡ length bs = omega arith in ap (λ (k : ℕ). bs ++ drop k old) e
 
+-- over a list that is no longer
+pub put_over_all : (old bs : List ℕ) → length old ≤ length bs → put_at old 0 bs ≡ bs
+put_over_all old bs h = put_first_of_all old bs ∙ ap (λ (l : List ℕ). bs ++ l) (drop_of_length-le old h) ∙ append-nil bs
+
 -- two puts, the second right before the first, are one
 pub put_before : (old : List ℕ) (at : ℕ) (xs ys : List ℕ) → at + length xs ≤ length old
     → put_at (put_at old (at + length xs) ys) at xs ≡ put_at old at (xs ++ ys)
@@ -130,14 +133,6 @@ put_before old at xs ys h =
     ∙ sym (append_assoc (take at old ++ xs) ys _)
     ∙ ap (λ (l : List ℕ). l ++ drop (at + length xs + length ys) old) (append_assoc (take at old) xs ys)
     ∙ ap (λ (k : ℕ). take at old ++ (xs ++ ys) ++ drop k old) behind
-
--- through a borrow of k places, as many as there are bytes
-pub put_mid_at : (old : List ℕ) (at k : ℕ) (xs ys : List ℕ) → length ys ≡ k → xs ≡ ys → put_mid at k old xs ≡ put_at old at ys
-unfolding put_at
-put_mid_at old at k xs ys h e =
-    ap₂ (λ (l : List ℕ) (n : ℕ). take at old ++ (l ++ drop n (drop at old))) e (sym h)
-    ∙ ap (λ (l : List ℕ). take at old ++ (ys ++ l)) (drop-drop (length ys) at old)
-    ∙ sym (append_assoc (take at old) ys (drop (at + length ys) old))
 
 -- ---- the three ways in which `part_of` cuts a part
 

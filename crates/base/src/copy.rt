@@ -14,19 +14,19 @@ fn copy_to(out: &mut [u8], at: usize, s: &[u8])
     requires { at + length s.now ≤ length out.old }
     ensures { out.new ≡ put_at out.old at s.now }
 {
-    for (i, b) in s.iter().enumerate() {
-        out[at + i] = *b;
+    for i in 0..s.len() {
+        out[at + i] = s[i];
     }
 }
 
 // N bytes of s from a place on; the compiler takes few as one word.
-#[tactic(auto, using(crate::proofs::Parts::part_within))]
+#[tactic(auto, using(crate::proofs::Copies::word_copied))]
 fn word_of<const N: usize>(s: &[u8], from: usize) -> [u8; N]
     requires { from + N ≤ length s.now }
     ensures { result ≡ part from N s.now }
 {
     let mut word = [0; N];
-    word.copy_from_slice(&s[from..from + N]);
+    copy_to(&mut word, 0, &s[from..from + N]);
     word
 }
 

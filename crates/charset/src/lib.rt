@@ -110,8 +110,8 @@ fn all_by_table(s: &[u8]) -> bool
 pub fn all_characters(s: &[u8]) -> bool
     ensures { result ≡ all_a s.now }
 {
-    for (i, b) in s.iter().enumerate() {
-        if !in_ranges(*b) {
+    for i in 0..s.len() {
+        if !in_ranges(s[i]) {
             return all_by_table(&s[i..]);
         }
     }

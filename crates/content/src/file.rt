@@ -57,7 +57,10 @@ fn file_from(image: &[u8], from: Position) -> Option<FileAt>
     ensures { result ≡ file_from image.now from }
 {
     let found = search(image, from, false, false);
-    let Part::File(hdr1, hdr2) = found.part? else {
+    let Some(part) = found.part else {
+        return None;
+    };
+    let Part::File(hdr1, hdr2) = part else {
         return None;
     };
     Some(file_at(image, hdr1, hdr2))
@@ -117,7 +120,10 @@ fn files_on(image: &[u8], from: FileAt, files: u64) -> Option<FileAt>
     let mut left = files;
     let mut f = from;
     while 0 < left {
-        f = next_file(image, f.hdr1, f.hdr2)?;
+        let Some(next) = next_file(image, f.hdr1, f.hdr2) else {
+            return None;
+        };
+        f = next;
         left -= 1;
     }
     Some(f)
@@ -130,6 +136,8 @@ pub(crate) fn file_numbered(image: &[u8], n: u64) -> Option<FileAt>
     if n == 0 {
         return None;
     }
-    let first = first_file(image)?;
+    let Some(first) = first_file(image) else {
+        return None;
+    };
     files_on(image, first, n - 1)
 }

@@ -215,7 +215,10 @@ fn pass(image: &[u8], from: Walk, records: u64) -> Option<Walk>
     let mut left = records;
     let mut w = from;
     while 0 < left {
-        match measure(image, w)? {
+        let Some(measured) = measure(image, w) else {
+            return None;
+        };
+        match measured {
             Measured::Whole(_, _, v) => {
                 left -= 1;
                 w = v;
@@ -260,7 +263,10 @@ fn found_from(
     ensures value { result ≡ found_from image.now r (length join.old) begun }
     ensures join_after { join.new ≡ left_from image.now r join.old begun }
 {
-    let f = begun?;
+    let f = match begun {
+        Ok(f) => f,
+        Err(v) => return Err(v),
+    };
     if r == 0 {
         return Err(answer(13));
     }

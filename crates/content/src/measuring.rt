@@ -136,8 +136,7 @@ pub(crate) fn rest_length(image: &[u8], most: usize, from: Walk) -> Option<Tail>
     let mut room = most;
     let mut total: usize = 0;
     let mut w = from;
-    loop {
-        let unit = unit_next(image, w)?;
+    while let Some(unit) = unit_next(image, w) {
         if room < unit.len {
             return None;
         }
@@ -154,6 +153,7 @@ pub(crate) fn rest_length(image: &[u8], most: usize, from: Walk) -> Option<Tail>
         total += unit.len;
         w = unit.behind;
     }
+    None
 }
 
 // The record at a walk's place, if one stands there, unit by unit.
@@ -167,7 +167,9 @@ pub(crate) fn measure_units(image: &[u8], w: Walk) -> Option<Measured>
         return None;
     }
     let most = w.record_length as usize;
-    let first = unit_from(image, w)?;
+    let Some(first) = unit_from(image, w) else {
+        return None;
+    };
     if most < first.len {
         return None;
     }
@@ -177,7 +179,9 @@ pub(crate) fn measure_units(image: &[u8], w: Walk) -> Option<Measured>
     if first.indicator != 1 {
         return None;
     }
-    let rest = rest_length(image, most - first.len, first.behind)?;
+    let Some(rest) = rest_length(image, most - first.len, first.behind) else {
+        return None;
+    };
     Some(Measured::Split(first.len + rest.len, rest.behind))
 }
 
@@ -190,7 +194,9 @@ fn measure_begun(image: &[u8], v: Walk, k: usize) -> Option<Measured>
     let n = k - 5;
     let most = v.record_length as usize;
     let u = moved(v, v.at + k, v.left - k);
-    let rest = rest_length(image, most - n, u)?;
+    let Some(rest) = rest_length(image, most - n, u) else {
+        return None;
+    };
     Some(Measured::Split(n + rest.len, rest.behind))
 }
 

@@ -37,7 +37,10 @@ fn whole_from(image: &[u8], w: Walk) -> Option<Taken>
     if k != 0 {
         return None;
     }
-    let Measured::Whole(start, len, behind) = measure_units(image, w)? else {
+    let Some(measured) = measure_units(image, w) else {
+        return None;
+    };
+    let Measured::Whole(start, len, behind) = measured else {
         return None;
     };
     Some(Taken {

@@ -18,7 +18,10 @@ pub struct Extent {
 fn as_block(part: Option<Part>) -> Option<Extent>
     ensures { result ≡ as_block part }
 {
-    let Part::Block(start, len) = part? else {
+    let Some(found) = part else {
+        return None;
+    };
+    let Part::Block(start, len) = found else {
         return None;
     };
     Some(Extent { start, len })

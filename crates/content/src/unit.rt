@@ -53,17 +53,15 @@ fn unit_here(image: &[u8], w: Walk) -> Option<Taken>
 {
     let at = w.at;
     let left = w.left;
-    let Unit {
-        indicator,
-        word,
-        len,
-    } = unit_in(w.format, w.record_length, part_of(image, at, left))?;
-    let start = at + word;
+    let Some(unit) = unit_in(w.format, w.record_length, part_of(image, at, left)) else {
+        return None;
+    };
+    let start = at + unit.word;
     Some(Taken {
-        indicator,
+        indicator: unit.indicator,
         start,
-        len,
-        behind: moved(w, start + len, left - (word + len)),
+        len: unit.len,
+        behind: moved(w, start + unit.len, left - (unit.word + unit.len)),
     })
 }
 
@@ -77,7 +75,9 @@ fn block_next(image: &[u8], w: Walk) -> Option<Walk>
     if !all_padding(part_of(image, at, left)) {
         return None;
     }
-    let block = next_data(image, at + left)?;
+    let Some(block) = next_data(image, at + left) else {
+        return None;
+    };
     if block.len < w.offset {
         return None;
     }
@@ -89,7 +89,9 @@ fn unit_beyond(image: &[u8], w: Walk) -> Option<Taken>
     requires { Inside image.now w }
     ensures { result ≡ unit_next image.now w }
 {
-    let v = block_next(image, w)?;
+    let Some(v) = block_next(image, w) else {
+        return None;
+    };
     unit_here(image, v)
 }
 

@@ -8,7 +8,6 @@ use native.Mathlib.Omega.{arith}
 use borrow.Author.Rules.{rules}
 use borrow.Author.Tests.{eq-eqb, ne_eqb, le-leb, le-ltb, ltb-false}
 use lib.Dec.{eqb, ltb}
-use lib.Pointwise.{pointwise}
 use lib.ListN.{length, take, drop}
 use Rattle.base.specs.If.{if_b}
 use Rattle.base.proofs.Ifs.{if_true, if_false, if_case, and_true}
@@ -16,7 +15,7 @@ use Rattle.base.specs.Part.{part, same}
 use Rattle.base.specs.Answer.{verdict}
 use Rattle.base.specs.declared.Verdict.{Verdict}
 use Rattle.base.proofs.Parts.{length_part}
-use Rattle.base.proofs.Bytes.{same_refl, same_true, same_flip, same_pointwise}
+use Rattle.base.proofs.Bytes.{same_refl, same_true}
 use Rattle.image.specs.declared.Shape.{Shape}
 use Rattle.image.specs.declared.Shape.TheVariants.{Block, Mark, ReelEnd, Broken}
 use Rattle.image.specs.Item.{Item, block, mark, reel_end, broken, most_bytes, shape, item_of, decode}
@@ -24,9 +23,10 @@ use Rattle.image.specs.Code.Items.{is_item, all_items}
 use Rattle.image.specs.Framing.{most_image, most_reels, head, framed_from, items, opens, framing, framing_from}
 use Rattle.image.proofs.Items.{BlockAt, block_at, block_fits, decode_none, decode_more, by_items, decode_past, decode_at, decode_block, decode_mark, decode_reel_end, decode_broken}
 
--- the first five bytes, as the code compares them
-pub head_first : (s : List ℕ) (b : Bool) → b ≡ pointwise eqb head (take 5 s) → b ≡ same (take 5 s) head
-head_first s b e = e ∙ same_pointwise head (take 5 s) ∙ same_flip head (take 5 s)
+-- the first five bytes, as the code takes them
+pub head_first : (s p : List ℕ) (b : Bool) → p ≡ part 0 5 s → b ≡ same p head → b ≡ same (take 5 s) head
+unfolding part
+head_first s p b e h = h ∙ ap (λ (l : List ℕ). same l head) e
 
 -- behind sixteen reels no item may stand
 framed_full : (n r : ℕ) (closed : Bool) (x : Item) (xs : List Item) → r ≡ most_reels

@@ -47,7 +47,10 @@ pub fn done(len: usize) -> Written
 pub fn behind(at: usize, n: usize, most: usize) -> usize
     ensures { result ≡ min (at + n) most }
 {
-    at.saturating_add(n).min(most)
+    if most <= at || most - at <= n {
+        return most;
+    }
+    at + n
 }
 
 // Writes s at a place if all of it has room there before place `most`, and gives the place behind.
@@ -89,9 +92,15 @@ fn tens_of(both: u32) -> u32
 pub fn figures(n: usize) -> [u8; 4]
     ensures { result ≡ digits 4 (min n 9999) }
 {
-    let both = halves(n.min(9999) as u32);
+    let counted = if n < 9999 { n as u32 } else { 9999 };
+    let both = halves(counted);
     let word = both * 256 - tens_of(both) * 2559 + 808464432;
-    word.to_le_bytes()
+    [
+        (word % 256) as u8,
+        (word / 256 % 256) as u8,
+        (word / 65536 % 256) as u8,
+        (word / 16777216) as u8,
+    ]
 }
 
 // The last four digits of a number.

@@ -71,7 +71,7 @@ fn pair(first: &[u8], second: &[u8], labels: &Labels, section: u32, count: u32) 
 {
     let entry = part_of(labels, 0, ENTRY);
     let set = part_of(labels, SET, SET_ENTRY);
-    let sequence = u32::from(labels[SEQUENCE]);
+    let sequence = labels[SEQUENCE] as u32;
     let l = label_item(&first_label(first, set, entry, section, sequence, count));
     let m = label_item(&second_label(second, entry));
     let mut made = [0u8; HEADERS];

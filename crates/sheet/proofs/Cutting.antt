@@ -1,11 +1,13 @@
 -- Laws of lists cut into parts. Assumes nothing.
-use mathlib.Core.Path.{◌≡◌, refl, sym, ap, ◌∙◌}
+use mathlib.Core.Path.{◌≡◌, refl, ap, ◌∙◌}
 use mathlib.Core.List.{List, [], ◌∷◌, ◌++◌}
-use Prim.Native.Nat.{ℕ, zero, suc, ◌+◌, ◌*◌, ◌≤◌, ◌<◌, min}
+use Prim.Native.Nat.{ℕ, zero, suc, ◌+◌, ◌*◌, ◌-◌, ◌≤◌, ◌<◌, min}
 use native.Mathlib.Nat.{suc-mul}
 use native.Mathlib.Omega.{arith}
 use lib.ListN.{length, take, drop, length-append, length-drop}
 use lib.Seq.{take_at, drop_at}
+use Rattle.base.specs.Part.{part}
+use Rattle.base.proofs.Parts.{part_to_end}
 use Rattle.sheet.specs.Flat.{in_parts_f, in_parts}
 
 -- ---- a part of n elements, or to the end
@@ -19,6 +21,18 @@ pub take_min : (n : ℕ) (s : List ℕ) → take (min n (length s)) s ≡ take n
 take_min zero s = let e : min 0 (length s) ≡ 0 = omega arith in rw e
 take_min (suc n) [] = let e : min (suc n) 0 ≡ 0 = omega arith in rw e
 take_min (suc n) (x ∷ s) = let e : min (suc n) (suc (length s)) ≡ suc (min n (length s)) = omega arith in rw e (ap (λ (l : List ℕ). x ∷ l) (take_min n s))
+
+-- the code's `&s[k..]`
+pub behind : (k : ℕ) (s : List ℕ) → take (length s - k) (drop k s) ≡ drop k s
+unfolding part
+behind k s = part_to_end k s
+
+-- that and `&s[..k]`, where k is n or all there is
+pub front_of : (n k : ℕ) (s : List ℕ) → k ≡ min (length s) n → take k s ≡ take n s
+front_of n k s e = let m : k ≡ min n (length s) = omega arith in rw m (take_min n s)
+
+pub back_of : (n k : ℕ) (s : List ℕ) → k ≡ min (length s) n → take (length s - k) (drop k s) ≡ drop n s
+back_of n k s e = let m : k ≡ min n (length s) = omega arith in behind k s ∙ rw m (drop_min n s)
 
 -- ---- parts
 
@@ -48,14 +62,6 @@ parts_some w (x ∷ s) z h =
     let e = length-drop w (x ∷ s) in
     ap (λ (r : List (List ℕ)). take w (x ∷ s) ∷ r)
     (parts_enough (length s) (length (drop w (x ∷ s))) w (drop w (x ∷ s)) z (omega arith) (omega arith))
-
--- the first part, and the rest behind it
-pub parts_cut : (w : ℕ) (s e t : List ℕ) → 0 < w → s ≡ e ++ t → length e ≡ min w (length s) → 0 < length s
-    → in_parts w s ≡ e ∷ in_parts w t
-parts_cut w s e t z q k h =
-    let front : take w s ≡ e = sym (take_min w s) ∙ ap (take (min w (length s))) q ∙ take_at e t (min w (length s)) k in
-    let back : drop w s ≡ t = sym (drop_min w s) ∙ ap (drop (min w (length s))) q ∙ drop_at e t (min w (length s)) k in
-    parts_some w s z h ∙ rw (front, back)
 
 -- a part of full length before others
 pub parts_cons : (w : ℕ) (s t : List ℕ) → 0 < w → length s ≡ w → in_parts w (s ++ t) ≡ s ∷ in_parts w t

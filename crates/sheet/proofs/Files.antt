@@ -1,12 +1,13 @@
 -- Laws of files, as a loop over their entries and counts wants them. Assumes nothing.
 use mathlib.Core.Path.{◌≡◌, refl, sym, ap, ◌∙◌}
 use mathlib.Core.Bool.{Bool, true, false}
-use mathlib.Core.List.{List, [], ◌∷◌, ◌++◌}
-use Prim.Native.Nat.{ℕ, ◌+◌, ◌≤◌, ◌<◌, min}
+use mathlib.Core.List.{List, [], ◌∷◌}
+use Prim.Native.Nat.{ℕ, ◌+◌, ◌-◌, ◌≤◌, ◌<◌, min}
 use native.Mathlib.Omega.{arith}
+use native.Mathlib.Numerals.{add-one}
 use borrow.Author.Rules.{rules}
-use lib.ListN.{length, take, drop, take-append-drop}
-use lib.Seq.{drop-drop}
+use lib.ListN.{length, take, drop, get_or, length-drop, take-append-drop, drop_of_length-le}
+use lib.Seq.{drop-cons, drop-drop}
 use Rattle.base.specs.If.{if_b}
 use Rattle.base.proofs.Ifs.{if_true, if_false}
 use Rattle.base.specs.Sum.{sum, cut_by}
@@ -17,7 +18,7 @@ use Rattle.sheet.specs.Flat.{in_parts, files_from}
 use Rattle.sheet.specs.Code.Passing.{passed}
 use Rattle.std.specs.Prelude.{Some, None}
 use Rattle.std.proofs.lemmas.List.{nil_from_length}
-use Rattle.sheet.proofs.Cutting.{drop_min, take_min, parts_none, parts_cut}
+use Rattle.sheet.proofs.Cutting.{behind, front_of, back_of, parts_none, parts_some}
 
 -- ---- one file
 
@@ -27,13 +28,14 @@ file e rs = record { fields = e; records = rs }
 -- ---- the loop of `are_legal`: the files that are left from here decide as all of them
 
 pub record FilesLeft (set files counts lengths s es cs ls : List ℕ) (at : ℕ) : Type 0 where
+  pub within : length ls ≤ length lengths
   pub fits : at + sum ls ≤ length s
   pub left : legal_files set (files_from (in_parts 46 es) cs ls (drop at s))
       ≡ legal_files set (files_from (in_parts 46 files) counts lengths s)
 
 pub left_none : (set files counts lengths s : List ℕ) → sum lengths ≤ length s
     → FilesLeft set files counts lengths s files counts lengths 0
-left_none set files counts lengths s h = record { fits = omega arith; left = refl }
+left_none set files counts lengths s h = record { within = omega arith; fits = omega arith; left = refl }
 
 no_entry : (set cs ls s : List ℕ) → legal_files set (files_from [] cs ls s) ≡ true
 unfolding legal_files files_from
@@ -54,12 +56,11 @@ left_entries set files counts lengths s es cs ls at c h =
     ∙ no_entry set cs ls (drop at s))
     ∙ c.left
 
-pub left_counts : (set files counts lengths s es cs ls : List ℕ) (at : ℕ)
-    → FilesLeft set files counts lengths s es cs ls at → length cs ≡ 0
+pub left_counts : (set files counts lengths s es ls : List ℕ) (at i : ℕ)
+    → FilesLeft set files counts lengths s es (drop i counts) ls at → length counts ≤ i
     → true ≡ legal_files set (files_from (in_parts 46 files) counts lengths s)
-left_counts set files counts lengths s es cs ls at c h =
-    let none : cs ≡ [] = nil_from_length cs h in
-    sym (ap (λ (l : List ℕ). legal_files set (files_from (in_parts 46 es) l ls (drop at s))) none
+left_counts set files counts lengths s es ls at i c h =
+    sym (ap (λ (l : List ℕ). legal_files set (files_from (in_parts 46 es) l ls (drop at s))) (drop_of_length-le counts h)
     ∙ no_count set (in_parts 46 es) ls (drop at s))
     ∙ c.left
 
@@ -74,52 +75,59 @@ unfolding passed if_b
 passed_none true ls from e = absurd (cc)
 passed_none false ls from e = refl
 
--- the lengths of the next file, and those behind it, as the code takes them
-pub record Next (ls : List ℕ) (count : ℕ) (here behind : List ℕ) : Type 0 where
-  pub these : here ≡ take count ls
-  pub others : behind ≡ drop count ls
+-- the bytes of the lengths that are left are those of a file's and those behind
+sum_parts : (n : ℕ) (ls : List ℕ) → sum ls ≡ sum (take n ls) + sum (drop n ls)
+sum_parts n ls = ap sum (sym (take-append-drop n ls)) ∙ sum_append (take n ls) (drop n ls)
 
-pub next_is : (ls : List ℕ) (count n : ℕ) (here behind : List ℕ) → n ≡ min (length ls) count → here ≡ take n ls → behind ≡ drop n ls
-    → Next ls count here behind
-next_is ls count n here behind e h b =
-    let m : n ≡ min count (length ls) = omega arith in
-    record {
-      these = h ∙ ap (λ (k : ℕ). take k ls) m ∙ take_min count ls;
-      others = b ∙ ap (λ (k : ℕ). drop k ls) m ∙ drop_min count ls;
-    }
+pub left_room : (set files counts lengths s es cs ls : List ℕ) (at n : ℕ)
+    → FilesLeft set files counts lengths s es cs ls at → at + sum (take n ls) ≤ length s
+left_room set files counts lengths s es cs ls at n c = omega (arith, c.fits, sum_parts n ls)
 
-pub left_room : (set files counts lengths s es cs ls : List ℕ) (at : ℕ) (count : ℕ) (here behind : List ℕ)
-    → FilesLeft set files counts lengths s es cs ls at → Next ls count here behind → at + sum here ≤ length s
-left_room set files counts lengths s es cs ls at count here behind c k =
-    let sums = ap sum (sym (take-append-drop count ls)) ∙ sum_append (take count ls) (drop count ls) in
-    omega (arith, c.fits, sums, ap sum k.these)
-
-module _ (set files counts lengths s es cs ls : List ℕ) (at w : ℕ) (e es' : List ℕ) (count : ℕ) (cs' here behind : List ℕ)
-    (c : FilesLeft set files counts lengths s es cs ls at) (size : w ≡ 46) (ee : es ≡ e ++ es')
-    (el : length e ≡ min w (length es)) (some : 0 < length es) (ce : cs ≡ count ∷ cs') (k : Next ls count here behind) where
-  -- the next file and those behind it
-  files_next : legal_files set (files_from (in_parts 46 es) cs ls (drop at s))
-      ≡ if_b (legal_file set (file e (cut_by here (drop at s))))
-      (legal_files set (files_from (in_parts 46 es') cs' behind (drop (sum here) (drop at s)))) false
+-- the next file has an entry of `size` bytes and n lengths
+module _ (set files counts lengths s es ls : List ℕ) (at i size n : ℕ)
+    (c : FilesLeft set files counts lengths s es (drop i counts) ls at) (h : i < length counts) (some : length es ≡ 0 → ⊥)
+    (ee : size ≡ min (length es) 46) (ne : n ≡ min (length ls) (get_or counts i 0)) where
+  -- that file and those behind it
+  files_next : legal_files set (files_from (in_parts 46 es) (drop i counts) ls (drop at s))
+      ≡ if_b (legal_file set (file (take size es) (cut_by (take n ls) (drop at s))))
+      (legal_files set
+      (files_from (in_parts 46 (take (length es - size) (drop size es))) (drop (i + 1) counts) (take (length ls - n) (drop n ls))
+      (drop (sum (take n ls)) (drop at s))))
+      false
   unfolding legal_files files_from
-  files_next = rw (ce, parts_cut 46 es e es' (omega arith) ee (el ∙ ap (λ (k : ℕ). min k (length es)) size) some, k.these, k.others)
+  files_next =
+      rw (
+        front_of 46 size es ee,
+        back_of 46 size es ee,
+        front_of (get_or counts i 0) n ls ne,
+        back_of (get_or counts i 0) n ls ne,
+        add-one,
+        drop-cons counts i 0 h,
+        parts_some 46 es (omega arith) (omega arith),
+      )
 
-  pub left_more : (end : ℕ) → Some end ≡ passed (legal_file set (file e (cut_by here (drop at s)))) here at
-      → FilesLeft set files counts lengths s es' cs' behind end
+  pub left_more : (end : ℕ) → Some end ≡ passed (legal_file set (file (take size es) (cut_by (take n ls) (drop at s)))) (take n ls) at
+      → FilesLeft set files counts lengths s (take (length es - size) (drop size es)) (drop (i + 1) counts)
+      (take (length ls - n) (drop n ls)) end
   left_more end r =
-      let yes = passed_some (legal_file set (file e (cut_by here (drop at s)))) here at end r in
-      let sums = ap sum (sym (take-append-drop count ls)) ∙ sum_append (take count ls) (drop count ls) in
+      let yes = passed_some (legal_file set (file (take size es) (cut_by (take n ls) (drop at s)))) (take n ls) at end r in
+      let rest : take (length ls - n) (drop n ls) ≡ drop n ls = behind n ls in
       record {
-        fits = omega (arith, c.fits, yes.1, sums, ap sum k.these, ap sum k.others);
+        within = omega (arith, c.within, ap length rest, length-drop n ls);
+        fits = omega (arith, c.fits, yes.1, sum_parts n ls, ap sum rest);
         left =
-            ap (λ (l : List ℕ). legal_files set (files_from (in_parts 46 es') cs' behind l))
-            (ap (λ (n : ℕ). drop n s) yes.1 ∙ sym (drop-drop (sum here) at s))
+            ap (λ (l : List ℕ). legal_files set
+            (files_from (in_parts 46 (take (length es - size) (drop size es))) (drop (i + 1) counts) (take (length ls - n) (drop n ls)) l))
+            (ap (λ (k : ℕ). drop k s) yes.1 ∙ sym (drop-drop (sum (take n ls)) at s))
             ∙ sym (files_next ∙ if_true _ _ _ yes.0)
             ∙ c.left;
       }
 
-  pub left_wrong : None ≡ passed (legal_file set (file e (cut_by here (drop at s)))) here at
+  pub left_wrong : None ≡ passed (legal_file set (file (take size es) (cut_by (take n ls) (drop at s)))) (take n ls) at
       → false ≡ legal_files set (files_from (in_parts 46 files) counts lengths s)
-  left_wrong r = sym (files_next ∙ if_false _ _ _ (passed_none (legal_file set (file e (cut_by here (drop at s)))) here at r)) ∙ c.left
+  left_wrong r =
+      sym (files_next
+      ∙ if_false _ _ _ (passed_none (legal_file set (file (take size es) (cut_by (take n ls) (drop at s)))) (take n ls) at r))
+      ∙ c.left
 
-pub ruleset lefts = (left_none, left_entries, left_counts, rules)
+pub ruleset lefts = (left_none, left_entries, left_counts, left_room, left_more, left_wrong, rules)

@@ -10,10 +10,11 @@ ghost use Rattle.sheet.specs.Flat.{in_parts, files_from};
 ghost use Rattle.sheet.specs.Code.Passing.{passed, too_long};
 
 use base::{FIXED, VARIABLE, part_of};
-use block::all_padding;
+use block::{all_padding, smaller};
 use charset::number_in;
 use label::{ENTRY, FORMAT_IN, SIZE_IN, SIZE_WIDTH, first_label, label_fault, second_label};
 use order::{HDR, Kind};
+use volume::value_of;
 
 // The least length of a record that four digits of a control word cannot say.
 const UNSAYABLE: usize = 9_996;
@@ -65,15 +66,18 @@ fn is_legal_entry(set: &[u8], entry: &[u8]) -> bool
 pub fn format_in(entry: &[u8]) -> u8
     ensures { result ≡ format_from entry.now }
 {
-    entry.get(FORMAT_IN).copied().unwrap_or(0)
+    if FORMAT_IN < entry.len() {
+        return entry[FORMAT_IN];
+    }
+    0
 }
 
 // The record length of an entry.
-#[tactic(auto, unfolding(reading::specs::Legal::record_length_from, volume::specs::Fault::value_of))]
+#[tactic(auto, unfolding(reading::specs::Legal::record_length_from))]
 fn record_length_in(entry: &[u8]) -> u32
     ensures { result ≡ record_length_from entry.now }
 {
-    number_in(part_of(entry, SIZE_IN, SIZE_WIDTH)).unwrap_or(0)
+    value_of(number_in(part_of(entry, SIZE_IN, SIZE_WIDTH)))
 }
 
 // ---- records
@@ -112,7 +116,10 @@ fn too_long(format: u8, record_length: u32) -> usize
 {
     let most = record_length as usize;
     if format == VARIABLE {
-        return most.saturating_sub(3).min(UNSAYABLE);
+        if most < 3 {
+            return 0;
+        }
+        return smaller(most - 3, UNSAYABLE);
     }
     most + 1
 }
@@ -199,16 +206,21 @@ pub(crate) fn are_legal(
     requires { sum lengths.now ≤ length bytes.now }
     ensures { result ≡ legal_files set.now (files_from (in_parts entry_length files.now) counts.now lengths.now bytes.now) }
 {
+    let mut entries = files;
     let mut left = lengths;
     let mut at = 0;
-    for (entry, count) in files.chunks(ENTRY).zip(counts) {
-        let n = left.len().min(*count as usize);
-        let (here, behind) = left.split_at(n);
-        match file_passed(set, entry, here, bytes, at) {
+    for count in counts {
+        if entries.len() == 0 {
+            return true;
+        }
+        let size = smaller(entries.len(), ENTRY);
+        let n = smaller(left.len(), *count as usize);
+        match file_passed(set, &entries[..size], &left[..n], bytes, at) {
             None => return false,
             Some(end) => at = end,
         }
-        left = behind;
+        entries = &entries[size..];
+        left = &left[n..];
     }
     true
 }

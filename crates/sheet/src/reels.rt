@@ -38,17 +38,20 @@ fn is_legal_name(name: &[u8]) -> bool
 }
 
 // Whether each of the names is legal, and none is among those before it. There are few: each is compared with all before it.
+// Fewer bytes than a name's behind the last are no name.
 #[tactic(auto, using(crate::proofs::Names::freshes))]
 pub(crate) fn are_fresh(names: &[u8]) -> bool
     requires { length names.now ≤ 96 }
     ensures { result ≡ fresh_names [] (in_parts 6 names.now) }
 {
     let mut places = [0usize; 16];
-    for (i, name) in names.chunks(NAME).enumerate() {
+    for i in 0..names.len() / NAME {
+        let at = i * NAME;
+        let name = &names[at..at + NAME];
         if !is_legal_name(name) || is_among(names, &places[..i], name) {
             return false;
         }
-        places[i] = i * NAME;
+        places[i] = at;
     }
-    true
+    names.len() % NAME == 0
 }

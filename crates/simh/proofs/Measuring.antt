@@ -1,5 +1,5 @@
 -- The check of all files of a set: those that are left answer as all of them. Assumes nothing.
-use mathlib.Core.Path.{◌≡◌, refl, sym, ap, ◌∙◌, subst}
+use mathlib.Core.Path.{◌≡◌, refl, sym, ap, ◌∙◌}
 use mathlib.Core.Bool.{Bool, true, false}
 use mathlib.Core.List.{List, [], ◌∷◌, map, flatten as end_to_end}
 use Prim.Native.Nat.{ℕ, ◌+◌, ◌-◌, ◌^◌, ◌≤◌, ◌<◌}
@@ -16,8 +16,6 @@ use Rattle.base.specs.If.{if_b}
 use Rattle.base.proofs.Ifs.{if_true, if_false}
 use Rattle.base.specs.Sum.{sum, cut_by}
 use Rattle.base.specs.Answer.{verdict}
-use Rattle.std.specs.Prelude.{Result, Ok, Err}
-use Rattle.std.specs.Result.{IsErrAnd}
 use Rattle.base.specs.declared.Verdict.{Verdict}
 use Rattle.base.proofs.Sums.{sum_at}
 use Rattle.image.specs.Item.{Item, encode as image_bytes}
@@ -25,7 +23,7 @@ use Rattle.image.proofs.RoundTrip.{encode_append}
 use Rattle.simh.specs.declared.import.Scan.{Scan}
 use Rattle.simh.specs.Tape.{decode}
 use Rattle.simh.specs.Set.{reel_verdict, reels_verdict, reels_in, is_few, tape_verdict}
-use Rattle.simh.specs.Code.Passes.{items_in, Answered, Right, Wrong, Scanned, Measured}
+use Rattle.simh.specs.Code.Passes.{items_in, Right, Wrong, Scanned, Measured}
 use Rattle.simh.proofs.Sizes.{no_bytes}
 
 -- the files from number i on, which begin at a place
@@ -160,12 +158,6 @@ file_start from n = omega arith
 
 pub ruleset measures =
     (measuring_none, measuring_more, measured_torn, measured_all, file_within, file_fits, file_start, scan_fits, lens_fit, rules)
-
--- a refusal that is handed on, as it was
-pub passed_on : {A : Type 0} (v : Verdict) (found : A → Type 0) (r : Result A Verdict) (e : Verdict) → IsErrAnd r (λ (u : Verdict). u ≡ e)
-    → Wrong v e → Answered v found r
-passed_on v found (Ok x) e h w = absurd h
-passed_on v found (Err u) e h w = subst (Wrong v) (sym h) w
 
 -- ---- the answer on the set
 

@@ -2,20 +2,16 @@
 use mathlib.Core.Path.{◌≡◌, sym, ap, ap₂, ◌∙◌}
 use mathlib.Core.Bool.{Bool, true, false, ◌&&◌}
 use mathlib.Core.List.{List, [], ◌∷◌, ◌++◌}
-use Prim.Native.Nat.{ℕ, ◌+◌, ◌*◌, ◌-◌, ◌%◌, ◌≤◌, ◌<◌, min}
+use Prim.Native.Nat.{ℕ, ◌+◌, ◌*◌, ◌-◌, ◌%◌, ◌≤◌, ◌<◌}
 use native.Mathlib.Omega.{arith}
 use borrow.Author.Rules.{rules}
 use borrow.Author.Tests.{eq-eqb, ne_eqb, eqb-true, eqb-false, le-leb, lt-leb}
 use lib.Dec.{leb, eqb}
-use mir.Syntax.{w32}
-use borrow.Rule.Slice.PartMut.{put_mid}
-use Rattle.std.specs.Int.{to_le_bytes}
-use Rattle.base.proofs.Numbers.{low_first}
 use lib.ListN.{length, take, drop, get_or, set, length-append, length-drop}
 use lib.Seq.{drop-cons, drop-drop, get_or-drop}
 use Rattle.base.proofs.Ifs.{if_true, if_false, if_case, and_left, and_right, if_itself}
 use Rattle.base.specs.Part.{part, put_at, all_are, put_in}
-use Rattle.base.proofs.Parts.{part_drop, put_mid_at, length_put, put_none, put_put}
+use Rattle.base.proofs.Parts.{part_drop, length_put, put_none, put_put}
 use Rattle.image.specs.Item.{block, three, bytes_of as image_item}
 use Rattle.image.specs.declared.Shape.{Shape}
 use Rattle.image.specs.declared.Shape.TheVariants.{Broken}
@@ -108,21 +104,6 @@ word_within s at h = omega arith
 pub ruleset shapes = (word_read, shape_past, shape_short, shape_led, word_within, rules)
 
 -- ---- writing
-
-pub three_put : (o xs : List ℕ) (at n : ℕ) → n < 16777216 → xs ≡ three (min n 16777215)
-    → put_mid at (at + 3 - at) o xs ≡ put_at o at (three n)
-unfolding three
-three_put o xs at n h e =
-    let all : min n 16777215 ≡ n = omega arith in
-    let wide : 3 ≡ at + 3 - at = omega arith in
-    put_mid_at o at (at + 3 - at) xs (three n) wide (e ∙ ap three all)
-
-pub four_put : (o xs : List ℕ) (at n : ℕ) → n < 4294967296 → xs ≡ to_le_bytes w32 n
-    → put_mid at (at + 4 - at) o xs ≡ put_at o at (four n)
-unfolding four
-four_put o xs at n h e =
-    let wide : 4 ≡ at + 4 - at = omega arith in
-    put_mid_at o at (at + 4 - at) xs (four n) wide (e ∙ low_first n h)
 
 pub length_pad : (n : ℕ) → length (pad n) ≡ n % 2
 unfolding pad

@@ -73,7 +73,8 @@ fn scan_reel(reel: &[u8], first: usize) -> Result<Scan, Verdict>
 fn torn_at(item: usize) -> Verdict
     ensures { result ≡ torn item }
 {
-    Verdict::at(15, item.min(MOST_PLACE) as u32)
+    let place = if item < MOST_PLACE { item } else { MOST_PLACE };
+    Verdict::at(15, place as u32)
 }
 
 // All files, which their lengths tell, by the bytes of their items in an image.
@@ -86,7 +87,10 @@ fn measure_reels(tape: &[u8], lengths: &[u64]) -> Result<usize, Verdict>
     let mut len: usize = 0;
     for n in lengths {
         let end = from + *n as usize;
-        let s = scan_reel(&tape[from..end], item)?;
+        let s = match scan_reel(&tape[from..end], item) {
+            Ok(s) => s,
+            Err(v) => return Err(v),
+        };
         from = end;
         item = s.item;
         len += s.len;
@@ -110,7 +114,10 @@ fn check(tape: &[u8], lengths: &[u64]) -> Result<usize, Verdict>
     if !add_up_to(lengths, tape.len()) {
         return Err(Verdict::at(15, 0));
     }
-    let len = measure_reels(tape, lengths)?;
+    let len = match measure_reels(tape, lengths) {
+        Ok(len) => len,
+        Err(v) => return Err(v),
+    };
     if !is_few(lengths.len()) {
         return Err(Verdict::at(2, 0));
     }

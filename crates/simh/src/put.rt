@@ -7,6 +7,17 @@ ghost use Rattle.simh.specs.Tape.{four, pad, span_of, bytes_of};
 use base::put_few;
 use image::length_word;
 
+// Writes the bytes of a word, few enough that the compiler takes them as one.
+#[tactic(auto, using(base::proofs::Copies::copying))]
+fn put_word<const N: usize>(out: &mut [u8], at: usize, word: &[u8; N])
+    requires { at + N ≤ length out.old }
+    ensures { out.new ≡ put_at out.old at word.now }
+{
+    for i in 0..N {
+        out[at + i] = word[i];
+    }
+}
+
 // A length word of an image. Short blocks come by the million, and all of them were measured: `image::put_length`, which asks for
 // room, takes a twelfth longer over them.
 pub(crate) fn put_three(out: &mut [u8], at: usize, n: usize)
@@ -14,7 +25,7 @@ pub(crate) fn put_three(out: &mut [u8], at: usize, n: usize)
     requires n_bound { n < 16777216 }
     ensures { out.new ≡ put_at out.old at (three n) }
 {
-    out[at..at + 3].copy_from_slice(&length_word(n));
+    put_word(out, at, &length_word(n));
 }
 
 // A block of an image.
@@ -29,12 +40,19 @@ pub(crate) fn put_block(out: &mut [u8], at: usize, s: &[u8])
 }
 
 // A length word of a file: four bytes, the low byte first.
+#[tactic(auto, unfolding(crate::specs::Tape::four))]
 pub(crate) fn put_four(out: &mut [u8], at: usize, n: usize)
     requires at_in_bounds { at + 4 ≤ length out.old }
     requires n_bound { n < 4294967296 }
     ensures { out.new ≡ put_at out.old at (four n) }
 {
-    out[at..at + 4].copy_from_slice(&(n as u32).to_le_bytes());
+    let word = [
+        (n % 256) as u8,
+        (n / 256 % 256) as u8,
+        (n / 65536 % 256) as u8,
+        (n / 16777216) as u8,
+    ];
+    put_word(out, at, &word);
 }
 
 // The pad byte of an odd count.

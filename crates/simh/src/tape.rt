@@ -4,6 +4,7 @@ ghost use Rattle.base.specs.Part.{part, all_are};
 ghost use Rattle.image.specs.Item.{most_bytes};
 ghost use Rattle.simh.specs.Tape.{word, span_of, is_whole, led_by, shape};
 
+use base::wide;
 use image::{MOST_BYTES, Shape};
 
 // The length word that ends the medium.
@@ -15,7 +16,7 @@ pub(crate) fn word_at(s: &[u8], at: usize) -> usize
     requires { at + 4 ≤ length s.now }
     ensures { result ≡ word (drop at s.now) }
 {
-    u32::from_le_bytes([s[at], s[at + 1], s[at + 2], s[at + 3]]) as usize
+    wide(s[at]) + wide(s[at + 1]) * 256 + wide(s[at + 2]) * 65536 + wide(s[at + 3]) * 16777216
 }
 
 // Whether the pad byte of a block of n bytes, which stands at a place, is 0; an even count has none.

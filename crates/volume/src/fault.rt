@@ -41,7 +41,10 @@ fn says(n: u64, x: Option<u32>) -> bool
 pub fn value_of(x: Option<u32>) -> u32
     ensures { result ≡ value_of x }
 {
-    x.unwrap_or(0)
+    match x {
+        Some(n) => n,
+        None => 0,
+    }
 }
 
 // The lower of two BPs, where 0 is none.

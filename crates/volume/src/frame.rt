@@ -16,7 +16,10 @@ use order::{END_OF_IMAGE, Kind, Phase, VOL, due_after};
 fn is_due(phase: Phase, family: u32, number: u32) -> bool
     ensures { result ≡ is_due (due_after phase (kind family number)) }
 {
-    due_after(phase, Kind { family, number }).is_some()
+    match due_after(phase, Kind { family, number }) {
+        Some(_) => true,
+        None => false,
+    }
 }
 
 // Whether a phase is inside a reel.

@@ -15,6 +15,7 @@ use charset::number_in;
 use label::{BLOCK_LENGTH_IN, BLOCK_LENGTH_WIDTH, ENTRY};
 use sections::{FILE_END, HEADERS, Labels, file_end, headers};
 use sheet::format_in;
+use volume::value_of;
 
 // Begins a file on the reel of a pen.
 #[tactic(auto, using(crate::proofs::Files::beginning))]
@@ -63,12 +64,11 @@ fn put_end(labels: &Labels, x: Body, out: &mut [u8], lay: bool) -> Body
 }
 
 // The block length of a file's entry.
-#[tactic(auto, unfolding(reading::specs::Legal::block_length_from, volume::specs::Fault::value_of))]
+#[tactic(auto, unfolding(reading::specs::Legal::block_length_from))]
 fn block_length_in(entry: &[u8]) -> usize
     ensures { result ≡ block_length_from entry.now }
 {
-    let n = number_in(part_of(entry, BLOCK_LENGTH_IN, BLOCK_LENGTH_WIDTH));
-    n.unwrap_or(0) as usize
+    value_of(number_in(part_of(entry, BLOCK_LENGTH_IN, BLOCK_LENGTH_WIDTH))) as usize
 }
 
 // Lays a file: its header labels, its blocks, and its trailer labels. Its entry says the format of its records and the length of

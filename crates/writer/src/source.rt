@@ -57,7 +57,9 @@ fn next_far(lengths: &[u64], bytes: &[u8], c: Cursor) -> Option<Found>
     requires image_value { c.image ≡ true }
     ensures { DidFind lengths.now bytes.now c result }
 {
-    let measured = measure_far(bytes, walk_of(c))?;
+    let Some(measured) = measure_far(bytes, walk_of(c)) else {
+        return None;
+    };
     match measured {
         Measured::Whole(from, len, v) => Some(Found {
             shape: Shape::Piece(from),

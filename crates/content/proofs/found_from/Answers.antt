@@ -20,10 +20,7 @@ pub shape_of-join : goal.shape_of-join
 shape_of-join c = search founds
 
 pub returns : goal.returns
-returns c = record { value = search (founds, c.in_ok-f.was); join_after = search (founds, c.in_ok-f.was) }
+returns c = search founds
 
-pub returns-in_err-f : goal.returns-in_err-f
-returns-in_err-f c = search founds
-
-pub branch-f-requires : goal.branch-f-requires
-branch-f-requires c = search founds
+pub returns-in-Err : goal.returns-in-Err
+returns-in-Err c = search founds

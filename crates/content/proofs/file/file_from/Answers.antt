@@ -13,12 +13,9 @@ file_at-requires c = search founds
 pub returns-in_default : goal.returns-in_default
 returns-in_default c = search founds
 
-pub returns-in_err-hdr1 : goal.returns-in_err-hdr1
-returns-in_err-hdr1 c = search founds
+pub returns-in_default-part : goal.returns-in_default-part
+returns-in_default-part c = search founds
 
 pub returns : goal.returns
 returns c =
-    let e : c.search-found.result.part ≡ Some (File c.in-File.hdr1 c.in-File.hdr2) = c.in_ok-hdr1.was ∙ ap Some c.in-File.is in search founds
-
-pub branch-hdr1-requires : goal.branch-hdr1-requires
-branch-hdr1-requires c = search founds
+    let e : c.search-found.result.part ≡ Some (File c.in-File.hdr1 c.in-File.hdr2) = c.in-Some.is ∙ ap Some c.in-File.is in search founds

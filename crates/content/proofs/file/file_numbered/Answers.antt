@@ -13,8 +13,8 @@ overflow_sub-n c = search numbereds
 pub files_on-requires : goal.files_on-requires
 files_on-requires c = search numbereds
 
-pub returns-in_err-first : goal.returns-in_err-first
-returns-in_err-first c = search numbereds
+pub returns-in_default : goal.returns-in_default
+returns-in_default c = search numbereds
 
 pub returns : goal.returns
-returns c = search (numbereds, c.in_ok-first.was)
+returns c = search numbereds

@@ -16,8 +16,8 @@ overflow_sub-most c = search measures_begun
 pub rest_length-requires : goal.rest_length-requires
 rest_length-requires c = search measures_begun
 
-pub returns-in_err-rest : goal.returns-in_err-rest
-returns-in_err-rest c = search measures_begun
+pub returns-in_default : goal.returns-in_default
+returns-in_default c = search measures_begun
 
 pub overflow_add-result : goal.overflow_add-result
 overflow_add-result c = search measures_begun

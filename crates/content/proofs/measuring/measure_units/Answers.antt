@@ -10,8 +10,8 @@ returns-then-not-is_inside c = search measures
 pub unit_from-requires : goal.unit_from-requires
 unit_from-requires c = search measures
 
-pub returns-in_err-first : goal.returns-in_err-first
-returns-in_err-first c = search measures
+pub returns-in_default : goal.returns-in_default
+returns-in_default c = search measures
 
 pub returns-then-most-first : goal.returns-then-most-first
 returns-then-most-first c = search measures
@@ -25,8 +25,8 @@ returns-then-first-ne1 c = search measures
 pub rest_length-requires : goal.rest_length-requires
 rest_length-requires c = search measures
 
-pub returns-in_err-rest : goal.returns-in_err-rest
-returns-in_err-rest c = search measures
+pub returns-in_default-rest_length : goal.returns-in_default-rest_length
+returns-in_default-rest_length c = search measures
 
 pub overflow_add-result : goal.overflow_add-result
 overflow_add-result c = search measures

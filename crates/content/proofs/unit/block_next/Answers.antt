@@ -20,13 +20,13 @@ pub moved-requires : goal.moved-requires
 moved-requires c = search blocks
 
 pub returns-then-block-w : goal.returns-then-block-w
-returns-then-block-w c = search (blocks, c.in_ok-block.was)
+returns-then-block-w c = search blocks
 
 pub returns : goal.returns
-returns c = search (blocks, c.in_ok-block.was)
+returns c = search blocks
 
-pub returns-in_err-block : goal.returns-in_err-block
-returns-in_err-block c = search blocks
+pub returns-in_default : goal.returns-in_default
+returns-in_default c = search blocks
 
 pub overflow_add-block : goal.overflow_add-block
-overflow_add-block c = search (blocks, c.in_ok-block.was)
+overflow_add-block c = search blocks

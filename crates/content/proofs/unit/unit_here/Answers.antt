@@ -10,8 +10,8 @@ unit_in-requires c = search units
 pub overflow_add-start : goal.overflow_add-start
 overflow_add-start c = search units
 
-pub overflow_add-word : goal.overflow_add-word
-overflow_add-word c = search units
+pub overflow_add-unit : goal.overflow_add-unit
+overflow_add-unit c = search units
 
 pub overflow_sub-left : goal.overflow_sub-left
 overflow_sub-left c = search units
@@ -19,11 +19,11 @@ overflow_sub-left c = search units
 pub moved-requires : goal.moved-requires
 moved-requires c = search units
 
-pub returns-in_err-indicator : goal.returns-in_err-indicator
-returns-in_err-indicator c = search units
+pub returns-in_default : goal.returns-in_default
+returns-in_default c = search units
 
 pub returns : goal.returns
-returns c = search (units, c.in_ok-indicator.was)
+returns c = search units
 
 pub overflow_add-start-2 : goal.overflow_add-start-2
 overflow_add-start-2 c = search units

@@ -1,4 +1,4 @@
-use Rattle.simh.proofs.Measuring.{passed_on, measured_torn, measures}
+use Rattle.simh.proofs.Measuring.{measured_torn, measures}
 use Rattle.simh.proofs.import.measure_reels.Goals as goal
 
 pub loop-n-init : goal.loop-n-init
@@ -10,13 +10,11 @@ overflow_add-end c = search measures
 pub slice_bounds-scan_reel-end : goal.slice_bounds-scan_reel-end
 slice_bounds-scan_reel-end c = search measures
 
-pub returns-in_err-s : goal.returns-in_err-s
-returns-in_err-s c =
-    passed_on _ _ _ _ c.from_residual.ensures.1
-    (measured_torn _ _ _ _ _ _ c.loop-n.invariant c.loop-n-test.true _ c.in_err-s.ensures)
+pub returns-in-Err : goal.returns-in-Err
+returns-in-Err c = measured_torn _ _ _ _ _ _ c.loop-n.invariant c.loop-n-test.true _ c.in-Err.ensures
 
 pub loop-n-preserved : goal.loop-n-preserved
-loop-n-preserved c = search (measures, c.in_ok-s.ensures)
+loop-n-preserved c = search (measures, c.in-Ok.ensures)
 
 pub returns : goal.returns
 returns c = search measures
