@@ -20,6 +20,7 @@ pub mod Splits
 pub mod Filing
 pub mod Sets
 pub mod FromSheet
+pub mod Forms
 pub mod FromImage
 pub mod LabelParts
 pub mod Origins

@@ -18,10 +18,10 @@ use Rattle.writing.specs.Pack.{going, start_of, control_word}
 use Rattle.block.specs.Room.{enters, taken, indicator_of, word_with}
 use Rattle.writing.proofs.Packing.{by_test, entered}
 use Rattle.writing.proofs.Units.{length_control, indicator_whole}
-use Rattle.writer.proofs.Written.{word_small, most_small, ink_put, ink_not, unit_put, unit_kept}
+use Rattle.writer.proofs.Written.{ink_put, ink_not, unit_put, unit_kept}
 use Rattle.writer.specs.declared.pen.Pen.{Pen}
 use Rattle.writer.specs.Code.Pass.{Job, ink_at, PassEnd, EndsWithin, UnitDue, between, within, fill_due, left_due, penned}
-use Rattle.writer.specs.Form.{most_of}
+use Rattle.writer.specs.Code.Pens.{most_of}
 use Rattle.writer.specs.Code.Packs.{enters_on, Wanting, Blocked, more}
 use Rattle.writer.specs.Code.Records.{GoesIn, GoesNext, CanPutWhole, DidPutWhole, CanPutRecord, DidPutRecord}
 use Rattle.writer.proofs.Passes.{ink_none, ink_length}
@@ -56,10 +56,6 @@ pub goes_next : (f b u left n : ℕ) (is_on : Bool) → n ≤ most_of f → word
 goes_next f b u left n is_on few h some d =
     let both = whole_in f b 0 n few (omega arith) in
     record { some = omega arith; small = few; full = d; enters = both.0; whole = both.1 }
-
-pub ruleset goings = (word_small, most_small)
-
-pub ruleset nexts = (goes_next, word_small, most_small)
 
 -- ---- a whole record into the open block
 

@@ -23,7 +23,7 @@ use Rattle.writing.specs.Pack.{control_word}
 use Rattle.writing.proofs.Packing.{by_test}
 use Rattle.writing.proofs.Units.{length_control}
 use Rattle.writer.specs.Code.Pass.{ink_at}
-use Rattle.writer.specs.Form.{most_of}
+use Rattle.writer.specs.Code.Pens.{most_of}
 
 pub ink_put : (lay : Bool) (o : List ℕ) (at : ℕ) (bs q : List ℕ) → lay ≡ true → q ≡ put_at o at bs → q ≡ ink_at lay o at bs
 unfolding ink_at
@@ -51,12 +51,6 @@ unfolding word_of
 word_small f =
     if_case (λ (n : ℕ). n ≤ 5) (eqb f 70) 0 _ (λ _. omega arith)
     (λ _. if_case (λ (n : ℕ). n ≤ 5) (eqb f 68) 4 5 (λ _. omega arith) (λ _. omega arith))
-
-pub most_small : (f : ℕ) → most_of f ≤ 99999
-unfolding most_of
-most_small f =
-    if_case (λ (n : ℕ). n ≤ 99999) (eqb f 70) 99999 _ (λ _. omega arith)
-    (λ _. if_case (λ (n : ℕ). n ≤ 99999) (eqb f 68) 9995 9994 (λ _. omega arith) (λ _. omega arith))
 
 broken_word : (f : ℕ) → (f ≡ 70 → ⊥) → (f ≡ 68 → ⊥) → word_of f ≡ 5
 unfolding word_of

@@ -1,7 +1,7 @@
 // The form in which a file's records are packed: what its entry says, and two numbers that follow from the format.
-ghost use Rattle.std.specs.Prelude.{◌≡◌};
+ghost use Rattle.std.specs.Prelude.{◌≡◌, ◌+◌};
 ghost use Rattle.block.specs.Unit.{word_of};
-ghost use Rattle.writer.specs.Form.{most_of};
+ghost use Rattle.writer.specs.Code.Pens.{most_of};
 
 use base::{FIXED, VARIABLE};
 use block::word_of;
@@ -15,11 +15,12 @@ pub struct Form {
     pub word: usize,
     pub most: usize,
     ghost words: { word ≡ word_of format },
-    ghost units: { most ≡ most_of format },
+    ghost block_full: { format ≡ 70 → most ≡ 99999 },
+    ghost four_digits: { (format ≡ 70 → ⊥) → most + word ≡ 9999 },
 }
 
 // The most bytes of a unit beside its control word.
-#[tactic(auto, unfolding(crate::specs::Form::most_of, base::specs::If::if_b))]
+#[tactic(auto, unfolding(crate::specs::Code::Pens::most_of, base::specs::If::if_b))]
 fn most_of(f: u8) -> usize
     ensures { result ≡ most_of f }
 {
@@ -31,6 +32,7 @@ fn most_of(f: u8) -> usize
 }
 
 // The form of records of a format, in blocks of that length.
+#[tactic(auto, using(crate::proofs::Forms::forms))]
 pub(crate) fn form_of(format: u8, block: usize) -> Form
     ensures format { result.format ≡ format }
     ensures block { result.block ≡ block }

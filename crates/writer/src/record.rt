@@ -14,7 +14,7 @@ use block::put_word;
 use output::figures;
 
 // Whether a record of n bytes goes whole into the block that is open.
-#[tactic(auto, using(crate::proofs::Records::goings))]
+#[tactic(auto, using(crate::proofs::Written::word_small))]
 fn goes_in(form: Form, p: Pen, n: usize) -> bool
     requires { p.used ≤ 99999 }
     ensures { result ≡ true → GoesIn form.format form.block p.on p.used n }
@@ -23,7 +23,7 @@ fn goes_in(form: Form, p: Pen, n: usize) -> bool
 }
 
 // Whether it goes whole into the next block, on this reel.
-#[tactic(auto, using(crate::proofs::Records::nexts))]
+#[tactic(auto, using(crate::proofs::Written::word_small))]
 fn goes_next(form: Form, p: Pen, n: usize) -> bool
     ensures { result ≡ true → GoesNext form.format form.block p.on p.used p.room n }
 {

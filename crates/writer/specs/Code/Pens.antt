@@ -1,8 +1,14 @@
 -- The steps of the pen: contracts.
-use Rattle.std.specs.Prelude.{◌≡◌, Bool, true, false, List, [], ◌∷◌, ℕ, ◌+◌, ◌-◌, ◌≤◌, length}
+use Rattle.std.specs.Prelude.{◌≡◌, Bool, true, false, List, [], ◌∷◌, ℕ, ◌+◌, ◌-◌, ◌≤◌, eqb, length}
+use Rattle.base.specs.If.{if_b}
+use Rattle.base.specs.Format.{format_f, format_d}
 use Rattle.writing.specs.Lay.{Sequel}
 use Rattle.writer.specs.declared.pen.Pen.{Pen}
 use Rattle.writer.specs.Code.Pass.{Job, behind, EndsWithin, Sound, ends}
+
+-- the most bytes of a unit beside its control word: what four digits can say, or a block can hold
+unfoldable pub most_of : ℕ → ℕ
+most_of f = if_b (eqb f format_f) 99999 (if_b (eqb f format_d) 9995 9994)
 
 -- a block y is to be begun, and there is room in the buffer for it and all that follows
 pub record RoomForBlock (j : Job) (p : Pen) (o : List ℕ) : Type 0 where

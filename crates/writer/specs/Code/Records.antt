@@ -8,7 +8,7 @@ use Rattle.writing.specs.Code.Room.{RoomEach}
 use Rattle.writing.specs.Lay.{Sequel}
 use Rattle.writer.specs.declared.pen.Pen.{Pen}
 use Rattle.writer.specs.declared.source.Cursor.{Cursor}
-use Rattle.writer.specs.Form.{most_of}
+use Rattle.writer.specs.Code.Pens.{most_of}
 use Rattle.writer.specs.Code.Pass.{Job, EndsWithin, Sound, ink_at, between, penned}
 use Rattle.writer.specs.Code.Packs.{enters_on, more, Wanting, Blocked}
 use Rattle.writer.specs.Code.Source.{split_bytes, SplitHere}
