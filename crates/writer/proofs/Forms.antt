@@ -7,25 +7,30 @@ use borrow.Author.Tests.{eq-eqb, ne_eqb, eqb-true, eqb-false}
 use lib.Dec.{eqb}
 use Rattle.base.proofs.Ifs.{if_true, if_false}
 use Rattle.block.specs.Unit.{word_of}
+use Rattle.block.proofs.Wholes.{word_variable}
 use Rattle.writing.proofs.Packing.{by_test}
 use Rattle.writer.specs.Code.Pens.{most_of}
+
+pub broken_word : (f : ℕ) → (f ≡ 70 → ⊥) → (f ≡ 68 → ⊥) → word_of f ≡ 5
+unfolding word_of
+broken_word f d e = if_false _ _ _ (ne_eqb f 70 d) ∙ if_false _ _ _ (ne_eqb f 68 e)
 
 pub block_full : (f m : ℕ) → m ≡ most_of f → f ≡ 70 → m ≡ 99999
 unfolding most_of
 block_full f m is e = is ∙ if_true _ _ _ (eq-eqb f 70 e)
 
 pub four_digits : (f w m : ℕ) → w ≡ word_of f → m ≡ most_of f → (f ≡ 70 → ⊥) → m + w ≡ 9999
-unfolding most_of word_of
+unfolding most_of
 four_digits f w m word is e =
     let no : eqb f 70 ≡ false = ne_eqb f 70 e in
     by_test (eqb f 68)
     (λ d.
     let u : m ≡ 9995 = is ∙ if_false _ _ _ no ∙ if_true _ _ _ d in
-    let v : w ≡ 4 = word ∙ if_false _ _ _ no ∙ if_true _ _ _ d in
+    let v : w ≡ 4 = word ∙ word_variable f (eqb-true f 68 d) in
     omega arith)
     (λ d.
     let u : m ≡ 9994 = is ∙ if_false _ _ _ no ∙ if_false _ _ _ d in
-    let v : w ≡ 5 = word ∙ if_false _ _ _ no ∙ if_false _ _ _ d in
+    let v : w ≡ 5 = word ∙ broken_word f e (eqb-false f 68 d) in
     omega arith)
 
 -- a form's number is that

@@ -1,4 +1,5 @@
 pub mod Passes
+pub mod Forms
 pub mod Written
 pub mod Dues
 pub mod Pens
@@ -20,7 +21,6 @@ pub mod Splits
 pub mod Filing
 pub mod Sets
 pub mod FromSheet
-pub mod Forms
 pub mod FromImage
 pub mod LabelParts
 pub mod Origins

@@ -4,7 +4,7 @@ use mathlib.Core.Bool.{Bool, true, false}
 use mathlib.Core.List.{List, [], ◌++◌, append_assoc}
 use Prim.Native.Nat.{ℕ, ◌+◌, ◌-◌, ◌≤◌, ◌<◌, min}
 use native.Mathlib.Omega.{arith}
-use borrow.Author.Tests.{ne_eqb, eqb-true, le-leb}
+use borrow.Author.Tests.{eqb-true, le-leb}
 use lib.Dec.{eqb}
 use lib.ListN.{length, take, drop, length-append, drop_of_length-le}
 use lib.Seq.{take_all}
@@ -18,6 +18,7 @@ use Rattle.writing.specs.Pack.{going, start_of, control_word}
 use Rattle.block.specs.Room.{enters, taken, indicator_of, word_with}
 use Rattle.writing.proofs.Packing.{by_test, entered}
 use Rattle.writing.proofs.Units.{length_control, indicator_whole}
+use Rattle.writer.proofs.Forms.{four_digits}
 use Rattle.writer.proofs.Written.{ink_put, ink_not, unit_put, unit_kept}
 use Rattle.writer.specs.declared.pen.Pen.{Pen}
 use Rattle.writer.specs.Code.Pass.{Job, ink_at, PassEnd, EndsWithin, UnitDue, between, within, fill_due, left_due, penned}
@@ -30,10 +31,6 @@ use Rattle.writer.proofs.Blocks.{room_unit, penned_unit, more_sound}
 
 -- ---- which records go whole
 
-most_segment : (f : ℕ) → (f ≡ 70 → ⊥) → (f ≡ 68 → ⊥) → 9994 ≡ most_of f
-unfolding most_of
-most_segment f e d = sym (if_false _ _ _ (ne_eqb f 70 e) ∙ if_false _ _ _ (ne_eqb f 68 d))
-
 -- a record of n bytes that has room in a block enters it whole
 whole_in : (f b u n : ℕ) → n ≤ most_of f → u + word_of f + n ≤ b → (enters f b u n ≡ true) × (taken f b u n ≡ n)
 unfolding enters taken
@@ -42,7 +39,7 @@ whole_in f b u n m h =
     (λ s.
     let w : word_of f ≡ 5 = word_segmented f (eqb-true f 83 s) in
     let is : f ≡ 83 = eqb-true f 83 s in
-    let few : n ≤ 9994 = subst (λ (k : ℕ). n ≤ k) (sym (most_segment f (λ e. omega arith) (λ e. omega arith))) m in
+    let few : n ≤ 9994 = omega (arith, four_digits f _ _ refl refl (λ e. omega arith)) in
     let one : u + 5 + min 1 n ≤ b = omega arith in
     let all : min n (min (b - u - 5) 9994) ≡ n = omega arith in
     (if_true _ _ _ s ∙ le-leb _ _ one, if_true _ _ _ s ∙ all))

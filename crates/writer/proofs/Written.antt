@@ -1,11 +1,11 @@
 -- Bytes that are written where the pass lays. Assumes nothing.
-use mathlib.Core.Path.{◌≡◌, sym, ap, ◌∙◌, subst}
+use mathlib.Core.Path.{◌≡◌, refl, sym, ap, ◌∙◌}
 use mathlib.Core.Bool.{Bool, true, false}
 use mathlib.Core.List.{List, ◌∷◌, ◌++◌}
 use Prim.Native.Nat.{ℕ, ◌+◌, ◌-◌, ◌≤◌, min}
 use native.Mathlib.Omega.{arith}
 use borrow.Author.Rules.{rules}
-use borrow.Author.Tests.{ne_eqb, eqb-true, eqb-false}
+use borrow.Author.Tests.{eqb-true, eqb-false}
 use mir.Val.{Fits as FitsIn}
 use mir.Syntax.{w64}
 use lib.Dec.{eqb}
@@ -24,6 +24,7 @@ use Rattle.writing.proofs.Packing.{by_test}
 use Rattle.writing.proofs.Units.{length_control}
 use Rattle.writer.specs.Code.Pass.{ink_at}
 use Rattle.writer.specs.Code.Pens.{most_of}
+use Rattle.writer.proofs.Forms.{broken_word, four_digits}
 
 pub ink_put : (lay : Bool) (o : List ℕ) (at : ℕ) (bs q : List ℕ) → lay ≡ true → q ≡ put_at o at bs → q ≡ ink_at lay o at bs
 unfolding ink_at
@@ -52,10 +53,6 @@ word_small f =
     if_case (λ (n : ℕ). n ≤ 5) (eqb f 70) 0 _ (λ _. omega arith)
     (λ _. if_case (λ (n : ℕ). n ≤ 5) (eqb f 68) 4 5 (λ _. omega arith) (λ _. omega arith))
 
-broken_word : (f : ℕ) → (f ≡ 70 → ⊥) → (f ≡ 68 → ⊥) → word_of f ≡ 5
-unfolding word_of
-broken_word f d e = if_false _ _ _ (ne_eqb f 70 d) ∙ if_false _ _ _ (ne_eqb f 68 e)
-
 -- the digits say how long the unit is with its word
 word_says : (f i k : ℕ) → word_with f (48 + i) (digits 4 (k + word_of f)) ≡ control_word f i k
 unfolding word_with control_word
@@ -70,14 +67,11 @@ word_says f i k =
 
 -- and so do those of four figures, where the unit is not too long for them
 figures_say : (f i n : ℕ) → n ≤ most_of f → word_with f (48 + i) (digits 4 (min (n + word_of f) 9999)) ≡ control_word f i n
-unfolding word_with control_word most_of
+unfolding word_with control_word
 figures_say f i n h =
     by_test (eqb f 70) (λ e. if_true _ _ _ e ∙ sym (if_true _ _ _ e))
     (λ e.
-    let sayable : n + word_of f ≤ 9999 = by_test (eqb f 68)
-    (λ d. let few : n ≤ 9995 = subst (λ (k : ℕ). n ≤ k) (if_false _ _ _ e ∙ if_true _ _ _ d) h in omega (arith, word_variable f (eqb-true f 68 d)))
-    (λ d. let few : n ≤ 9994 = subst (λ (k : ℕ). n ≤ k) (if_false _ _ _ e ∙ if_false _ _ _ d) h in
-    omega (arith, broken_word f (eqb-false f 70 e) (eqb-false f 68 d))) in
+    let sayable : n + word_of f ≤ 9999 = omega (arith, four_digits f _ _ refl refl (eqb-false f 70 e)) in
     let all : min (n + word_of f) 9999 ≡ n + word_of f = omega arith in
     ap (λ (k : ℕ). word_with f (48 + i) (digits 4 k)) all ∙ word_says f i n)
 
